@@ -1,2 +1,3 @@
 pub mod DialoguesLemmas
 pub mod ServingLemmas
+pub mod ExchangesLemmas

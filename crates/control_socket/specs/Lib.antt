@@ -1,2 +1,4 @@
 pub mod Serving
 pub mod Dialogues
+pub mod Clients
+pub mod Exchanges

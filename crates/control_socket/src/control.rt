@@ -2,6 +2,7 @@
 
 ghost use Rattle.std.specs.Prelude.{◌≡◌};
 ghost use Rattle.control_socket.specs.Serving.{Serves};
+ghost use Rattle.control_socket.specs.Clients.{MovesOn, StaysOrGoes};
 
 use crate::client::{Client, PIECES, Progress};
 use crate::notices::Notices;
@@ -204,21 +205,35 @@ impl ControlSocket {
         key: usize,
         turn: &mut Turn<'_, A, L>,
     ) -> bool
+        ensures moved { MovesOn A.Answered key self.old.clients turn.old.answers.now self.new.clients turn.new.answers.now }
         ensures serves { Serves A.Answered turn.old.answers.now turn.new.answers.now }
         ensures name { turn.new.answers.ghost_name ≡ turn.old.answers.ghost_name }
     {
-        let progress = match self.clients.get_mut(key) {
-            None => return false,
-            Some(client) => client.advance(alloc, &mut self.room, turn),
+        let Some(client) = self.clients.get_mut(key) else {
+            return false;
         };
+        let progress = client.advance(alloc, &mut self.room, turn);
+        self.settle(key, progress)
+    }
+
+    // Lets the client of the key go that is done, or gone. True: it may go on at once.
+    fn settle(&mut self, key: usize, progress: io::Result<Progress>) -> bool
+        ensures { StaysOrGoes key progress self.old.clients self.new.clients }
+    {
         match progress {
-            Ok(Progress::Waits) => return false,
-            Ok(Progress::MayGoOn) => return true,
-            Ok(Progress::Ended) => self.notices.ended_well(),
-            Err(error) => self.notices.let_go(error),
+            Ok(Progress::Waits) => false,
+            Ok(Progress::MayGoOn) => true,
+            Ok(Progress::Ended) => {
+                self.notices.ended_well();
+                drop(self.clients.try_remove(key));
+                false
+            }
+            Err(error) => {
+                self.notices.let_go(error);
+                drop(self.clients.try_remove(key));
+                false
+            }
         }
-        drop(self.clients.try_remove(key));
-        false
     }
 
     /// Takes the clients that wait, after a `serve`, which lets go of the clients that are done. Where [`CLIENTS`] are there

@@ -5,6 +5,7 @@
 mod client;
 mod control;
 mod dialogue;
+pub mod laws;
 mod notices;
 mod turn;
 

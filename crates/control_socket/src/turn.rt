@@ -1,6 +1,6 @@
 //! One call of `serve`: who answers in it, and how much.
 
-ghost use Rattle.std.specs.Prelude.{◌≡◌, ℕ, List};
+ghost use Rattle.std.specs.Prelude.{◌≡◌, ℕ, Bool, List};
 ghost use Rattle.history_model.specs.declared.Reply.{Reply as Answer};
 
 use history_model::Reply;
@@ -18,9 +18,13 @@ pub trait Answers {
 
 /// Who says how long the clients may be served in a round.
 pub trait Limit {
+    /// To the question for time this answer may lead from the one to the other.
+    ghost Timed: { Bool → Self → Self → Type 0 };
+
     /// Whether there is time for a further line. It is asked after each line that was answered, so a round that has lines
     /// answers one at least.
-    fn has_time(&mut self) -> bool;
+    fn has_time(&mut self) -> bool
+        ensures { Self.Timed result self.old self.new };
 
     /// The milliseconds since a fixed moment, by a clock that never goes back. It is asked once a round, before the first
     /// line. By it a client that takes nothing of its reply is known. Where it stays 0, no such client is let go.

@@ -1,5 +1,5 @@
 -- What the rounds of a live loop do to a launcher.
-use Rattle.std.specs.Prelude.{◌≡◌, ◌≢◌, ◌⊎◌, ◌≤◌, ℕ, Bool, true, false, ◌||◌, List, [], ◌∷◌, length, Option, Some, None, Result, Ok, Err}
+use Rattle.std.specs.Prelude.{◌≡◌, ◌≢◌, ◌⊎◌, ◌≤◌, ℕ, Bool, true, false, ◌||◌, List, [], ◌∷◌, length, Option, Some, None, is_some, Result, Ok, Err}
 use Rattle.std.specs.Result.{result_unwrap_or}
 use Rattle.history_model.specs.declared.Ended.{Ended}
 use Rattle.history_model.specs.declared.Obs.{Obs}
@@ -9,7 +9,7 @@ use Rattle.history_model.specs.declared.Reply.{Reply}
 use Rattle.history_model.specs.declared.event.Event.TheVariants as journaled
 use Rattle.history_model.specs.declared.event.JobItem.TheVariants as happens
 use Rattle.history_model.specs.declared.event.Setting.{Setting}
-use Rattle.history_model.specs.Machine.{State}
+use Rattle.history_model.specs.Machine.{State, Tick}
 use Rattle.loaded_jobs.specs.Nearest.{IsNearestOf, listed_paths}
 use Rattle.loaded_jobs.specs.StandsFor.{KeepsState}
 use Rattle.loaded_jobs.specs.Tables.{Table, label_of}
@@ -28,6 +28,7 @@ use Rattle.live_loop.specs.Looks.{PathCall, HasLoaded, LookedAt, Sighted}
 use Rattle.live_loop.specs.declared.loop_host.HandedIn.{HandedIn}
 use Rattle.live_loop.specs.declared.loop_host.HandedIn.TheVariants as handed
 use Rattle.history_model.specs.News.{may_change}
+use Rattle.history_model.specs.LeftOut.{last_read}
 use Rattle.jobd.specs.declared.round_launcher.RoundLauncher.{RoundLauncher}
 
 -- the launcher, once its outside was asked something between turns
@@ -64,25 +65,29 @@ module _ {T E W : Type 0} (calls : E → Option (List ToldCall)) (stores : T →
     pub writable : WritesWhat refusal event
     pub loaded : new.has_loaded ≡ is_accepted_load event refusal
 
-  -- a reading of the clocks was handed in, once
-  pub record HeardReading (at : Reading) (old new : Host T E W) : Type 0 where
+  -- The reading of the round was handed in, once; whether it was refused is noted.
+  pub record HeardReading (old new : RoundLauncher T E W) : Type 0 where
     pub refusal : Option Refusal
     pub words : List ℕ
-    pub heard : Heard (Some (happened (journaled.Clock at))) refusal words old new
+    pub heard : Heard (Some (happened (journaled.Clock old.at))) refusal words old.host new.host
+    pub at : new.at ≡ old.at
+    pub loaded : new.has_loaded ≡ old.has_loaded
+    pub refused : new.is_refused ≡ is_some refusal
 
-  -- a reading is handed in, unless it is the launcher's own already
-  abbrev pub Reads : Reading → Host T E W → Host T E W → Type 0
-  Reads at old new =
-      ((old.table.reading ≡ at) × (new ≡ old)) ⊎ ((old.table.reading ≢ at) × HeardReading at old new)
+  -- it is handed in, unless it is the launcher's own already
+  abbrev pub Reads : RoundLauncher T E W → RoundLauncher T E W → Type 0
+  Reads old new = ((old.host.table.reading ≡ old.at) × (new ≡ old))
+      ⊎ ((old.host.table.reading ≢ old.at) × HeardReading old new)
 
   -- What happened was handed in, once, after the reading of the round.
   pub record Gives (event : Option Incoming) (refusal : Option Refusal) (words : List ℕ)
       (old new : RoundLauncher T E W) : Type 0 where
-    pub mid : Host T E W
-    pub reading : Reads old.at old.host mid
-    pub heard : Heard event refusal words mid new.host
-    pub at : new.at ≡ old.at
-    pub loaded : new.has_loaded ≡ old.has_loaded
+    pub mid : RoundLauncher T E W
+    pub reading : Reads old mid
+    pub heard : Heard event refusal words mid.host new.host
+    pub at : new.at ≡ mid.at
+    pub loaded : new.has_loaded ≡ mid.has_loaded
+    pub refused : new.is_refused ≡ mid.is_refused
 
   -- it was handed in, and some words were the answer
   pub record Tells (event : Option Incoming) (refusal : Option Refusal)
@@ -92,22 +97,37 @@ module _ {T E W : Type 0} (calls : E → Option (List ToldCall)) (stores : T →
 
   -- ---- the beginning of a round
 
-  -- a reading is handed in on its own only if it may change something
-  abbrev pub ReadsIf : Bool → Reading → Host T E W → Host T E W → Type 0
-  ReadsIf true at old new = Reads at old new
-  ReadsIf false at old new = new ≡ old
+  -- the reading of the round before is handed in, if the launcher had no memory for it
+  abbrev pub ReadsIf : Bool → RoundLauncher T E W → RoundLauncher T E W → Type 0
+  ReadsIf true old new = Reads old new
+  ReadsIf false old new = new ≡ old
 
-  -- The clocks are read once. If they can't be, the round is at the reading of the one before.
-  pub record Begins (old new : RoundLauncher T E W) : Type 0 where
+  -- The clocks are read once. The round is at this reading, if a launcher may hear it after the one that it has; else, and if the clocks can't be
+  -- read, it is at the reading of the one before.
+  pub record ReadsClock (old new : RoundLauncher T E W) : Type 0 where
     pub answer : Result Reading EdgeFault
     pub edge : E
     pub told : TellsOne (calls old.host.edge) (Clock, read_answer answer) (calls edge)
-    pub at : new.at ≡ result_unwrap_or answer old.at
-    pub loaded : new.has_loaded ≡ old.has_loaded
+    pub read : new ≡ record (lent edge old) { at = last_read old.at (Tick (result_unwrap_or answer old.at)) }
+
+  -- a reading is handed in by itself exactly if it may change something
+  abbrev pub HeardIf : Bool → RoundLauncher T E W → RoundLauncher T E W → Type 0
+  HeardIf true old new = HeardReading old new
+  HeardIf false old new = new ≡ old
+
+  pub record HandsNews (old new : RoundLauncher T E W) : Type 0 where
     pub is_news : Bool
     pub decided : (s : State) → KeepsState old.host.table s →
-        is_news ≡ may_change s.jobs old.host.table.reading new.at
-    pub handed : ReadsIf is_news new.at (record old.host { edge = edge }) new.host
+        is_news ≡ may_change s.jobs old.host.table.reading old.at
+    pub handed : HeardIf is_news old new
+
+  -- A round begins: first comes a reading for which the launcher had no memory, then a new one.
+  pub record Begins (old new : RoundLauncher T E W) : Type 0 where
+    pub first : RoundLauncher T E W
+    pub missed : ReadsIf old.is_refused (record old { is_active = false }) first
+    pub begun : RoundLauncher T E W
+    pub reads : ReadsClock first begun
+    pub news : HandsNews begun new
 
   -- ---- children
 

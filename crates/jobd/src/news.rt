@@ -3,13 +3,14 @@
 
 ghost use Rattle.std.specs.Prelude.{◌≡◌, List};
 ghost use Rattle.std.specs.List.{list_any};
-ghost use Rattle.history_model.specs.Machine.{Job, State};
+ghost use Rattle.history_model.specs.Machine.{Job, State, Tick};
+ghost use Rattle.history_model.specs.LeftOut.{last_read};
 ghost use Rattle.history_model.specs.Moments.{next_moment};
 ghost use Rattle.loaded_jobs.specs.StandsFor.{KeepsState};
 ghost use Rattle.job_table.specs.NextMoments.{IsNextUp};
 ghost use Rattle.history_model.specs.News.{is_moment_reached as has_come, is_any_minute_crossed as is_some_minute, may_change};
 
-use history_model::Reading;
+use history_model::{MAX_UP, MAX_WALL, Reading};
 use job_table::JobTable;
 
 /// Whether the reading may change something since the table's last one: a job's next moment is reached, or some job has
@@ -41,4 +42,15 @@ fn is_minute_crossed(before: u64, wall: u64) -> bool
     ensures { result ≡ is_some_minute before wall }
 {
     before / 60 < wall / 60
+}
+
+/// The reading, or the one before it if a launcher would refuse it after that: its `up` is less, or one of them is past a limit.
+pub(crate) fn later_of(before: Reading, at: Reading) -> Reading
+    ensures { result ≡ last_read before (Tick at) }
+{
+    if at.up < before.up || MAX_UP < at.up || MAX_WALL < at.wall {
+        before
+    } else {
+        at
+    }
 }

@@ -1,7 +1,7 @@
 //! What the rounds of a live loop ask of an edge beside what a launcher's turns ask of it. The launcher of a loop is over any such edge,
 //! so that only the few lines below are proved for all that the edge of the system holds.
 
-ghost use Rattle.std.specs.Prelude.{ℕ, Option};
+ghost use Rattle.std.specs.Prelude.{◌≡◌, ◌≤◌, ℕ, Option, Some};
 
 use child_edge::{ChildEdge, Client, ClockEdge, Notice, OsEdge, PathEdge, SocketEdge, System};
 use history_model::JobNo;
@@ -40,14 +40,25 @@ pub trait RoundEdge: ChildEdge + ClockEdge + PathEdge + SocketEdge {
 
     /// The oldest of what is to be told and was not.
     fn next_notice(&mut self) -> Option<Notice>;
+
+    /// The job whose child is over is this one or one above it.
+    ghost rises: { (first job run : ℕ) (old new : Self) → Finds first (Some (job, run)) old new → first ≤ job };
 }
 
 impl<R: System> RoundEdge for OsEdge<R> {
-    // The edge of the system keeps no record, so nothing is promised of its answers.
-    ghost Finds = { λ job found old new. Unit {0} };
+    ghost use Rattle.jobd.specs.Found.{IsFrom};
 
+    // No child is let go by the question. Which one is over is the system's word.
+    ghost Finds = { λ first found old new. IsFrom first found × (new ≡ old) };
+
+    ghost rises = { λ first job run old new finds. finds.0 };
+
+    // A job below this one is no answer to the question.
     fn over_from(&mut self, job: JobNo) -> Option<(JobNo, u64)> {
-        OsEdge::over_from(self, job)
+        match OsEdge::over_from(self, job) {
+            Some((over, run)) if job <= over => Some((over, run)),
+            _ => None,
+        }
     }
 
     fn register(&mut self, registry: &Registry, token: Token) -> bool {

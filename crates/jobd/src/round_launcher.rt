@@ -1,9 +1,9 @@
 //! What a round of the live loop finds, handed to the launcher one by one.
 
-ghost use Rattle.std.specs.Prelude.{◌≡◌};
+ghost use Rattle.std.specs.Prelude.{◌≡◌, false};
 ghost use Rattle.launcher.specs.Inputs.{input_event};
 
-use crate::news::is_news;
+use crate::news::{is_news, later_of};
 use crate::round_edge::RoundEdge;
 use child_edge::{ChildEdge, Client, ClockEdge, Notice, PathEdge, SocketEdge};
 use control_socket::Answers;
@@ -21,7 +21,7 @@ use std::io::Write;
 pub struct RoundLauncher<T: SettingStore, E: ChildEdge + SocketEdge, W: Write> {
     pub host: Host<T, E, W>,
     at: Reading,
-    // The launcher did not take the reading.
+    // The launcher had no memory for the last reading that was handed in.
     is_refused: bool,
     // Something happened in this round that is an input.
     is_active: bool,
@@ -30,10 +30,14 @@ pub struct RoundLauncher<T: SettingStore, E: ChildEdge + SocketEdge, W: Write> {
 }
 
 impl<T: SettingStore, E: ChildEdge + SocketEdge, W: Write> RoundLauncher<T, E, W> {
-    ghost use Rattle.jobd.specs.Launches.{Heard, Reads, Gives, Tells, Begins, PollsRun};
+    ghost use Rattle.jobd.specs.Launches.{Heard, HeardReading, Reads, ReadsIf, ReadsClock, HandsNews, Gives, Tells, Begins, PollsRun};
 
     /// The launcher at its own last reading.
-    pub fn new(host: Host<T, E, W>) -> RoundLauncher<T, E, W> {
+    pub fn new(host: Host<T, E, W>) -> RoundLauncher<T, E, W>
+        ensures host { result.host ≡ host }
+        ensures at { result.at ≡ host.table.reading }
+        ensures heard { (result.is_refused ≡ false) × (result.has_loaded ≡ false) }
+    {
         let at = host.table().reading();
         RoundLauncher {
             host,
@@ -44,35 +48,66 @@ impl<T: SettingStore, E: ChildEdge + SocketEdge, W: Write> RoundLauncher<T, E, W
         }
     }
 
-    /// Begins a round at a new reading, which is handed in if it may change something. If the clock can't be read, the round
-    /// is at the reading of the one before.
+    /// Begins a round at a new reading, which is handed in if it may change something. If the clock can't be read, or a launcher would
+    /// refuse the reading after the one that it has, the round is at the reading of the one before. A reading for which the launcher had
+    /// no memory is handed in first.
     pub fn begin(&mut self, alloc: Global)
     where
         E: ClockEdge,
         ensures { Begins E.told T.told T.holds T.stamped self.old self.new }
     {
         self.is_active = false;
-        let at = self.host.edge().read().unwrap_or(self.at);
-        self.at = at;
-        if is_news(self.host.table(), self.at) {
+        self.hand_in_missed(alloc);
+        self.read();
+        self.hand_in_news(alloc);
+    }
+
+    // Hands in the reading of the round before, if the launcher had no memory for it.
+    fn hand_in_missed(&mut self, alloc: Global)
+        ensures { ReadsIf E.told T.told T.holds T.stamped self.old.is_refused self.old self.new }
+    {
+        if self.is_refused {
             self.hand_in_time(alloc);
+        }
+    }
+
+    // Takes a reading, if a launcher may hear it after the one that it has.
+    fn read(&mut self)
+    where
+        E: ClockEdge,
+        ensures { ReadsClock E.told T.told T.holds T.stamped self.old self.new }
+    {
+        let at = self.host.edge().read().unwrap_or(self.at);
+        self.at = later_of(self.at, at);
+    }
+
+    // Hands in the reading of the round, if it may change something.
+    fn hand_in_news(&mut self, alloc: Global)
+        ensures { HandsNews E.told T.told T.holds T.stamped self.old self.new }
+    {
+        if is_news(self.host.table(), self.at) {
+            self.hear_time(alloc);
         }
     }
 
     // Hands in the reading of the round, unless it is the launcher's own already.
     fn hand_in_time(&mut self, alloc: Global)
-        ensures reads { Reads E.told T.told T.holds T.stamped self.old.at self.old.host self.new.host }
-        ensures at { self.new.at ≡ self.old.at }
-        ensures loaded { self.new.has_loaded ≡ self.old.has_loaded }
+        ensures { Reads E.told T.told T.holds T.stamped self.old self.new }
     {
         if self.host.table().reading() == self.at {
             return;
         }
+        self.hear_time(alloc);
+    }
+
+    fn hear_time(&mut self, alloc: Global)
+        ensures { HeardReading E.told T.told T.holds T.stamped self.old self.new }
+    {
         let reply = self.turn(alloc, Input::Clock(self.at));
-        let is_taken = reply.refusal.is_none();
+        let is_refused = reply.refusal.is_some();
         drop(reply);
-        self.is_refused = !is_taken;
-        self.is_active = self.is_active | is_taken;
+        self.is_refused = is_refused;
+        self.is_active = self.is_active | !is_refused;
     }
 
     // for the proof: what the launcher's turn says of itself ends here
@@ -80,6 +115,7 @@ impl<T: SettingStore, E: ChildEdge + SocketEdge, W: Write> RoundLauncher<T, E, W
         ensures heard { Heard E.told T.told T.holds T.stamped (input_event input.entry) result.refusal result.text self.old.host self.new.host }
         ensures at { self.new.at ≡ self.old.at }
         ensures loaded { self.new.has_loaded ≡ self.old.has_loaded }
+        ensures refused { self.new.is_refused ≡ self.old.is_refused }
     {
         self.host.turn(alloc, input)
     }
@@ -179,6 +215,8 @@ impl<T: SettingStore, E: RoundEdge, W: Write> LoopHost for RoundLauncher<T, E, W
     ghost Asked = { AsksEdge };
 
     ghost Came = { ComesIn E.told T.told T.holds T.stamped };
+
+    ghost rises = { λ first job old new polled. E.rises first job polled.0 old.host.edge polled.1 polled.2 };
 
     fn begin(&mut self, alloc: Global) {
         RoundLauncher::begin(self, alloc);

@@ -1,2 +1,3 @@
 pub mod LooksLemmas
 pub mod RoundsLemmas
+pub mod ChildrenLemmas

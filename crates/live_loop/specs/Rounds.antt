@@ -1,5 +1,5 @@
 -- A round of the live loop.
-use Rattle.std.specs.Prelude.{◌≡◌, ◌+◌, ◌-◌, ◌^◌, ◌<◌, ◌≤◌, min, ℕ, List, Option}
+use Rattle.std.specs.Prelude.{◌≡◌, ◌⊎◌, ◌+◌, ◌-◌, ◌^◌, ◌<◌, ◌≤◌, min, ℕ, List, Option}
 use Rattle.history_model.specs.declared.Reply.{Reply}
 use Rattle.control_socket.specs.Serving.{Serves}
 use Rattle.live_loop.specs.declared.loop_host.HandedIn.{HandedIn}
@@ -52,6 +52,13 @@ pub record Launcher (H : Type 0) : Type 1 where
   pub Asked : H → H → Type 0
   pub Came : ℕ → ℕ → HandedIn → H → H → Type 0
 
+-- before its moment nothing is looked at; at it each listed path is, and the next looks are a second behind it
+abbrev pub Sees : {H : Type 0} → Launcher H → H → ℕ → Known → H → ℕ → Known → Type 0
+Sees it old look known new look' known' =
+    ((it.round_up old < look) × (new ≡ old) × (look' ≡ look) × IsKept known known')
+    ⊎ ((look ≤ it.round_up old) × (look' ≡ min (it.round_up old + 1000) (2 ^ 64 - 1))
+    × LooksAtAll it.IsNext it.Did old known new known')
+
 -- A whole round: it waits; it begins at a reading; each run that is over is handed in; if it is time, each listed path is looked at, and what
 -- is new there is handed in; clients are served. Nothing else is handed in, and in the end it only tells.
 pub record IsRound {H : Type 0} (it : Launcher H) (old new : Left H) : Type 0 where
@@ -62,11 +69,12 @@ pub record IsRound {H : Type 0} (it : Launcher H) (old new : Left H) : Type 0 wh
   pub polled : H
   pub polls : PollsAll it.Polled old.child begun new.child polled
   pub looked : H
-  pub early : it.round_up polled < old.look →
-      (looked ≡ polled) × (new.look ≡ old.look) × IsKept old.known new.known
-  pub due : old.look ≤ it.round_up polled →
-      (new.look ≡ min (it.round_up polled + 1000) (2 ^ 64 - 1))
-      × LooksAtAll it.IsNext it.Did polled old.known looked new.known
+  pub looks : Sees it polled old.look old.known looked new.look new.known
   pub served : H
   pub serves : ServesAll it.Answered it.Asked it.Came old.conn new.conn looked served
   pub tells : Asks it.Asked served new.host
+
+-- any rounds, one after another: each begins with what the one before left
+pub data AreRounds {H : Type 0} (it : Launcher H) (first : Left H) : Left H → Type 0 where
+  no_round : AreRounds it first first
+  one_round : {mid new : Left H} → AreRounds it first mid → IsRound it mid new → AreRounds it first new

@@ -1,5 +1,6 @@
 //! The children, each asked about once a round, as long as there is time.
 
+ghost use Rattle.std.specs.Prelude.{◌≡◌, ◌⊎◌, false};
 ghost use Rattle.live_loop.specs.Children.{PollsAll};
 
 use crate::label_room::LabelRoom;
@@ -18,7 +19,8 @@ pub(crate) fn poll_children<H: LoopHost, L: Limit>(
     first: JobNo,
     time: &mut L,
 ) -> JobNo
-    ensures { PollsAll H.Polled first host.old result host.new }
+    ensures polls { PollsAll H.Polled first host.old result host.new }
+    ensures time { (result ≡ 0) ⊎ ((before : L) × L.Timed false before time.new) }
 {
     let mut next = first;
     for _ in 0..MAX_JOBS {

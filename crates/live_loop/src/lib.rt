@@ -7,6 +7,7 @@ mod children;
 mod fault;
 mod job_sockets;
 mod label_room;
+pub mod laws;
 mod live;
 mod loop_host;
 mod paths;

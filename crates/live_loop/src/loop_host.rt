@@ -1,7 +1,7 @@
 //! A launcher as its live loop sees it: what a round asks of it and of its edge, and what it hands in. The loop knows neither the
 //! table nor the store nor the journal behind it.
 
-ghost use Rattle.std.specs.Prelude.{◌≡◌, ℕ, List, Option};
+ghost use Rattle.std.specs.Prelude.{◌≡◌, ◌≤◌, ℕ, List, Option, Some};
 ghost use Rattle.std.specs.Option.{option_map};
 ghost use Rattle.live_loop.specs.Looks.{PathCall, HasLoaded, LookedAt, Sighted};
 
@@ -145,4 +145,7 @@ pub trait LoopHost: PathHost + Answers {
     /// Whether the journal was closed since this was asked last.
     fn report_journal_closing(&mut self) -> bool
         ensures { Self.Asked self.old self.new };
+
+    /// The job whose run was over is the one that was asked about, or one above it.
+    ghost rises: { (first job : ℕ) (old new : Self) → Polled first (Some job) old new → first ≤ job };
 }

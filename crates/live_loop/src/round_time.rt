@@ -1,5 +1,7 @@
 //! How long children are polled and clients are served in a round.
 
+ghost use Rattle.std.specs.Prelude.{◌≡◌, None, false};
+
 use control_socket::Limit;
 use std::rt::Clock;
 use std::time::{Duration, Instant};
@@ -28,6 +30,9 @@ impl<'a, R: Clock> RoundTime<'a, R> {
 }
 
 impl<R: Clock> Limit for RoundTime<'_, R> {
+    // Without a clock there is no time.
+    ghost Timed = { λ has old new. (new ≡ old) × (old.start ≡ None → has ≡ false) };
+
     fn has_time(&mut self) -> bool {
         let Some(start) = self.start else {
             return false;

@@ -65,6 +65,9 @@ pub struct Budget {
 }
 
 impl Limit for Budget {
+    // How much it gives is tried, and not promised.
+    ghost Timed = { λ has old new. Unit {0} };
+
     fn has_time(&mut self) -> bool {
         self.left = self.left.saturating_sub(1);
         self.left > 0

@@ -14,11 +14,14 @@ loop-init g c = no_poll
 pub loop-preserved : goal.loop-preserved
 loop-preserved g c = poll_on c.loop.invariant (search rules) c.saturating_add-next.ensures
 
-pub returns-then-not-has_time : goal.returns-then-not-has_time
-returns-then-not-has_time g c = record {
+pub returns-then-not-has_time-clause-polls : goal.returns-then-not-has_time-clause-polls
+returns-then-not-has_time-clause-polls g c = record {
   polls = c.loop.counter + 1;
   behind = c.saturating_add-next.result;
   mid = c.poll_from.new.self;
   over = poll_on c.loop.invariant (search rules) c.saturating_add-next.ensures;
   rest = inr (inl (omega arith, refl, refl));
 }
+
+pub returns-then-not-has_time-clause-time : goal.returns-then-not-has_time-clause-time
+returns-then-not-has_time-clause-time g c = inr (c.loop.time, search rules)

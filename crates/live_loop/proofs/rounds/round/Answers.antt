@@ -1,0 +1,7 @@
+-- What the looks of a round do.
+use Rattle.std.proofs.Common.{rules}
+use Rattle.live_loop.proofs.RoundsLemmas.{early_or_due}
+use Rattle.live_loop.proofs.rounds.round.Goals as goal
+
+pub returns : goal.returns
+returns g c = let looks = early_or_due c.look-is_time.ensures.early c.look-is_time.ensures.due in search rules

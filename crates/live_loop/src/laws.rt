@@ -1,0 +1,15 @@
+//! What holds of the rounds of a live loop, one after another. The function does nothing: its contract is the law.
+
+ghost use Rattle.std.specs.Prelude.{◌≡◌, ◌⊎◌, ◌≤◌, ◌+◌, ◌-◌, ◌^◌, min, ℕ};
+ghost use Rattle.live_loop.specs.Children.{PollsAll};
+
+use crate::loop_host::LoopHost;
+
+/// No child is left out for ever. A round either asks about each run that is over, from the job on with which it begins, and the next one
+/// begins with the first job; or the next one begins behind it, by a higher number.
+pub fn no_child_is_left_out<H: LoopHost>(host: &H)
+    ensures { (first next : ℕ) (old new : H) → PollsAll H.Polled first old next new →
+        (next ≡ 0) ⊎ (min (first + 1) (2 ^ 32 - 1) ≤ next) }
+{
+    let _ = host;
+}

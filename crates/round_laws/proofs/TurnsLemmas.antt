@@ -1,0 +1,217 @@
+-- What rounds do to a launcher is a list of turns, between which only the edge was asked.
+use Rattle.std.proofs.Common.{◌≡◌, inl, inr, ℕ, Bool, true, false, List, [], ◌∷◌, ◌++◌, Option, Some, None, refl, sym, ap, subst, ◌∙◌}
+use Rattle.std.proofs.lemmas.List.{append-nil}
+use Rattle.std.specs.Prelude.{Result, Ok, Err, option_and_then}
+use Rattle.history_model.specs.declared.Ended.{Ended}
+use Rattle.history_model.specs.declared.Obs.{Obs}
+use Rattle.history_model.specs.declared.Refusal.{Refusal}
+use Rattle.history_model.specs.declared.event.Event as journal
+use Rattle.history_model.specs.declared.event.Event.TheVariants as journaled
+use Rattle.history_model.specs.declared.event.JobItem.TheVariants as happens
+use Rattle.history_model.specs.declared.event.Setting.{Setting}
+use Rattle.ctl_protocol.specs.EventLines.{request_at}
+use Rattle.child_edge.specs.Calls.{ToldCall}
+use Rattle.child_edge.specs.declared.plain.EdgeFault.{EdgeFault}
+use Rattle.outside.specs.Stores.{Stamp, StoreCall}
+use Rattle.launcher.specs.declared.journal.Phase.{Phase}
+use Rattle.launcher.specs.declared.journal_writer.Cause.{Cause}
+use Rattle.launcher.specs.declared.journal.Phase.TheVariants.{Open, Closed, Reported}
+use Rattle.launcher.specs.Journals.{reported}
+use Rattle.launcher.specs.Inputs.{asked_in, event_if_label}
+use Rattle.launcher_laws.specs.TurnRuns.{Snapshot, IsBetween, AreTurns}
+use Rattle.control_socket.specs.Serving.{Serves, nobody, one_more}
+use Rattle.live_loop.specs.declared.loop_host.HandedIn.{HandedIn}
+use Rattle.live_loop.specs.declared.loop_host.HandedIn.TheVariants as handed
+use Rattle.live_loop.specs.Children as children
+use Rattle.live_loop.specs.Looks as looks
+use Rattle.live_loop.specs.Rounds as rounds
+use Rattle.jobd.specs.declared.round_launcher.RoundLauncher.{RoundLauncher}
+use Rattle.jobd.specs.Launches.{lent, AsksEdge, ListsNext, Heard, HeardReading, Reads, ReadsIf, ReadsClock, HeardIf, Begins, Gives, Tells, TellsEnd, PollsFrom, DoesPath, TellsCame, ComesIn, AnswersLine}
+use Rattle.round_laws.specs.Marks.{Mark, Turned, Spared, turns_in, snapshot, turned}
+use Rattle.round_laws.specs.RoundMarks.{launcher, of_reading, of_reads, of_missed, of_news, of_begins, of_gives, of_tells, of_end, of_poll, of_polls, of_sight, of_walk, of_serves, of_client, of_clients, of_looks, of_round, marks_of}
+
+reported_twice : (has : Bool) (bytes : Option (List ℕ)) (cause : Option Cause) (p : Phase) →
+    reported (reported (record { has_writer = has; bytes = bytes; cause = cause; phase = p })) ≡ reported (record { has_writer = has; bytes = bytes; cause = cause; phase = p })
+reported_twice has bytes cause Open = refl
+reported_twice has bytes cause Closed = refl
+reported_twice has bytes cause Reported = refl
+
+module _ {T : Type 0} where
+  still : (s : Snapshot T) → IsBetween s s
+  still s = record { table = refl; store = refl; journal = inl refl }
+
+  between : (a b c : Snapshot T) → IsBetween a b → IsBetween b c → IsBetween a c
+  between a b c first second = record {
+    table = second.table ∙ first.table;
+    store = second.store ∙ first.store;
+    journal = elim first.journal [
+      | inl same ↦ elim second.journal [
+        | inl same' ↦ inl (same' ∙ same)
+        | inr told' ↦ inr (told' ∙ ap reported same)
+      ]
+      | inr told ↦ elim second.journal [
+        | inl same' ↦ inr (same' ∙ told)
+        | inr told' ↦ inr (told' ∙ ap reported told ∙ reported_twice a.stands.journal.has_writer a.stands.journal.bytes a.stands.journal.cause a.stands.journal.phase)
+      ]
+    ];
+  }
+
+  module _ (holds : T → List Setting → Type 0) where
+    later : (marks : List (Mark T)) (a b c : Snapshot T) → IsBetween a b → AreTurns holds b (turns_in marks) c → AreTurns holds a (turns_in marks) c
+    later [] a b c first goes = between a b c first goes
+    later (Turned turn ∷ marks) a b c first goes = (between a b turn.before first goes.0, goes.1, goes.2)
+    later (Spared event ∷ marks) a b c first goes = later marks a b c first goes
+
+    both : (xs ys : List (Mark T)) (a b c : Snapshot T) → AreTurns holds a (turns_in xs) b → AreTurns holds b (turns_in ys) c → AreTurns holds a (turns_in (xs ++ ys)) c
+    both [] ys a b c first second = later ys a b c first second
+    both (Turned turn ∷ xs) ys a b c first second = (first.0, first.1, both xs ys turn.after b c first.2 second)
+    both (Spared event ∷ xs) ys a b c first second = both xs ys a b c first second
+
+module _ {T E W : Type 0} (calls : E → Option (List ToldCall)) (stores : T → Option (List StoreCall))
+    (holds : T → List Setting → Type 0) (stamped : T → List Stamp → Type 0) where
+  -- the turns of these marks lead from the one to the other
+  pub record Goes (marks : List (Mark T)) (old new : RoundLauncher T E W) : Type 0 where
+    pub are : AreTurns holds (snapshot calls stores old.host) (turns_in marks) (snapshot calls stores new.host)
+
+  nothing : (r : RoundLauncher T E W) → Goes [] r r
+  nothing r = record { are = still (snapshot calls stores r.host) }
+
+  then_ : {xs ys : List (Mark T)} {a b c : RoundLauncher T E W} → Goes xs a b → Goes ys b c → Goes (xs ++ ys) a c
+  then_ {xs} {ys} {a} {b} {c} f g = record { are = both holds xs ys (snapshot calls stores a.host) (snapshot calls stores b.host) (snapshot calls stores c.host) f.are g.are }
+
+  same : {old new : RoundLauncher T E W} → new ≡ old → Goes [] old new
+  same {old} {new} is = subst (λ r. Goes [] old r) (sym is) (nothing old)
+
+  pub one_turn : (event : Option journal.Event) (refusal : Option Refusal) (words : List ℕ) (old new : RoundLauncher T E W) →
+      Heard calls stores holds stamped event refusal words old.host new.host → Goes (turned calls stores event refusal words old.host new.host ∷ []) old new
+  one_turn event refusal words old new heard =
+      record { are = (still (snapshot calls stores old.host), (heard.hears, heard.writable), still (snapshot calls stores new.host)) }
+
+  asked : {old new : RoundLauncher T E W} → AsksEdge old new → Goes [] old new
+  asked {old} {new} (inl edge) = subst (λ (r : RoundLauncher T E W). Goes [] old r) (sym edge.1) (record { are = record { table = refl; store = refl; journal = inl refl } })
+  asked {old} {new} (inr told) = subst (λ (r : RoundLauncher T E W). Goes [] old r) (sym told) (record { are = record { table = refl; store = refl; journal = inr refl } })
+
+  lent_on : (edge : E) (old : RoundLauncher T E W) → Goes [] old (lent edge old)
+  lent_on edge old = record { are = record { table = refl; store = refl; journal = inl refl } }
+
+  asks : {old new : RoundLauncher T E W} → rounds.Asks AsksEdge old new → Goes [] old new
+  asks {old} rounds.nothing = nothing old
+  asks (rounds.further more a) = then_ {xs = []} {ys = []} (asks more) (asked a)
+
+  reading : (old new : RoundLauncher T E W) (heard : HeardReading calls stores holds stamped old new) → Goes (of_reading calls stores holds stamped old new heard) old new
+  reading old new heard = one_turn (Some (journaled.Clock old.at)) heard.refusal heard.words old new heard.heard
+
+  reads : (old new : RoundLauncher T E W) (r : Reads calls stores holds stamped old new) → Goes (of_reads calls stores holds stamped old new r) old new
+  reads old new (inl own) = same own.1
+  reads old new (inr moved) = reading old new moved.1
+
+  missed : (b : Bool) (old new : RoundLauncher T E W) (r : ReadsIf calls stores holds stamped b old new) → Goes (of_missed calls stores holds stamped b old new r) old new
+  missed true old new r = reads old new r
+  missed false old new is = same is
+
+  news : (b : Bool) (old new : RoundLauncher T E W) (r : HeardIf calls stores holds stamped b old new) → Goes (of_news calls stores holds stamped b old new r) old new
+  news true old new heard = reading old new heard
+  news false old new is = record { are = (same is).are }
+
+  clock : (old new : RoundLauncher T E W) → ReadsClock calls stores holds stamped old new → Goes [] old new
+  clock old new r = subst (λ (x : RoundLauncher T E W). Goes [] old x) (sym r.read) (record { are = record { table = refl; store = refl; journal = inl refl } })
+
+  begins : (old new : RoundLauncher T E W) (b : Begins calls stores holds stamped old new) → Goes (of_begins calls stores holds stamped old new b) old new
+  begins old new b =
+      record {
+        are = (then_ {a = record old { is_active = false }} {b = b.first} {c = new} (missed old.is_refused (record old { is_active = false }) b.first b.missed)
+            (then_ {xs = []} {b = b.begun} (clock b.first b.begun b.reads) (news b.news.is_news b.begun new b.news.handed))).are;
+      }
+
+  gives : (event : Option journal.Event) (refusal : Option Refusal) (words : List ℕ) (old new : RoundLauncher T E W) (g : Gives calls stores holds stamped event refusal words old new) →
+      Goes (of_gives calls stores holds stamped event refusal words old new g) old new
+  gives event refusal words old new g = then_ {b = g.mid} (reads old g.mid g.reading) (one_turn event refusal words g.mid new g.heard)
+
+  tells : (event : Option journal.Event) (refusal : Option Refusal) (old new : RoundLauncher T E W) (t : Tells calls stores holds stamped event refusal old new) →
+      Goes (of_tells calls stores holds stamped event refusal old new t) old new
+  tells event refusal old new t = gives event refusal t.words old new t.gives
+
+  end : (label : List ℕ) (run : ℕ) (answer : Result (Option Ended) EdgeFault) (old new : RoundLauncher T E W) (t : TellsEnd calls stores holds stamped label run answer old new) →
+      Goes (of_end calls stores holds stamped label run answer old new t) old new
+  end label run (Ok None) old new is = same is
+  end label run (Ok (Some how)) old new t = tells (event_if_label label (journaled.OfJob label (happens.Ended run how))) t.0 old new t.1
+  end label run (Err fault) old new t = tells (event_if_label label (journaled.OfJob label (happens.WaitRefused run))) t.0 old new t.1
+
+  poll : (Finds : ℕ → Option (ℕ × ℕ) → E → E → Type 0) (first : ℕ) (job : Option ℕ) (old new : RoundLauncher T E W) (p : PollsFrom calls stores holds stamped Finds first job old new) →
+      Goes (of_poll calls stores holds stamped Finds first job old new p) old new
+  poll Finds first None old new p = subst (λ (r : RoundLauncher T E W). Goes [] old r) (sym p.2) (lent_on p.0 old)
+  poll Finds first (Some job) old new p = let run = p.3 in
+      then_ {xs = []} (lent_on run.edge old) (end run.label p.0 run.answer (lent run.edge (lent p.1 old)) new run.handed)
+
+  polls : (Finds : ℕ → Option (ℕ × ℕ) → E → E → Type 0) {first : ℕ} {old : RoundLauncher T E W} {n next : ℕ} {new : RoundLauncher T E W} (p : children.Polls (PollsFrom calls stores holds stamped Finds) first old n next new) →
+      Goes (of_polls calls stores holds stamped Finds p) old new
+  polls Finds {old = old} children.no_poll = nothing old
+  polls Finds (children.one_more {next = next} {job = job} {mid = mid} {new = new} more polled) = then_ (polls Finds more) (poll Finds next (Some job) mid new polled)
+
+  polls_all : (Finds : ℕ → Option (ℕ × ℕ) → E → E → Type 0) {first next : ℕ} {old new : RoundLauncher T E W} (p : children.PollsAll (PollsFrom calls stores holds stamped Finds) first old next new) →
+      Goes (of_polls calls stores holds stamped Finds p.over) old new
+  polls_all Finds {old = old} {new = new} p = elim p.rest [
+    | inl none ↦ subst (λ ms. Goes ms old new) (append-nil (of_polls calls stores holds stamped Finds p.over)) (then_ {ys = []} (polls Finds p.over) (poll Finds p.behind None p.mid new none.0))
+    | inr rest ↦ elim rest [
+      | inl some ↦ subst (λ (r : RoundLauncher T E W). Goes (of_polls calls stores holds stamped Finds p.over) old r) (sym some.1) (polls Finds p.over)
+      | inr all ↦ subst (λ (r : RoundLauncher T E W). Goes (of_polls calls stores holds stamped Finds p.over) old r) (sym all.1) (polls Finds p.over)
+    ]
+  ]
+
+  sight : (path : List ℕ) (seen : Option Obs) (old : RoundLauncher T E W) (known : looks.Known) (new : RoundLauncher T E W) (known' : looks.Known)
+      (t : looks.TakesIf (DoesPath calls stores holds stamped) path seen old known new known') → Goes (of_sight calls stores holds stamped path seen old known new known' t) old new
+  sight path None old known new known' none = same none.0
+  sight path (Some obs) old known new known' (inl is) = record { are = (same is.1).are }
+  sight path (Some obs) old known new known' (inr differs) = tells (Some (journaled.Saw path obs)) differs.1.0 old new differs.1.1
+
+  walk : {first : RoundLauncher T E W} {known : looks.Known} {n : ℕ} {path : List ℕ} {new : RoundLauncher T E W} {known' : looks.Known}
+      (w : looks.Walks ListsNext (DoesPath calls stores holds stamped) first known n path new known') → Goes (of_walk calls stores holds stamped w) first new
+  walk {first = first} looks.no_look = nothing first
+  walk (looks.one_more {next = next} {mid = mid} {new = new} {before = before} {after = after} more is it) =
+      then_ (walk more) (then_ {xs = []} (subst (λ (r : RoundLauncher T E W). Goes [] mid r) (sym it.looked.4) (lent_on it.looked.1 mid))
+      (sight next it.seen it.mid before new after it.taken))
+
+  serves : {old new : RoundLauncher T E W} (s : Serves (AnswersLine calls stores holds stamped) old new) → Goes (of_serves calls stores holds stamped s) old new
+  serves {old = old} nobody = nothing old
+  serves (one_more {line = line} {reply = reply} {mid = mid} {new = new} more answers) = then_ (serves more)
+      (subst (λ (r : RoundLauncher T E W). Goes (of_gives calls stores holds stamped (option_and_then asked_in (request_at line)) reply.refusal reply.text mid answers.mid answers.gives) mid r) (sym answers.noted)
+      (record { are = (gives (option_and_then asked_in (request_at line)) reply.refusal reply.text mid answers.mid answers.gives).are }))
+
+  client : (label : List ℕ) (job conn : ℕ) (answer : HandedIn) (old new : RoundLauncher T E W) (t : TellsCame calls stores holds stamped label job conn answer old new) →
+      Goes (of_client calls stores holds stamped label job conn answer old new t) old new
+  client label job conn handed.Dropped old new is = same is
+  client label job conn handed.Heard old new t = tells (event_if_label label (journaled.OfJob label (happens.Came conn))) None old new t
+  client label job conn (handed.Refused refusal) old new came =
+      let heard = tells (event_if_label label (journaled.OfJob label (happens.Came conn))) (Some refusal) old came.0 came.2 in
+      subst (λ (r : RoundLauncher T E W). Goes (of_tells calls stores holds stamped (event_if_label label (journaled.OfJob label (happens.Came conn))) (Some refusal) old came.0 came.2) old r) (sym came.4)
+      (subst (λ ms. Goes ms old (lent came.1 came.0)) (append-nil (of_tells calls stores holds stamped (event_if_label label (journaled.OfJob label (happens.Came conn))) (Some refusal) old came.0 came.2))
+      (then_ {ys = []} heard (lent_on came.1 came.0)))
+
+  clients : {conn : ℕ} {old : RoundLauncher T E W} {conn' : ℕ} {new : RoundLauncher T E W} (g : rounds.Gathers AsksEdge (ComesIn calls stores holds stamped) conn old conn' new) → Goes (of_clients calls stores holds stamped g) old new
+  clients {old = old} rounds.nobody = nothing old
+  clients {old = old} (rounds.asked {new = new} more a) = subst (λ ms. Goes ms old new) (append-nil (of_clients calls stores holds stamped more)) (then_ {ys = []} (clients more) (asked a))
+  clients (rounds.came {conn = conn} {job = job} {answer = answer} {mid = mid} {new = new} more comes) =
+      then_ (clients more) (then_ {xs = []} (lent_on comes.edge mid) (client comes.label job conn answer (lent comes.edge mid) new comes.handed))
+
+  ended : {marks : List (Mark T)} {a : RoundLauncher T E W} (b c d : RoundLauncher T E W) → Goes marks a b → rounds.Asks AsksEdge b c → rounds.Asks AsksEdge c d → Goes marks a d
+  ended {marks} {a} b c d goes first second = subst (λ ms. Goes ms a d) (append-nil marks) (then_ {ys = []} goes (then_ {xs = []} {ys = []} (asks first) (asks second)))
+
+  module _ (Finds : ℕ → Option (ℕ × ℕ) → E → E → Type 0) where
+    looks_all : (old : RoundLauncher T E W) (look : ℕ) (known : looks.Known) (new : RoundLauncher T E W) (look' : ℕ) (known' : looks.Known) (s : rounds.Sees (launcher calls stores holds stamped Finds) old look known new look' known') →
+        Goes (of_looks calls stores holds stamped Finds old look known new look' known' s) old new
+    looks_all old look known new look' known' (inl early) = same early.1
+    looks_all old look known new look' known' (inr due) = let all = due.2 in
+        then_ {xs = []} (subst (λ (r : RoundLauncher T E W). Goes [] old r) (sym all.asked.1) (record { are = record { table = refl; store = refl; journal = inl refl } })) (walk all.walks.walk)
+
+    round : (old new : rounds.Left (RoundLauncher T E W)) (r : rounds.IsRound (launcher calls stores holds stamped Finds) old new) → Goes (of_round calls stores holds stamped Finds old new r) old.host new.host
+    round old new r =
+        then_ {xs = []} {b = r.waited} (asks r.waits)
+        (then_ {b = r.begun} (begins r.waited r.begun r.begins)
+        (then_ {b = r.polled} (polls_all Finds r.polls)
+        (then_ {b = r.looked} (looks_all r.polled old.look old.known r.looked new.look new.known r.looks)
+        (then_ {b = r.serves.first} (serves r.serves.serves)
+        (then_ {b = r.serves.mid} (clients r.serves.gathers) (ended r.serves.last r.served new.host (serves r.serves.again) r.serves.asks r.tells))))))
+
+    pub rounds_go : {first last : rounds.Left (RoundLauncher T E W)} (rs : rounds.AreRounds (launcher calls stores holds stamped Finds) first last) → Goes (marks_of calls stores holds stamped Finds rs) first.host last.host
+    rounds_go {first = first} rounds.no_round = nothing first.host
+    rounds_go (rounds.one_round {mid = mid} {new = new} more r) = then_ (rounds_go more) (round mid new r)

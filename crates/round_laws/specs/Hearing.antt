@@ -1,0 +1,49 @@
+-- What a launcher decides that is spared of something, beside a machine that hears all of it.
+use Rattle.std.specs.Prelude.{◌≡◌, false, ⊤, List, [], ◌∷◌, ◌++◌, map, Option, Some}
+use Rattle.std.specs.List.{AllByRecursion}
+use Rattle.history_model.specs.declared.Refusal.{Refusal}
+use Rattle.history_model.specs.declared.event.Event as journal
+use Rattle.history_model.specs.declared.event.Event.TheVariants as journaled
+use Rattle.history_model.specs.Machine.{State, Sight}
+use Rattle.history_model.specs.Step.{Outcome, step}
+use Rattle.history_model.specs.LeftOut.{Line, HandedIn, LeftOut, HaveSeen, outcomes_handed, outcomes_left}
+use Rattle.job_table.specs.Taking.{machine_event}
+use Rattle.launcher.specs.LoadTurns.{is_memory}
+use Rattle.launcher_laws.specs.TurnRuns.{Part, AreParts, outcomes_in}
+use Rattle.round_laws.specs.Marks.{Mark, Turned, Spared, turns_in}
+
+-- All that happened to the machine, in order: of each turn its events, which were handed in; and what it was spared.
+abbrev pub lines_of : {T : Type 0} → List (Mark T) → List Part → List Line
+lines_of [] parts = []
+lines_of (Turned turn ∷ marks) [] = []
+lines_of (Turned turn ∷ marks) (part ∷ parts) = map HandedIn (map machine_event part.0) ++ lines_of marks parts
+lines_of (Spared event ∷ marks) parts = LeftOut (machine_event event) ∷ lines_of marks parts
+
+-- The outcomes of these turns are those of a machine that heard all of this, from s on. At what the launcher was spared the machine gave no order.
+pub record DecideAsOne {T : Type 0} (s : State) (marks : List (Mark T)) (parts : List Part) : Type 0 where
+  pub same : outcomes_in parts ≡ outcomes_handed (lines_of marks parts) s
+  pub silent : AllByRecursion (λ (out : Outcome). out.orders ≡ []) (outcomes_left (lines_of marks parts) s)
+
+-- memory was not wanting, if this was a reading of the clocks
+abbrev pub HadMemory : Option journal.Event → Option Refusal → Type 0
+HadMemory (Some (journaled.Clock at)) refusal = is_memory refusal ≡ false
+HadMemory _ refusal = ⊤
+
+-- so at each reading that was handed in
+abbrev pub HeardReadings : {T : Type 0} → List (Mark T) → Type 0
+HeardReadings [] = ⊤
+HeardReadings (Turned turn ∷ marks) = HadMemory turn.event turn.refusal × HeardReadings marks
+HeardReadings (Spared event ∷ marks) = HeardReadings marks
+
+-- of each sight that the launcher was spared, each job which lists the path saw it so last
+abbrev pub HadSeen : State → List Line → Type 0
+HadSeen s [] = ⊤
+HadSeen s (HandedIn e ∷ lines) = HadSeen (step s e) lines
+HadSeen s (LeftOut (Sight path obs) ∷ lines) = HaveSeen path obs s.jobs × HadSeen s lines
+HadSeen s (LeftOut e ∷ lines) = HadSeen s lines
+
+-- The turns are these parts of a run of the machine, and decide as if it had heard all, if it had seen the sights that it was spared.
+pub record Decides {T : Type 0} (s : State) (marks : List (Mark T)) : Type 0 where
+  pub parts : List Part
+  pub are_parts : AreParts (turns_in marks) parts
+  pub decide : HadSeen s (lines_of marks parts) → DecideAsOne s marks parts

@@ -1,0 +1,157 @@
+-- The marks of rounds: each turn that they made, in order, and each reading and sight of which the launcher heard nothing.
+use mathlib.Core.Logic.{inl, inr}
+use Rattle.std.specs.Prelude.{ℕ, Bool, true, false, List, [], ◌∷◌, ◌++◌, Option, Some, None, Result, Ok, Err, option_and_then}
+use Rattle.history_model.specs.declared.Ended.{Ended}
+use Rattle.history_model.specs.declared.Obs.{Obs}
+use Rattle.history_model.specs.declared.Refusal.{Refusal}
+use Rattle.history_model.specs.declared.event.Event as journal
+use Rattle.history_model.specs.declared.event.Event.TheVariants as journaled
+use Rattle.history_model.specs.declared.event.JobItem.TheVariants as happens
+use Rattle.history_model.specs.declared.event.Setting.{Setting}
+use Rattle.ctl_protocol.specs.EventLines.{request_at}
+use Rattle.launcher.specs.Inputs.{asked_in, event_if_label}
+use Rattle.child_edge.specs.Calls.{ToldCall}
+use Rattle.child_edge.specs.declared.plain.EdgeFault.{EdgeFault}
+use Rattle.outside.specs.Stores.{Stamp, StoreCall}
+use Rattle.control_socket.specs.Serving.{Serves, nobody, one_more}
+use Rattle.live_loop.specs.declared.loop_host.HandedIn.{HandedIn}
+use Rattle.live_loop.specs.declared.loop_host.HandedIn.TheVariants as handed
+use Rattle.live_loop.specs.Children as children
+use Rattle.live_loop.specs.Looks as looks
+use Rattle.live_loop.specs.Rounds as rounds
+use Rattle.jobd.specs.declared.round_launcher.RoundLauncher.{RoundLauncher}
+use Rattle.jobd.specs.Launches.{lent, AsksEdge, ListsNext, HeardReading, Reads, ReadsIf, HeardIf, Begins, Gives, Tells, TellsEnd, PollsFrom, DoesPath, TellsCame, ComesIn, AnswersLine}
+use Rattle.round_laws.specs.Marks.{Mark, Spared, turned}
+
+module _ {T E W : Type 0} (calls : E → Option (List ToldCall)) (stores : T → Option (List StoreCall))
+    (holds : T → List Setting → Type 0) (stamped : T → List Stamp → Type 0)
+    (Finds : ℕ → Option (ℕ × ℕ) → E → E → Type 0) where
+  -- what a round asks of the launcher of `jobd`, and hands in to it
+  abbrev pub launcher : rounds.Launcher (RoundLauncher T E W)
+  launcher = record {
+    round_up = λ round. round.at.up;
+    IsNext = ListsNext;
+    Did = DoesPath calls stores holds stamped;
+    Answered = AnswersLine calls stores holds stamped;
+    Begun = Begins calls stores holds stamped;
+    Polled = PollsFrom calls stores holds stamped Finds;
+    Asked = AsksEdge;
+    Came = ComesIn calls stores holds stamped;
+  }
+
+module _ {T E W : Type 0} (calls : E → Option (List ToldCall)) (stores : T → Option (List StoreCall))
+    (holds : T → List Setting → Type 0) (stamped : T → List Stamp → Type 0) where
+  -- ---- readings
+
+  -- a reading that was handed in
+  abbrev pub of_reading : (old new : RoundLauncher T E W) → HeardReading calls stores holds stamped old new → List (Mark T)
+  of_reading old new heard =
+      turned calls stores (Some (journaled.Clock old.at)) heard.refusal heard.words old.host new.host ∷ []
+
+  abbrev pub of_reads : (old new : RoundLauncher T E W) → Reads calls stores holds stamped old new → List (Mark T)
+  of_reads old new (inl same) = []
+  of_reads old new (inr moved) = of_reading old new moved.1
+
+  abbrev pub of_missed : (is_refused : Bool) (old new : RoundLauncher T E W) →
+      ReadsIf calls stores holds stamped is_refused old new → List (Mark T)
+  of_missed true old new reads = of_reads old new reads
+  of_missed false old new same = []
+
+  -- a reading that is no news is spared
+  abbrev pub of_news : (is_news : Bool) (old new : RoundLauncher T E W) →
+      HeardIf calls stores holds stamped is_news old new → List (Mark T)
+  of_news true old new heard = of_reading old new heard
+  of_news false old new same = Spared (journaled.Clock old.at) ∷ []
+
+  abbrev pub of_begins : (old new : RoundLauncher T E W) → Begins calls stores holds stamped old new → List (Mark T)
+  of_begins old new begins = of_missed old.is_refused (record old { is_active = false }) begins.first begins.missed
+      ++ of_news begins.news.is_news begins.begun new begins.news.handed
+
+  -- ---- what is handed in behind the reading of the round
+
+  abbrev pub of_gives : (event : Option journal.Event) (refusal : Option Refusal) (words : List ℕ) (old new : RoundLauncher T E W) →
+      Gives calls stores holds stamped event refusal words old new → List (Mark T)
+  of_gives event refusal words old new gives = of_reads old gives.mid gives.reading
+      ++ turned calls stores event refusal words gives.mid.host new.host ∷ []
+
+  abbrev pub of_tells : (event : Option journal.Event) (refusal : Option Refusal) (old new : RoundLauncher T E W) →
+      Tells calls stores holds stamped event refusal old new → List (Mark T)
+  of_tells event refusal old new tells = of_gives event refusal tells.words old new tells.gives
+
+  -- ---- children
+
+  abbrev pub of_end : (label : List ℕ) (run : ℕ) (answer : Result (Option Ended) EdgeFault) (old new : RoundLauncher T E W) →
+      TellsEnd calls stores holds stamped label run answer old new → List (Mark T)
+  of_end label run (Ok None) old new same = []
+  of_end label run (Ok (Some how)) old new tells = of_tells (event_if_label label (journaled.OfJob label (happens.Ended run how))) tells.0 old new tells.1
+  of_end label run (Err fault) old new tells = of_tells (event_if_label label (journaled.OfJob label (happens.WaitRefused run))) tells.0 old new tells.1
+
+  abbrev pub of_poll : (Finds : ℕ → Option (ℕ × ℕ) → E → E → Type 0) (first : ℕ) (job : Option ℕ) (old new : RoundLauncher T E W) →
+      PollsFrom calls stores holds stamped Finds first job old new → List (Mark T)
+  of_poll Finds first None old new polls = []
+  of_poll Finds first (Some job) old new polls = let run = polls.3 in
+      of_end run.label polls.0 run.answer (lent run.edge (lent polls.1 old)) new run.handed
+
+  abbrev pub of_polls : (Finds : ℕ → Option (ℕ × ℕ) → E → E → Type 0) {first : ℕ} {old : RoundLauncher T E W} {n next : ℕ} {new : RoundLauncher T E W} →
+      children.Polls (PollsFrom calls stores holds stamped Finds) first old n next new → List (Mark T)
+  of_polls Finds children.no_poll = []
+  of_polls Finds (children.one_more {next = next} {job = job} {mid = mid} {new = new} polls polled) =
+      of_polls Finds polls ++ of_poll Finds next (Some job) mid new polled
+
+  -- ---- paths
+
+  -- a sight that is what was handed in last is spared
+  abbrev pub of_sight : (path : List ℕ) (seen : Option Obs) (old : RoundLauncher T E W) (known : looks.Known) (new : RoundLauncher T E W) (known' : looks.Known) →
+      looks.TakesIf (DoesPath calls stores holds stamped) path seen old known new known' → List (Mark T)
+  of_sight path None old known new known' none = []
+  of_sight path (Some obs) old known new known' (inl same) = Spared (journaled.Saw path obs) ∷ []
+  of_sight path (Some obs) old known new known' (inr differs) =
+      of_tells (Some (journaled.Saw path obs)) differs.1.0 old new differs.1.1
+
+  abbrev pub of_walk : {first : RoundLauncher T E W} {known : looks.Known} {n : ℕ} {path : List ℕ} {new : RoundLauncher T E W} {known' : looks.Known} →
+      looks.Walks ListsNext (DoesPath calls stores holds stamped) first known n path new known' → List (Mark T)
+  of_walk looks.no_look = []
+  of_walk (looks.one_more {next = next} {new = new} {before = before} {after = after} walk is it) =
+      of_walk walk ++ of_sight next it.seen it.mid before new after it.taken
+
+  -- ---- clients
+
+  abbrev pub of_serves : {old new : RoundLauncher T E W} → Serves (AnswersLine calls stores holds stamped) old new → List (Mark T)
+  of_serves nobody = []
+  of_serves (one_more {line = line} {reply = reply} {mid = mid} serves answers) = of_serves serves
+      ++ of_gives (option_and_then asked_in (request_at line)) reply.refusal reply.text mid answers.mid answers.gives
+
+  abbrev pub of_client : (label : List ℕ) (job conn : ℕ) (answer : HandedIn) (old new : RoundLauncher T E W) →
+      TellsCame calls stores holds stamped label job conn answer old new → List (Mark T)
+  of_client label job conn handed.Dropped old new same = []
+  of_client label job conn handed.Heard old new tells = of_tells (event_if_label label (journaled.OfJob label (happens.Came conn))) None old new tells
+  of_client label job conn (handed.Refused refusal) old new came =
+      of_tells (event_if_label label (journaled.OfJob label (happens.Came conn))) (Some refusal) old came.0 came.2
+
+  abbrev pub of_clients : {conn : ℕ} {old : RoundLauncher T E W} {conn' : ℕ} {new : RoundLauncher T E W} →
+      rounds.Gathers AsksEdge (ComesIn calls stores holds stamped) conn old conn' new → List (Mark T)
+  of_clients rounds.nobody = []
+  of_clients (rounds.asked gathers asks) = of_clients gathers
+  of_clients (rounds.came {conn = conn} {job = job} {answer = answer} {mid = mid} {new = new} gathers comes) =
+      of_clients gathers ++ of_client comes.label job conn answer (lent comes.edge mid) new comes.handed
+
+  -- ---- whole rounds
+
+  module _ (Finds : ℕ → Option (ℕ × ℕ) → E → E → Type 0) where
+    abbrev pub of_looks : (old : RoundLauncher T E W) (look : ℕ) (known : looks.Known) (new : RoundLauncher T E W) (look' : ℕ) (known' : looks.Known) →
+        rounds.Sees (launcher calls stores holds stamped Finds) old look known new look' known' → List (Mark T)
+    of_looks old look known new look' known' (inl early) = []
+    of_looks old look known new look' known' (inr due) = of_walk due.2.walks.walk
+
+    abbrev pub of_round : (old new : rounds.Left (RoundLauncher T E W)) →
+        rounds.IsRound (launcher calls stores holds stamped Finds) old new → List (Mark T)
+    of_round old new round = of_begins round.waited round.begun round.begins
+        ++ (of_polls Finds round.polls.over
+        ++ (of_looks round.polled old.look old.known round.looked new.look new.known round.looks
+        ++ (of_serves round.serves.serves ++ (of_clients round.serves.gathers ++ of_serves round.serves.again))))
+
+    -- all that they hand in, round after round
+    abbrev pub marks_of : {first last : rounds.Left (RoundLauncher T E W)} →
+        rounds.AreRounds (launcher calls stores holds stamped Finds) first last → List (Mark T)
+    marks_of rounds.no_round = []
+    marks_of (rounds.one_round {mid = mid} {new = new} more round) = marks_of more ++ of_round mid new round

@@ -1,0 +1,62 @@
+//! What holds of a launcher over any list of rounds. The functions do nothing: their contracts are the laws. A round is what
+//! `live_loop::round` promises of it; each begins with what the one before left.
+
+ghost use Rattle.std.specs.Prelude.{◌≡◌, List, Option};
+ghost use Rattle.child_edge.specs.Calls.{ToldCall};
+ghost use Rattle.ctl_protocol.specs.declared.header.Header.{Header};
+ghost use Rattle.history_model.specs.LeftOut.{MayBeLeftOut};
+ghost use Rattle.launcher.specs.Hosts.{IsNew, stands};
+ghost use Rattle.launcher.specs.Journals.{JournalState};
+ghost use Rattle.launcher_laws.specs.Lasting.{Lasts};
+ghost use Rattle.launcher_laws.specs.TurnRuns.{AreTurns, Snapshot};
+ghost use Rattle.live_loop.specs.Rounds.{AreRounds, Left};
+ghost use Rattle.outside.specs.Stores.{StoreCall};
+ghost use Rattle.jobd.specs.declared.round_launcher.RoundLauncher.{RoundLauncher as Launcher};
+ghost use Rattle.round_laws.specs.Hearing.{DecideAsOne, Decides, HeardReadings, lines_of};
+ghost use Rattle.round_laws.specs.Marks.{Mark, snapshot, turns_in};
+ghost use Rattle.round_laws.specs.RoundMarks.{launcher, marks_of};
+
+use jobd::{RoundEdge, RoundLauncher};
+use outside::SettingStore;
+use std::io::Write;
+
+/// Any rounds are turns, one after another, between which only the edge was asked: those of what each round found, in its order.
+pub fn rounds_are_turns<T: SettingStore, E: RoundEdge, W: Write>(round: &RoundLauncher<T, E, W>)
+    ensures { (first last : Left (Launcher T E W)) →
+        (rounds : AreRounds (launcher E.told T.told T.holds T.stamped E.Finds) first last) →
+        AreTurns T.holds (snapshot E.told T.told first.host.host)
+        (turns_in (marks_of E.told T.told T.holds T.stamped E.Finds rounds))
+        (snapshot E.told T.told last.host.host) }
+{
+    let _ = round;
+}
+
+/// The turns of a launcher that was spared readings and sights decide as if all of them had been handed in, if each that it was spared may be
+/// left out.
+pub fn what_was_spared_changes_nothing<T: SettingStore>(store: &T)
+    ensures { (header : Header) (calls : Option (List ToldCall)) (stores : Option (List StoreCall))
+        (journal : JournalState) (first last : Snapshot T) (marks : List (Mark T)) →
+        (new : IsNew header calls stores journal first.stands
+        (T.holds store.now) (T.holds first.store)) →
+        (lasts : Lasts T.holds new.machine (turns_in marks) last) →
+        MayBeLeftOut new.machine.reading new.machine (lines_of marks lasts.parts) →
+        DecideAsOne new.machine marks lasts.parts }
+{
+    let _ = store;
+}
+
+/// Any rounds of a new launcher decide as if each reading and each sight had been handed in, in the order of the rounds: each reading that it
+/// was spared was no news, and all else was handed in at the last reading. Memory was not wanting at a reading. Of a sight that the
+/// launcher was spared, each job that lists the path saw it so last.
+pub fn rounds_decide_as_one<T: SettingStore, E: RoundEdge, W: Write>(round: &RoundLauncher<T, E, W>)
+    ensures { (header : Header) (calls : Option (List ToldCall)) (stores : Option (List StoreCall))
+        (journal : JournalState) (before : T) (first last : Left (Launcher T E W)) →
+        (new : IsNew header calls stores journal (stands E.told T.told first.host.host)
+        (T.holds before) (T.holds first.host.host.store)) →
+        first.host.at ≡ first.host.host.table.reading →
+        (rounds : AreRounds (launcher E.told T.told T.holds T.stamped E.Finds) first last) →
+        HeardReadings (marks_of E.told T.told T.holds T.stamped E.Finds rounds) →
+        Decides new.machine (marks_of E.told T.told T.holds T.stamped E.Finds rounds) }
+{
+    let _ = round;
+}
