@@ -12,7 +12,6 @@ use Rattle.history_model.specs.LeftOut.{Line, HandedIn, all_of, handed_in, last_
 use Rattle.loaded_jobs.specs.Tables.{Name}
 use Rattle.loaded_jobs.specs.StandsFor.{KeepsState}
 use Rattle.job_table.specs.Taking.{machine_event}
-use Rattle.outside.specs.declared.asking.Outside.{Outside}
 use Rattle.outside.specs.declared.unheard.Unheard.{Unheard}
 use Rattle.outside.specs.Orders.{answers_in}
 use Rattle.launcher.specs.HostTurns.{IsLed}
@@ -20,7 +19,8 @@ use Rattle.launcher.specs.LoadTurns.{is_memory}
 use Rattle.launcher_laws.proofs.RunsLemmas.{went}
 use Rattle.std.proofs.Common.{◌≡◌, inl, inr, ℕ, Bool, true, false, List, [], ◌∷◌, ◌++◌, Option, Some, None, map, refl, sym, ap, subst, ◌∙◌, ◌≤◌, arith}
 use Rattle.std.proofs.lemmas.List.{append-nil}
-use Rattle.std.specs.Prelude.{Result, Ok, Err, option_and_then}
+use Rattle.std.specs.Prelude.{Result, Ok, Err}
+use Rattle.std.specs.Option.{option_map}
 use Rattle.history_model.specs.declared.Ended.{Ended}
 use Rattle.history_model.specs.declared.Obs.{Obs}
 use Rattle.history_model.specs.declared.Refusal.{Refusal}
@@ -32,7 +32,11 @@ use Rattle.ctl_protocol.specs.EventLines.{request_at}
 use Rattle.child_edge.specs.Calls.{ToldCall}
 use Rattle.child_edge.specs.declared.plain.EdgeFault.{EdgeFault}
 use Rattle.outside.specs.Stores.{Stamp, StoreCall}
-use Rattle.launcher.specs.Inputs.{answered, asked_in, event_if_label, is_asked_of_a_job, is_clock}
+use Rattle.ctl_protocol.specs.declared.request.Request.{Request}
+use Rattle.ctl_protocol.specs.declared.request.Request.TheVariants as requests
+use Rattle.ctl_protocol.specs.declared.request.Outside.{Outside}
+use Rattle.ctl_protocol.specs.Requests.{event_with}
+use Rattle.launcher.specs.Inputs.{Incoming, asked, asked_by, event_if_label, event_of, happened}
 use Rattle.launcher_laws.specs.TurnRuns.{Turn, Part, AreParts, IsPartOf, answer_told, events_in, outcomes_in}
 use Rattle.control_socket.specs.Serving.{Serves, nobody, one_more}
 use Rattle.live_loop.specs.declared.loop_host.HandedIn.{HandedIn as Became}
@@ -51,41 +55,48 @@ use Rattle.round_laws.specs.RoundMarks.{launcher, of_reading, of_reads, of_misse
 
 -- ---- events that are no reading of the clocks
 
-abbrev NoClock : Option journal.Event → Type 0
-NoClock event = (e : journal.Event) → event ≡ Some e → is_clock e ≡ false
+-- what came is a reading of the clocks
+abbrev is_clock : Incoming → Bool
+is_clock (happened (journaled.Clock at)) = true
+is_clock _ = false
 
-abbrev is_clock_in : Option journal.Event → Bool
-is_clock_in o = is_clock (unwrap_or o journaled.List)
+abbrev NoClock : Option Incoming → Type 0
+NoClock incoming = (x : Incoming) → incoming ≡ Some x → is_clock x ≡ false
 
-no-clock : (event : Option journal.Event) → is_clock_in event ≡ false → NoClock event
-no-clock event apart = λ e is. ap is_clock_in (sym is) ∙ apart
+abbrev is_clock_in : Option Incoming → Bool
+is_clock_in o = is_clock (unwrap_or o (happened journaled.List))
 
-no-clock-if : (b : Bool) (x : journal.Event) → is_clock x ≡ false → NoClock (if b then Some x else None)
+no-clock : (incoming : Option Incoming) → is_clock_in incoming ≡ false → NoClock incoming
+no-clock incoming apart = λ x is. ap is_clock_in (sym is) ∙ apart
+
+no-clock-if : (b : Bool) (x : Incoming) → is_clock x ≡ false → NoClock (if b then Some x else None)
 no-clock-if true x apart = no-clock (Some x) apart
 no-clock-if false x apart = no-clock None refl
 
-no-clock-asked : (o : Option journal.Event) → NoClock (option_and_then asked_in o)
+no-clock-asked : (o : Option Request) → NoClock (option_map asked o)
 no-clock-asked None = no-clock None refl
-no-clock-asked (Some (journaled.Load def w f b st)) = no-clock (Some (journaled.Load def w f true true)) refl
-no-clock-asked (Some (journaled.Unload job w st)) = no-clock (Some (journaled.Unload job w true)) refl
-no-clock-asked (Some (journaled.Set job d st)) = no-clock (Some (journaled.Set job d true)) refl
-no-clock-asked (Some journaled.List) = no-clock (Some journaled.List) refl
-no-clock-asked (Some (journaled.Print job)) = no-clock (Some (journaled.Print job)) refl
-no-clock-asked (Some journaled.Shutdown) = no-clock (Some journaled.Shutdown) refl
-no-clock-asked (Some (journaled.Clock at)) = no-clock None refl
-no-clock-asked (Some (journaled.Saw path obs)) = no-clock None refl
-no-clock-asked (Some (journaled.OfJob job item)) = no-clock-if (is_asked_of_a_job item) (journaled.OfJob job item) refl
+no-clock-asked (Some request) = no-clock (Some (asked request)) refl
 
-plain-answered : (out : Outside) (e : journal.Event) → is_clock e ≡ false → is_tick (machine_event (answered out e)) ≡ false
-plain-answered out (journaled.Load def w f b st) apart = refl
-plain-answered out (journaled.Unload job w st) apart = refl
-plain-answered out (journaled.Set job d st) apart = refl
-plain-answered out journaled.List apart = refl
-plain-answered out (journaled.Print job) apart = refl
-plain-answered out journaled.Shutdown apart = refl
-plain-answered out (journaled.Clock at) apart = cc
-plain-answered out (journaled.Saw path obs) apart = refl
-plain-answered out (journaled.OfJob job item) apart = refl
+plain-asked : (out : Outside) (request : Request) → is_tick (machine_event (event_with out request)) ≡ false
+plain-asked out (requests.Load load) = refl
+plain-asked out (requests.Unload job w) = refl
+plain-asked out (requests.Set job d) = refl
+plain-asked out (requests.Ask job ask) = refl
+plain-asked out requests.List = refl
+plain-asked out (requests.Print job) = refl
+plain-asked out requests.Shutdown = refl
+
+plain-answered : (out : Outside) (x : Incoming) → is_clock x ≡ false → is_tick (machine_event (event_of out x)) ≡ false
+plain-answered out (asked request) apart = plain-asked out request
+plain-answered out (happened (journaled.Load def w f b st)) apart = refl
+plain-answered out (happened (journaled.Unload job w st)) apart = refl
+plain-answered out (happened (journaled.Set job d st)) apart = refl
+plain-answered out (happened journaled.List) apart = refl
+plain-answered out (happened (journaled.Print job)) apart = refl
+plain-answered out (happened journaled.Shutdown) apart = refl
+plain-answered out (happened (journaled.Clock at)) apart = cc
+plain-answered out (happened (journaled.Saw path obs)) apart = refl
+plain-answered out (happened (journaled.OfJob job item)) apart = refl
 
 answers-plain : (names : List Name) (ps : List Unheard) → ArePlain (map machine_event (map (answer_told names) ps))
 answers-plain names [] = tt
@@ -98,23 +109,23 @@ record IsTicked (at : Reading) (es : List Event) : Type 0 where
   plain : ArePlain rest
 
 module _ {T : Type 0} where
-  plain-part : (turn : Turn T) (p : Part) → NoClock turn.event → IsPartOf turn p → ArePlain (map machine_event p.0)
+  plain-part : (turn : Turn T) (p : Part) → NoClock turn.incoming → IsPartOf turn p → ArePlain (map machine_event p.0)
   plain-part turn p apart (inl none) = subst (λ (es : List journal.Event). ArePlain (map machine_event es)) (sym none.1) tt
   plain-part turn p apart (inr o) =
-      subst (λ (es : List journal.Event). ArePlain (map machine_event es)) (sym (o.first ∙ ap (λ more. answered o.outside o.event ∷ more) o.told))
-      (plain-answered o.outside o.event (apart o.event o.came), answers-plain o.names (answers_in o.entries))
+      subst (λ (es : List journal.Event). ArePlain (map machine_event es)) (sym (o.first ∙ ap (λ more. event_of o.outside o.incoming ∷ more) o.told))
+      (plain-answered o.outside o.incoming (apart o.incoming o.came), answers-plain o.names (answers_in o.entries))
 
-  ticked : (at : Reading) (turn : Turn T) (p : Part) → turn.event ≡ Some (journaled.Clock at) → is_memory turn.refusal ≡ false → IsPartOf turn p → IsTicked at (map machine_event p.0)
+  ticked : (at : Reading) (turn : Turn T) (p : Part) → turn.incoming ≡ Some (happened (journaled.Clock at)) → is_memory turn.refusal ≡ false → IsPartOf turn p → IsTicked at (map machine_event p.0)
   ticked at turn p is had (inl none) = elim none.0 [
     | inl memory ↦ let clash : true ≡ false = sym memory ∙ had in cc
-    | inr apart ↦ let clash : None ≡ Some (journaled.Clock at) = sym apart.0 ∙ is in cc
+    | inr apart ↦ let clash : None ≡ Some (happened (journaled.Clock at)) = sym apart.0 ∙ is in cc
   ]
   ticked at turn p is had (inr o) =
-      let event : o.event ≡ journaled.Clock at = ap (λ (x : Option journal.Event). unwrap_or x (journaled.Clock at)) (sym o.came ∙ is) in
+      let incoming : o.incoming ≡ happened (journaled.Clock at) = ap (λ (x : Option Incoming). unwrap_or x (happened (journaled.Clock at))) (sym o.came ∙ is) in
       record {
         rest = map machine_event (map (answer_told o.names) (answers_in o.entries));
-        is = ap (map machine_event) (o.first ∙ ap (λ more. answered o.outside o.event ∷ more) o.told)
-            ∙ ap (λ e. machine_event (answered o.outside e) ∷ map machine_event (map (answer_told o.names) (answers_in o.entries))) event;
+        is = ap (map machine_event) (o.first ∙ ap (λ more. event_of o.outside o.incoming ∷ more) o.told)
+            ∙ ap (λ x. machine_event (event_of o.outside x) ∷ map machine_event (map (answer_told o.names) (answers_in o.entries))) incoming;
         plain = answers-plain o.names (answers_in o.entries);
       }
 
@@ -224,14 +235,14 @@ module _ {T E W : Type 0} (calls : E → Option (List ToldCall)) (stores : T →
         own = ap (λ xs. (run xs s).reading) hh ∙ c.reading ∙ sym c.read ∙ ap (last_read_in last) (sym aa);
       }
 
-  plain_turn : (event : Option journal.Event) → NoClock event → (refusal : Option Refusal) (words : List ℕ) (old new : RoundLauncher T E W) →
+  plain_turn : (event : Option Incoming) → NoClock event → (refusal : Option Refusal) (words : List ℕ) (old new : RoundLauncher T E W) →
       Heard calls stores holds stamped event refusal words old.host new.host → new.at ≡ old.at → (s : State) (last : Reading) → Follows s last old → s.reading ≡ last →
       Spans s last (turned calls stores event refusal words old.host new.host ∷ []) new
   plain_turn event apart refusal words old new heard at s last f own =
-      let turn : Turn T = record { event = event; refusal = refusal; words = words; before = snapshot calls stores old.host; after = snapshot calls stores new.host } in
+      let turn : Turn T = record { incoming = event; refusal = refusal; words = words; before = snapshot calls stores old.host; after = snapshot calls stores new.host } in
       let w = went holds s (snapshot calls stores old.host) (turn ∷ []) (snapshot calls stores new.host) f.led f.keeps (one_turn calls stores holds stamped event refusal words old new heard).are in
       go turn refl w.parts w.are_parts w.all w.led w.kept where
-        go : (turn : Turn T) → turn.event ≡ event → (ps : List Part) → AreParts (turn ∷ []) ps → outcomes_in ps ≡ outcomes (map machine_event (events_in ps)) s → IsLed (run (map machine_event (events_in ps)) s) →
+        go : (turn : Turn T) → turn.incoming ≡ event → (ps : List Part) → AreParts (turn ∷ []) ps → outcomes_in ps ≡ outcomes (map machine_event (events_in ps)) s → IsLed (run (map machine_event (events_in ps)) s) →
             KeepsState new.host.table (run (map machine_event (events_in ps)) s) → Spans s last (Turned turn ∷ []) new
         go turn is [] are all led kept = absurd are
         go turn is (p ∷ q ∷ ps) are all led kept = absurd are.1
@@ -240,14 +251,14 @@ module _ {T E W : Type 0} (calls : E → Option (List ToldCall)) (stores : T →
             (spans-of turn p are.0 s last last new c all led kept (at ∙ f.at) (own-again s.reading last f.allowed)).spans
 
   read_turn : (at : Reading) (refusal : Option Refusal) (words : List ℕ) (old new : RoundLauncher T E W) →
-      Heard calls stores holds stamped (Some (journaled.Clock at)) refusal words old.host new.host → new.at ≡ at → is_memory refusal ≡ false → (s : State) (last : Reading) →
+      Heard calls stores holds stamped (Some (happened (journaled.Clock at))) refusal words old.host new.host → new.at ≡ at → is_memory refusal ≡ false → (s : State) (last : Reading) →
       KeepsState old.host.table s → IsLed s → is_clock_refused s.reading at ≡ false → last.up ≤ at.up → last_read last (Tick at) ≡ at →
-      SpansOwn s last (turned calls stores (Some (journaled.Clock at)) refusal words old.host new.host ∷ []) new
+      SpansOwn s last (turned calls stores (Some (happened (journaled.Clock at))) refusal words old.host new.host ∷ []) new
   read_turn at refusal words old new heard is_at had s last keeps led allowed less again =
-      let turn : Turn T = record { event = Some (journaled.Clock at); refusal = refusal; words = words; before = snapshot calls stores old.host; after = snapshot calls stores new.host } in
-      let w = went holds s (snapshot calls stores old.host) (turn ∷ []) (snapshot calls stores new.host) led keeps (one_turn calls stores holds stamped (Some (journaled.Clock at)) refusal words old new heard).are in
+      let turn : Turn T = record { incoming = Some (happened (journaled.Clock at)); refusal = refusal; words = words; before = snapshot calls stores old.host; after = snapshot calls stores new.host } in
+      let w = went holds s (snapshot calls stores old.host) (turn ∷ []) (snapshot calls stores new.host) led keeps (one_turn calls stores holds stamped (Some (happened (journaled.Clock at))) refusal words old new heard).are in
       go turn refl had w.parts w.are_parts w.all w.led w.kept where
-        go : (turn : Turn T) → turn.event ≡ Some (journaled.Clock at) → is_memory turn.refusal ≡ false → (ps : List Part) → AreParts (turn ∷ []) ps → outcomes_in ps ≡ outcomes (map machine_event (events_in ps)) s →
+        go : (turn : Turn T) → turn.incoming ≡ Some (happened (journaled.Clock at)) → is_memory turn.refusal ≡ false → (ps : List Part) → AreParts (turn ∷ []) ps → outcomes_in ps ≡ outcomes (map machine_event (events_in ps)) s →
             IsLed (run (map machine_event (events_in ps)) s) → KeepsState new.host.table (run (map machine_event (events_in ps)) s) → SpansOwn s last (Turned turn ∷ []) new
         go turn is had' [] are all led' kept = absurd are
         go turn is had' (p ∷ q ∷ ps) are all led' kept = absurd are.1
@@ -308,7 +319,7 @@ module _ {T E W : Type 0} (calls : E → Option (List ToldCall)) (stores : T →
       then_ {xs = []} {a = old} {b = record old { is_active = false }} (moved old (record old { is_active = false }) refl refl)
       (then_ {a = record old { is_active = false }} {b = b.first} (missed old.is_refused (record old { is_active = false }) b.first b.missed) (news b.first b.begun new b.reads b.news))
 
-  gives : (event : Option journal.Event) → NoClock event → (refusal : Option Refusal) (words : List ℕ) (old new : RoundLauncher T E W) (g : Gives calls stores holds stamped event refusal words old new) →
+  gives : (event : Option Incoming) → NoClock event → (refusal : Option Refusal) (words : List ℕ) (old new : RoundLauncher T E W) (g : Gives calls stores holds stamped event refusal words old new) →
       Keeps (of_gives calls stores holds stamped event refusal words old new g) old new
   gives event apart refusal words old new g = λ s last had f.
       let xs = of_reads calls stores holds stamped old g.mid g.reading in
@@ -319,7 +330,7 @@ module _ {T E W : Type 0} (calls : E → Option (List ToldCall)) (stores : T →
       spans-both xs ys s last g.mid new one.spans
       (plain_turn event apart refusal words g.mid new g.heard g.at (run (handed_in ls) s) (last_read_in last (all_of ls)) one.spans.follows one.own)
 
-  tells : (event : Option journal.Event) → NoClock event → (refusal : Option Refusal) (old new : RoundLauncher T E W) (t : Tells calls stores holds stamped event refusal old new) →
+  tells : (event : Option Incoming) → NoClock event → (refusal : Option Refusal) (old new : RoundLauncher T E W) (t : Tells calls stores holds stamped event refusal old new) →
       Keeps (of_tells calls stores holds stamped event refusal old new t) old new
   tells event apart refusal old new t = gives event apart refusal t.words old new t.gives
 
@@ -368,7 +379,7 @@ module _ {T E W : Type 0} (calls : E → Option (List ToldCall)) (stores : T →
       (t : looks.TakesIf (DoesPath calls stores holds stamped) path seen old known new known') → Keeps (of_sight calls stores holds stamped path seen old known new known' t) old new
   sight path None old known new known' none = same none.0
   sight path (Some obs) old known new known' (inl is) = spared_sight path obs old new is.1
-  sight path (Some obs) old known new known' (inr differs) = tells (Some (journaled.Saw path obs)) (no-clock (Some (journaled.Saw path obs)) refl) differs.1.0 old new differs.1.1
+  sight path (Some obs) old known new known' (inr differs) = tells (Some (happened (journaled.Saw path obs))) (no-clock (Some (happened (journaled.Saw path obs))) refl) differs.1.0 old new differs.1.1
 
   walk : {first : RoundLauncher T E W} {known : looks.Known} {n : ℕ} {path : List ℕ} {new : RoundLauncher T E W} {known' : looks.Known}
       (w : looks.Walks ListsNext (DoesPath calls stores holds stamped) first known n path new known') → Keeps (of_walk calls stores holds stamped w) first new
@@ -385,7 +396,7 @@ module _ {T E W : Type 0} (calls : E → Option (List ToldCall)) (stores : T →
   serves {old = old} nobody = nothing old
   serves (one_more {line = line} {reply = reply} {mid = mid} {new = new} more answers) = then_ (serves more)
       (end_same answers.mid new (ap (λ (r : RoundLauncher T E W). r.host.table) answers.noted) (ap (λ (r : RoundLauncher T E W). r.at) answers.noted)
-      (gives (option_and_then asked_in (request_at line)) (no-clock-asked (request_at line)) reply.refusal reply.text mid answers.mid answers.gives))
+      (gives (asked_by line) (no-clock-asked (request_at line)) reply.refusal reply.text mid answers.mid answers.gives))
 
   client : (label : List ℕ) (job conn : ℕ) (answer : Became) (old new : RoundLauncher T E W) (t : TellsCame calls stores holds stamped label job conn answer old new) →
       Keeps (of_client calls stores holds stamped label job conn answer old new t) old new

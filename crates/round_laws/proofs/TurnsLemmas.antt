@@ -1,7 +1,7 @@
 -- What rounds do to a launcher is a list of turns, between which only the edge was asked.
 use Rattle.std.proofs.Common.{◌≡◌, inl, inr, ℕ, Bool, true, false, List, [], ◌∷◌, ◌++◌, Option, Some, None, refl, sym, ap, subst, ◌∙◌}
 use Rattle.std.proofs.lemmas.List.{append-nil}
-use Rattle.std.specs.Prelude.{Result, Ok, Err, option_and_then}
+use Rattle.std.specs.Prelude.{Result, Ok, Err}
 use Rattle.history_model.specs.declared.Ended.{Ended}
 use Rattle.history_model.specs.declared.Obs.{Obs}
 use Rattle.history_model.specs.declared.Refusal.{Refusal}
@@ -9,7 +9,6 @@ use Rattle.history_model.specs.declared.event.Event as journal
 use Rattle.history_model.specs.declared.event.Event.TheVariants as journaled
 use Rattle.history_model.specs.declared.event.JobItem.TheVariants as happens
 use Rattle.history_model.specs.declared.event.Setting.{Setting}
-use Rattle.ctl_protocol.specs.EventLines.{request_at}
 use Rattle.child_edge.specs.Calls.{ToldCall}
 use Rattle.child_edge.specs.declared.plain.EdgeFault.{EdgeFault}
 use Rattle.outside.specs.Stores.{Stamp, StoreCall}
@@ -17,7 +16,7 @@ use Rattle.launcher.specs.declared.journal.Phase.{Phase}
 use Rattle.launcher.specs.declared.journal_writer.Cause.{Cause}
 use Rattle.launcher.specs.declared.journal.Phase.TheVariants.{Open, Closed, Reported}
 use Rattle.launcher.specs.Journals.{reported}
-use Rattle.launcher.specs.Inputs.{asked_in, event_if_label}
+use Rattle.launcher.specs.Inputs.{Incoming, asked_by, event_if_label, happened}
 use Rattle.launcher_laws.specs.TurnRuns.{Snapshot, IsBetween, AreTurns}
 use Rattle.control_socket.specs.Serving.{Serves, nobody, one_more}
 use Rattle.live_loop.specs.declared.loop_host.HandedIn.{HandedIn}
@@ -82,7 +81,7 @@ module _ {T E W : Type 0} (calls : E → Option (List ToldCall)) (stores : T →
   same : {old new : RoundLauncher T E W} → new ≡ old → Goes [] old new
   same {old} {new} is = subst (λ r. Goes [] old r) (sym is) (nothing old)
 
-  pub one_turn : (event : Option journal.Event) (refusal : Option Refusal) (words : List ℕ) (old new : RoundLauncher T E W) →
+  pub one_turn : (event : Option Incoming) (refusal : Option Refusal) (words : List ℕ) (old new : RoundLauncher T E W) →
       Heard calls stores holds stamped event refusal words old.host new.host → Goes (turned calls stores event refusal words old.host new.host ∷ []) old new
   one_turn event refusal words old new heard =
       record { are = (still (snapshot calls stores old.host), (heard.hears, heard.writable), still (snapshot calls stores new.host)) }
@@ -99,7 +98,7 @@ module _ {T E W : Type 0} (calls : E → Option (List ToldCall)) (stores : T →
   asks (rounds.further more a) = then_ {xs = []} {ys = []} (asks more) (asked a)
 
   reading : (old new : RoundLauncher T E W) (heard : HeardReading calls stores holds stamped old new) → Goes (of_reading calls stores holds stamped old new heard) old new
-  reading old new heard = one_turn (Some (journaled.Clock old.at)) heard.refusal heard.words old new heard.heard
+  reading old new heard = one_turn (Some (happened (journaled.Clock old.at))) heard.refusal heard.words old new heard.heard
 
   reads : (old new : RoundLauncher T E W) (r : Reads calls stores holds stamped old new) → Goes (of_reads calls stores holds stamped old new r) old new
   reads old new (inl own) = same own.1
@@ -123,11 +122,11 @@ module _ {T E W : Type 0} (calls : E → Option (List ToldCall)) (stores : T →
             (then_ {xs = []} {b = b.begun} (clock b.first b.begun b.reads) (news b.news.is_news b.begun new b.news.handed))).are;
       }
 
-  gives : (event : Option journal.Event) (refusal : Option Refusal) (words : List ℕ) (old new : RoundLauncher T E W) (g : Gives calls stores holds stamped event refusal words old new) →
+  gives : (event : Option Incoming) (refusal : Option Refusal) (words : List ℕ) (old new : RoundLauncher T E W) (g : Gives calls stores holds stamped event refusal words old new) →
       Goes (of_gives calls stores holds stamped event refusal words old new g) old new
   gives event refusal words old new g = then_ {b = g.mid} (reads old g.mid g.reading) (one_turn event refusal words g.mid new g.heard)
 
-  tells : (event : Option journal.Event) (refusal : Option Refusal) (old new : RoundLauncher T E W) (t : Tells calls stores holds stamped event refusal old new) →
+  tells : (event : Option Incoming) (refusal : Option Refusal) (old new : RoundLauncher T E W) (t : Tells calls stores holds stamped event refusal old new) →
       Goes (of_tells calls stores holds stamped event refusal old new t) old new
   tells event refusal old new t = gives event refusal t.words old new t.gives
 
@@ -162,7 +161,7 @@ module _ {T E W : Type 0} (calls : E → Option (List ToldCall)) (stores : T →
       (t : looks.TakesIf (DoesPath calls stores holds stamped) path seen old known new known') → Goes (of_sight calls stores holds stamped path seen old known new known' t) old new
   sight path None old known new known' none = same none.0
   sight path (Some obs) old known new known' (inl is) = record { are = (same is.1).are }
-  sight path (Some obs) old known new known' (inr differs) = tells (Some (journaled.Saw path obs)) differs.1.0 old new differs.1.1
+  sight path (Some obs) old known new known' (inr differs) = tells (Some (happened (journaled.Saw path obs))) differs.1.0 old new differs.1.1
 
   walk : {first : RoundLauncher T E W} {known : looks.Known} {n : ℕ} {path : List ℕ} {new : RoundLauncher T E W} {known' : looks.Known}
       (w : looks.Walks ListsNext (DoesPath calls stores holds stamped) first known n path new known') → Goes (of_walk calls stores holds stamped w) first new
@@ -174,8 +173,8 @@ module _ {T E W : Type 0} (calls : E → Option (List ToldCall)) (stores : T →
   serves : {old new : RoundLauncher T E W} (s : Serves (AnswersLine calls stores holds stamped) old new) → Goes (of_serves calls stores holds stamped s) old new
   serves {old = old} nobody = nothing old
   serves (one_more {line = line} {reply = reply} {mid = mid} {new = new} more answers) = then_ (serves more)
-      (subst (λ (r : RoundLauncher T E W). Goes (of_gives calls stores holds stamped (option_and_then asked_in (request_at line)) reply.refusal reply.text mid answers.mid answers.gives) mid r) (sym answers.noted)
-      (record { are = (gives (option_and_then asked_in (request_at line)) reply.refusal reply.text mid answers.mid answers.gives).are }))
+      (subst (λ (r : RoundLauncher T E W). Goes (of_gives calls stores holds stamped (asked_by line) reply.refusal reply.text mid answers.mid answers.gives) mid r) (sym answers.noted)
+      (record { are = (gives (asked_by line) reply.refusal reply.text mid answers.mid answers.gives).are }))
 
   client : (label : List ℕ) (job conn : ℕ) (answer : HandedIn) (old new : RoundLauncher T E W) (t : TellsCame calls stores holds stamped label job conn answer old new) →
       Goes (of_client calls stores holds stamped label job conn answer old new t) old new

@@ -2,12 +2,12 @@
 use Rattle.std.specs.Prelude.{◌≡◌, false, ⊤, List, [], ◌∷◌, ◌++◌, map, Option, Some}
 use Rattle.std.specs.List.{AllByRecursion}
 use Rattle.history_model.specs.declared.Refusal.{Refusal}
-use Rattle.history_model.specs.declared.event.Event as journal
 use Rattle.history_model.specs.declared.event.Event.TheVariants as journaled
 use Rattle.history_model.specs.Machine.{State, Sight}
 use Rattle.history_model.specs.Step.{Outcome, step}
 use Rattle.history_model.specs.LeftOut.{Line, HandedIn, LeftOut, HaveSeen, outcomes_handed, outcomes_left}
 use Rattle.job_table.specs.Taking.{machine_event}
+use Rattle.launcher.specs.Inputs.{Incoming, happened}
 use Rattle.launcher.specs.LoadTurns.{is_memory}
 use Rattle.launcher_laws.specs.TurnRuns.{Part, AreParts, outcomes_in}
 use Rattle.round_laws.specs.Marks.{Mark, Turned, Spared, turns_in}
@@ -25,14 +25,14 @@ pub record DecideAsOne {T : Type 0} (s : State) (marks : List (Mark T)) (parts :
   pub silent : AllByRecursion (λ (out : Outcome). out.orders ≡ []) (outcomes_left (lines_of marks parts) s)
 
 -- memory was not wanting, if this was a reading of the clocks
-abbrev pub HadMemory : Option journal.Event → Option Refusal → Type 0
-HadMemory (Some (journaled.Clock at)) refusal = is_memory refusal ≡ false
+abbrev pub HadMemory : Option Incoming → Option Refusal → Type 0
+HadMemory (Some (happened (journaled.Clock at))) refusal = is_memory refusal ≡ false
 HadMemory _ refusal = ⊤
 
 -- so at each reading that was handed in
 abbrev pub HeardReadings : {T : Type 0} → List (Mark T) → Type 0
 HeardReadings [] = ⊤
-HeardReadings (Turned turn ∷ marks) = HadMemory turn.event turn.refusal × HeardReadings marks
+HeardReadings (Turned turn ∷ marks) = HadMemory turn.incoming turn.refusal × HeardReadings marks
 HeardReadings (Spared event ∷ marks) = HeardReadings marks
 
 -- of each sight that the launcher was spared, each job which lists the path saw it so last

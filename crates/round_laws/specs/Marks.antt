@@ -5,6 +5,7 @@ use Rattle.history_model.specs.declared.event.Event as journal
 use Rattle.outside.specs.Stores.{StoreCall}
 use Rattle.child_edge.specs.Calls.{ToldCall}
 use Rattle.launcher.specs.declared.host.Host.{Host}
+use Rattle.launcher.specs.Inputs.{Incoming}
 use Rattle.launcher.specs.Hosts.{stands}
 use Rattle.launcher_laws.specs.TurnRuns.{Snapshot, Turn}
 
@@ -25,9 +26,9 @@ module _ {T E W : Type 0} (calls : E → Option (List ToldCall)) (stores : T →
   snapshot host = record { stands = stands calls stores host; store = host.store }
 
   -- the turn in which it heard this, and answered so
-  abbrev pub turned : Option journal.Event → Option Refusal → List ℕ → Host T E W → Host T E W → Mark T
+  abbrev pub turned : Option Incoming → Option Refusal → List ℕ → Host T E W → Host T E W → Mark T
   turned event refusal words old new = Turned (record {
-    event = event;
+    incoming = event;
     refusal = refusal;
     words = words;
     before = snapshot old;

@@ -1,15 +1,13 @@
 -- The marks of rounds: each turn that they made, in order, and each reading and sight of which the launcher heard nothing.
 use mathlib.Core.Logic.{inl, inr}
-use Rattle.std.specs.Prelude.{ℕ, Bool, true, false, List, [], ◌∷◌, ◌++◌, Option, Some, None, Result, Ok, Err, option_and_then}
+use Rattle.std.specs.Prelude.{ℕ, Bool, true, false, List, [], ◌∷◌, ◌++◌, Option, Some, None, Result, Ok, Err}
 use Rattle.history_model.specs.declared.Ended.{Ended}
 use Rattle.history_model.specs.declared.Obs.{Obs}
 use Rattle.history_model.specs.declared.Refusal.{Refusal}
-use Rattle.history_model.specs.declared.event.Event as journal
 use Rattle.history_model.specs.declared.event.Event.TheVariants as journaled
 use Rattle.history_model.specs.declared.event.JobItem.TheVariants as happens
 use Rattle.history_model.specs.declared.event.Setting.{Setting}
-use Rattle.ctl_protocol.specs.EventLines.{request_at}
-use Rattle.launcher.specs.Inputs.{asked_in, event_if_label}
+use Rattle.launcher.specs.Inputs.{Incoming, asked_by, event_if_label, happened}
 use Rattle.child_edge.specs.Calls.{ToldCall}
 use Rattle.child_edge.specs.declared.plain.EdgeFault.{EdgeFault}
 use Rattle.outside.specs.Stores.{Stamp, StoreCall}
@@ -46,7 +44,7 @@ module _ {T E W : Type 0} (calls : E → Option (List ToldCall)) (stores : T →
   -- a reading that was handed in
   abbrev pub of_reading : (old new : RoundLauncher T E W) → HeardReading calls stores holds stamped old new → List (Mark T)
   of_reading old new heard =
-      turned calls stores (Some (journaled.Clock old.at)) heard.refusal heard.words old.host new.host ∷ []
+      turned calls stores (Some (happened (journaled.Clock old.at))) heard.refusal heard.words old.host new.host ∷ []
 
   abbrev pub of_reads : (old new : RoundLauncher T E W) → Reads calls stores holds stamped old new → List (Mark T)
   of_reads old new (inl same) = []
@@ -69,12 +67,12 @@ module _ {T E W : Type 0} (calls : E → Option (List ToldCall)) (stores : T →
 
   -- ---- what is handed in behind the reading of the round
 
-  abbrev pub of_gives : (event : Option journal.Event) (refusal : Option Refusal) (words : List ℕ) (old new : RoundLauncher T E W) →
+  abbrev pub of_gives : (event : Option Incoming) (refusal : Option Refusal) (words : List ℕ) (old new : RoundLauncher T E W) →
       Gives calls stores holds stamped event refusal words old new → List (Mark T)
   of_gives event refusal words old new gives = of_reads old gives.mid gives.reading
       ++ turned calls stores event refusal words gives.mid.host new.host ∷ []
 
-  abbrev pub of_tells : (event : Option journal.Event) (refusal : Option Refusal) (old new : RoundLauncher T E W) →
+  abbrev pub of_tells : (event : Option Incoming) (refusal : Option Refusal) (old new : RoundLauncher T E W) →
       Tells calls stores holds stamped event refusal old new → List (Mark T)
   of_tells event refusal old new tells = of_gives event refusal tells.words old new tells.gives
 
@@ -106,7 +104,7 @@ module _ {T E W : Type 0} (calls : E → Option (List ToldCall)) (stores : T →
   of_sight path None old known new known' none = []
   of_sight path (Some obs) old known new known' (inl same) = Spared (journaled.Saw path obs) ∷ []
   of_sight path (Some obs) old known new known' (inr differs) =
-      of_tells (Some (journaled.Saw path obs)) differs.1.0 old new differs.1.1
+      of_tells (Some (happened (journaled.Saw path obs))) differs.1.0 old new differs.1.1
 
   abbrev pub of_walk : {first : RoundLauncher T E W} {known : looks.Known} {n : ℕ} {path : List ℕ} {new : RoundLauncher T E W} {known' : looks.Known} →
       looks.Walks ListsNext (DoesPath calls stores holds stamped) first known n path new known' → List (Mark T)
@@ -119,7 +117,7 @@ module _ {T E W : Type 0} (calls : E → Option (List ToldCall)) (stores : T →
   abbrev pub of_serves : {old new : RoundLauncher T E W} → Serves (AnswersLine calls stores holds stamped) old new → List (Mark T)
   of_serves nobody = []
   of_serves (one_more {line = line} {reply = reply} {mid = mid} serves answers) = of_serves serves
-      ++ of_gives (option_and_then asked_in (request_at line)) reply.refusal reply.text mid answers.mid answers.gives
+      ++ of_gives (asked_by line) reply.refusal reply.text mid answers.mid answers.gives
 
   abbrev pub of_client : (label : List ℕ) (job conn : ℕ) (answer : HandedIn) (old new : RoundLauncher T E W) →
       TellsCame calls stores holds stamped label job conn answer old new → List (Mark T)
