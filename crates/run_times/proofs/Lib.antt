@@ -1,4 +1,5 @@
 pub mod AxisLemmas
 pub mod BarsLemmas
+pub mod GrowingLemmas
 pub mod NextRunLemmas
 pub mod WrittenLemmas

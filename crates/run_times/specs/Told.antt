@@ -1,5 +1,6 @@
 -- What is told of a job to find its next run.
-use Rattle.std.specs.Prelude.{◌≡◌, ℕ, List, Option}
+use Rattle.std.specs.Prelude.{◌≡◌, ℕ, ◌+◌, ◌*◌, nat_le, min, List, Option}
+use Rattle.history_model.specs.declared.TheConstants.{SECOND, MAX_WALL}
 use Rattle.history_model.specs.declared.Reading.{Reading}
 use Rattle.history_model.specs.declared.Entry.{Entry}
 use Rattle.history_model.specs.declared.reasons.Reasons.{Reasons}
@@ -17,3 +18,10 @@ pub record IsTold (reasons : Reasons) (spawns_from : Option ℕ) (entries : List
   pub calendar : entries ≡ (clock.definition_of past).calendar
   pub present : now ≡ clock.now past
   pub period : HasPeriod past
+
+-- the second of `wall` at which the moment of `up` is over, if both clocks go on alike: the least
+-- number of whole seconds behind that of the reading, as far as a reading may go
+pub record ComesAt (now : Reading) (up second : ℕ) : Type 0 where
+  pub seconds : ℕ
+  pub least : (d : ℕ) → nat_le up (now.up + SECOND * d) ≡ nat_le seconds d
+  pub shown : second ≡ min (now.wall + seconds) MAX_WALL

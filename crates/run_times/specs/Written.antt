@@ -1,7 +1,8 @@
 -- What a text that is written piece by piece comes to.
-use Rattle.std.specs.Prelude.{ℕ, ◌++◌, ◌/◌, ◌%◌, List}
+use Rattle.std.specs.Prelude.{◌≡◌, ℕ, ◌++◌, ◌/◌, ◌%◌, false, List, string_bytes}
 use Rattle.std.specs.Fmt.{decimal}
 use Rattle.std.specs.List.{flat_map}
+use Rattle.run_times.specs.declared.ink.Ink.{Ink}
 use Rattle.run_times.specs.declared.ink.Piece.{Piece}
 use Rattle.run_times.specs.declared.ink.Piece.TheVariants.{Text, Number, TwoDigits}
 
@@ -14,3 +15,12 @@ piece_text (TwoDigits number) = decimal (number / 10 % 10) ++ decimal (number % 
 -- the bytes of the pieces, one behind the other
 abbrev pub pieces_text : List Piece → List ℕ
 pieces_text pieces = flat_map piece_text pieces
+
+-- this stands behind what was written before, unless memory was refused; and a refusal stays
+pub record Adds (text : List ℕ) (old new : Ink) : Type 0 where
+  pub kept : new.is_refused ≡ false → old.is_refused ≡ false
+  pub added : new.is_refused ≡ false → string_bytes new.text ≡ string_bytes old.text ++ text
+
+-- some text does
+abbrev pub Grows : Ink → Ink → Type 0
+Grows old new = (text : List ℕ) × Adds text old new

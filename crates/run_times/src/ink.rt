@@ -2,7 +2,7 @@
 
 ghost use Rattle.std.specs.Prelude.{◌≡◌, ◌++◌, ◌↔◌, [], false, true, IfOk, IsOk, OnErr, string_bytes, encode_utf8};
 ghost use Rattle.std.specs.Fmt.{decimal};
-ghost use Rattle.run_times.specs.Written.{piece_text, pieces_text};
+ghost use Rattle.run_times.specs.Written.{piece_text, pieces_text, Grows};
 
 use crate::moment::time_text;
 use crate::span::span_pieces;
@@ -120,6 +120,7 @@ impl Ink {
         ensures added { IfOk made (λ part. self.new.is_refused ≡ false → string_bytes self.new.text ≡ string_bytes self.old.text ++ string_bytes part) }
         ensures refused { OnErr made (self.new.is_refused ≡ true) }
         ensures kept { self.new.is_refused ≡ false → self.old.is_refused ≡ false }
+        ensures grows { Grows self.old self.new }
     {
         match made {
             Ok(part) => self.put(part.as_str()),
@@ -137,7 +138,7 @@ impl Ink {
     /// Adds the span by its two greatest units, as `3 days 22 h`, `5 min 10 s` or `7 s`; with `has_tenths` one below a minute as `4.2 s`.
     /// What is less is dropped.
     pub fn put_span(&mut self, milliseconds: u64, has_tenths: bool)
-        ensures kept { self.new.is_refused ≡ false → self.old.is_refused ≡ false }
+        ensures grows { Grows self.old self.new }
     {
         self.put_all(&span_pieces(milliseconds, has_tenths));
     }

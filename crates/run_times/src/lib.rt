@@ -14,5 +14,5 @@ pub mod telling;
 pub use escape::{escaped, is_unwritable};
 pub use ink::{Ink, Piece};
 pub use moment::{time_text, utc};
-pub use next::next_run;
-pub use page::{Hole, Page};
+pub use next::{coming_second, next_run};
+pub use page::{Filling, Page};

@@ -8,7 +8,7 @@ ghost use Rattle.history_model.specs.NextMomentByFacts.{has_come, sooner};
 ghost use Rattle.history_model.specs.Reasons.{needs_event};
 ghost use Rattle.history_model.specs.NextRun.{spawns_after, looked_ahead, IsNextRun};
 ghost use Rattle.calendar_due.specs.ZoneRules.{minute_at};
-ghost use Rattle.run_times.specs.Told.{IsTold};
+ghost use Rattle.run_times.specs.Told.{IsTold, ComesAt};
 
 use calendar_due::{Calendar, Zone};
 use history_model::{CALENDAR_REACH, Entry, MAX_UP, MAX_WALL, Reading, Reasons, SECOND};
@@ -108,6 +108,15 @@ fn seconds_until(moment: u64, up: u64) -> u64
     } else {
         left / SECOND + 1
     }
+}
+
+/// The second of `wall` at which a moment of `up` is over, if both clocks go on alike from the reading on: by whole seconds, and no later than
+/// a reading may be. The reading's own second if the moment is over.
+pub fn coming_second(now: Reading, up: u64) -> u64
+    ensures { ComesAt now up result }
+{
+    let seconds = seconds_until(up, now.up);
+    now.wall.saturating_add(seconds).min(MAX_WALL)
 }
 
 /// The least number of seconds after which a calendar entry has fired, the throttle is over, and no event is needed. Without entries no

@@ -1,8 +1,11 @@
 //! A text that grows by forms with holes, and the clock by which it tells moments.
 
+ghost use Rattle.run_times.specs.Written.{Grows};
+
 use crate::escape::escaped;
 use crate::ink::Ink;
 use crate::moment::time_text;
+use crate::next::coming_second;
 use calendar_due::Zone;
 use history_model::{MAX_WALL, Reading};
 use std::alloc::{AllocError, Global};
@@ -20,7 +23,7 @@ pub struct Page<'a> {
 
 /// What is put into a hole.
 #[derive(Clone, Copy)]
-pub enum Hole<'a> {
+pub enum Filling<'a> {
     /// A text as it is.
     Text(&'a str),
     /// A text as it is written within XML or HTML.
@@ -42,7 +45,7 @@ pub enum Hole<'a> {
 
 /// How a moment is shown.
 #[derive(Clone, Copy)]
-enum Look {
+enum MomentLook {
     Whole,
     /// The time of the day alone, if all else is as of the present reading.
     Short,
@@ -93,8 +96,10 @@ impl<'a> Page<'a> {
     }
 
     /// Adds the form, in which each `$` stands for the next of the holes or, with a digit behind it, for the hole of that number, from 0.
-    /// Holes for which there is no `$` are left out.
-    pub fn add(&mut self, form: &str, holes: &[Hole<'_>]) {
+    /// Holes for which there is no `$` are left out. What is written stays.
+    pub fn add(&mut self, form: &str, holes: &[Filling<'_>])
+        ensures grows { Grows self.old.ink self.new.ink }
+    {
         let mut parts = form.split('$');
         self.ink.put(parts.next().unwrap_or(""));
         let mut next: usize = 0;
@@ -106,33 +111,38 @@ impl<'a> Page<'a> {
         }
     }
 
-    fn add_hole(&mut self, hole: Option<&Hole<'_>>) {
+    fn add_hole(&mut self, hole: Option<&Filling<'_>>)
+        ensures grows { Grows self.old.ink self.new.ink }
+    {
         let Some(hole) = hole else {
             return;
         };
         match *hole {
-            Hole::Text(part) => self.ink.put(part),
-            Hole::Escaped(part) => self.ink.put_made(escaped(self.alloc, part)),
-            Hole::Number(number) => self.ink.put_number(number),
-            Hole::Now => self.ink.put(self.moment.text.as_str()),
-            Hole::Span(length) => self.ink.put_span(length, true),
-            Hole::Moment(wall) => self.add_moment(wall, Look::Whole),
-            Hole::Time(wall) => self.add_moment(wall, Look::Short),
-            Hole::Coming(up) => {
-                let seconds = up.saturating_sub(self.now.up).div_ceil(1000);
-                self.add_moment(self.now.wall.saturating_add(seconds), Look::Short);
+            Filling::Text(part) => self.ink.put(part),
+            Filling::Escaped(part) => self.ink.put_made(escaped(self.alloc, part)),
+            Filling::Number(number) => self.ink.put_number(number),
+            Filling::Now => self.ink.put(self.moment.text.as_str()),
+            Filling::Span(length) => self.ink.put_span(length, true),
+            Filling::Moment(wall) => self.add_moment(wall, MomentLook::Whole),
+            Filling::Time(wall) => self.add_moment(wall, MomentLook::Short),
+            Filling::Coming(up) => {
+                self.add_moment(coming_second(self.now, up), MomentLook::Short);
             }
-            Hole::Minute(wall) => self.add_moment(wall, Look::Minute),
+            Filling::Minute(wall) => self.add_moment(wall, MomentLook::Minute),
         }
     }
 
-    fn add_moment(&mut self, wall: u64, look: Look) {
+    fn add_moment(&mut self, wall: u64, look: MomentLook)
+        ensures grows { Grows self.old.ink self.new.ink }
+    {
         match time_text(self.alloc, self.zone, wall.min(MAX_WALL)) {
             Ok(text) => {
                 let moment = text.as_str();
                 let (date, from, until) = match look {
-                    Look::Minute => (10, 14, 20),
-                    Look::Short if is_same_day(moment, self.moment.text.as_str()) => (0, 15, 23),
+                    MomentLook::Minute => (10, 14, 20),
+                    MomentLook::Short if is_same_day(moment, self.moment.text.as_str()) => (
+                        0, 15, 23,
+                    ),
                     _ => (moment.len(), 0, 0),
                 };
                 self.ink.put(moment.get(..date).unwrap_or(""));

@@ -8,7 +8,7 @@ use Rattle.loaded_jobs.specs.StandsFor.{KeepsState}
 use Rattle.loaded_jobs.specs.TableOutcomes.{IsNextTable}
 use Rattle.table_opening.specs.JournalEvents.{event_in}
 use Rattle.scope.specs.Journals.{KeepsLines, StandsAfter, HearsLine, HearsLines, with_line}
-use Rattle.scope.specs.declared.journal.reader.Journal.{Journal}
+use Rattle.scope.specs.declared.journal.reader.OpenJournal.{OpenJournal}
 
 run_one : (es : List Event) (e : Event) (s : State) → run (es ++ e ∷ []) s ≡ step (run es s) e
 run_one [] e s = refl
@@ -22,7 +22,7 @@ keeps_on old new line (header ∷ lines) next (s, opens, keeps) =
     (s, opens, subst (KeepsState new) (sym all) (next (run (map event_in lines) s) keeps))
 
 -- the journal that was open heard a line that is no header
-pub hears_on : (at : Option Journal) (old new : Journal) (line : List ℕ) (is_header : Bool) → at ≡ Some old → is_header ≡ false → IsNextTable (event_in line) old.table new.table
+pub hears_on : (at : Option OpenJournal) (old new : OpenJournal) (line : List ℕ) (is_header : Bool) → at ≡ Some old → is_header ≡ false → IsNextTable (event_in line) old.table new.table
     → HearsLine StandsAfter at line is_header (Some new)
 hears_on at old new line is_header is later next = λ lines stands.
     subst (λ b. KeepsLines (with_line b lines line) (Some new.table)) (sym later) (keeps_on old.table new.table line lines next (subst (λ a. StandsAfter a lines) is stands))

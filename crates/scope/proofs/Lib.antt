@@ -1,1 +1,5 @@
+pub mod CausesLemmas
+pub mod FactsLemmas
 pub mod HearingLemmas
+pub mod LineLemmas
+pub mod ReadingLemmas

@@ -3,10 +3,10 @@
 ghost use Rattle.std.specs.Prelude.{◌≡◌, IfSome, option_map};
 ghost use Rattle.scope.specs.RunBars.{run_bar_end};
 
-use crate::journal::job::Asked;
+use crate::journal::job::JobRequest;
 use crate::journal::news::{News, What};
 use crate::journal::past::Past;
-use crate::journal::run::{Run, RunEnd};
+use crate::journal::run::{JobRun, RunEnd};
 use crate::texts::log::is_named;
 use history_model::Text;
 use run_times::picture::{Axis, Bar, Chart, End, MarkKind, PLACES, Row};
@@ -18,7 +18,7 @@ const MOST_MARKS: usize = 65_536;
 
 /// A mark, and the serial number of its job.
 #[derive(Clone, Copy)]
-pub(crate) struct Kept {
+pub(crate) struct KeptMark {
     job: u64,
     kind: MarkKind,
     at: u64,
@@ -26,9 +26,9 @@ pub(crate) struct Kept {
 
 /// What is kept of the lines that were read, of all jobs or of those that are named.
 #[derive(Drop)]
-pub(crate) struct Heard<'a> {
+pub(crate) struct HeardMarks<'a> {
     pub(crate) labels: &'a [Text],
-    pub(crate) marks: VecDeque<Kept>,
+    pub(crate) marks: VecDeque<KeptMark>,
     pub(crate) dropped: u64,
     /// How many refusals were of jobs that were not loaded before.
     pub(crate) rowless: u64,
@@ -39,10 +39,10 @@ pub(crate) struct Heard<'a> {
     pub(crate) until: u64,
 }
 
-impl Heard<'_> {
+impl HeardMarks<'_> {
     /// Nothing is heard yet of the jobs with these labels, or of all.
-    pub(crate) fn new(alloc: Global, labels: &[Text]) -> Heard<'_> {
-        Heard {
+    pub(crate) fn new(alloc: Global, labels: &[Text]) -> HeardMarks<'_> {
+        HeardMarks {
             labels,
             marks: VecDeque::new(alloc),
             dropped: 0,
@@ -80,14 +80,16 @@ impl Heard<'_> {
             let _oldest = self.marks.pop_front();
             self.dropped = self.dropped.saturating_add(1);
         }
-        Ok(self.marks.push_back(Kept { job, kind, at })?)
+        Ok(self.marks.push_back(KeptMark { job, kind, at })?)
     }
 }
 
 // The mark that an event of a journal makes, if it makes one.
 fn mark_of(what: &What) -> Option<MarkKind> {
     match what {
-        What::Asked(Asked::Start | Asked::Kickstart | Asked::Strike) => Some(MarkKind::Demand),
+        What::Asked(JobRequest::Start | JobRequest::Kickstart | JobRequest::Strike) => Some(
+            MarkKind::Demand,
+        ),
         What::Came(_) => Some(MarkKind::Demand),
         What::Ordered { wants, .. } if wants.demand => Some(MarkKind::Demand),
         What::LoadRefused(_) | What::Declined(_, _) | What::NotBegun { .. } => {
@@ -102,7 +104,7 @@ fn mark_of(what: &What) -> Option<MarkKind> {
 
 /// The bar of a run: from its begin to its end, or to the end of the axis if it lives. None for one that did not begin: its order is
 /// not answered, or was refused.
-pub(crate) fn bar_of(axis: &Axis, run: &Run) -> Option<Bar>
+pub(crate) fn bar_of(axis: &Axis, run: &JobRun) -> Option<Bar>
     ensures begin { IfSome result (λ bar. bar.from ≡ run.now.begun.wall) }
     ensures end { option_map (λ bar. bar.until) result ≡ run_bar_end run.now.end axis.now.until run.now.ended.wall }
     ensures one { IfSome result (λ bar. (bar.run ≡ run.now.run) × (bar.runs ≡ 1)) }
@@ -120,7 +122,11 @@ pub(crate) fn bar_of(axis: &Axis, run: &Run) -> Option<Bar>
 }
 
 /// The chart of the journal's jobs, or of those named that it has.
-pub(crate) fn chart_of(alloc: Global, past: &Past, heard: &Heard<'_>) -> Result<Chart, AllocError> {
+pub(crate) fn chart_of(
+    alloc: Global,
+    past: &Past,
+    heard: &HeardMarks<'_>,
+) -> Result<Chart, AllocError> {
     let mut rows = Rows {
         chart: Chart {
             axis: Axis::new(heard.from, heard.until, PLACES),
@@ -151,7 +157,12 @@ struct Rows {
 }
 
 impl Rows {
-    fn fill(&mut self, alloc: Global, past: &Past, heard: &Heard<'_>) -> Result<(), AllocError> {
+    fn fill(
+        &mut self,
+        alloc: Global,
+        past: &Past,
+        heard: &HeardMarks<'_>,
+    ) -> Result<(), AllocError> {
         for (label, job) in &past.jobs {
             if is_named(heard.labels, label.as_str()) {
                 self.add_job(alloc, label.as_str(), job.record.serial)?;
@@ -178,7 +189,7 @@ impl Rows {
     }
 
     // The runs that are over and kept, and those that live.
-    fn add_runs(&mut self, past: &Past, heard: &Heard<'_>) -> Result<(), AllocError> {
+    fn add_runs(&mut self, past: &Past, heard: &HeardMarks<'_>) -> Result<(), AllocError> {
         let mut drawn: u64 = 0;
         for run in &past.runs {
             if self.add_run(run)? {
@@ -195,7 +206,7 @@ impl Rows {
     }
 
     // Whether the run began and has a row.
-    fn add_run(&mut self, run: &Run) -> Result<bool, AllocError> {
+    fn add_run(&mut self, run: &JobRun) -> Result<bool, AllocError> {
         let axis = self.chart.axis;
         let (Some(place), Some(bar)) = (
             place_of(self.places.as_slice(), run.job),
@@ -213,7 +224,7 @@ impl Rows {
     }
 
     // The mark of a job that was forgotten meanwhile counts among those that are missing.
-    fn add_mark(&mut self, mark: &Kept) -> Result<(), AllocError> {
+    fn add_mark(&mut self, mark: &KeptMark) -> Result<(), AllocError> {
         let axis = self.chart.axis;
         let Some(place) = place_of(self.places.as_slice(), mark.job) else {
             self.chart.missing_marks = self.chart.missing_marks.saturating_add(1);

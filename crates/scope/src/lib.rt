@@ -12,5 +12,10 @@ mod report;
 mod texts;
 mod zone;
 
-pub use journal::telling::{Cause, causes};
+pub use journal::facts::JobFacts;
+pub use journal::fault::JournalFault;
+pub use journal::lines::{Hears, JournalLines};
+pub use journal::reader::{OpenJournal, open};
+pub use journal::source::read_source;
+pub use journal::telling::{JobCause, causes};
 pub use program::jobscope;

@@ -3,14 +3,14 @@
 ghost use Rattle.std.specs.Prelude.{IfOk};
 ghost use Rattle.scope.specs.Journals.{HearsLine, StandsAfter};
 
-use crate::charted::Heard;
+use crate::charted::HeardMarks;
 use crate::journal::fault::JournalFault;
 use crate::journal::lines::Hears;
-use crate::journal::reader::{Journal, open};
+use crate::journal::reader::{OpenJournal, open};
 use crate::texts::log::add_lines;
 use calendar_due::Zone;
 use launchctl_words::{ScopeCommand, Task};
-use run_times::Hole::Now;
+use run_times::Filling::Now;
 use run_times::{Page, utc};
 use std::alloc::{AllocError, Global};
 use std::mem;
@@ -18,23 +18,23 @@ use std::mem;
 /// What hears each line of a journal: it is taken in by the journal; for a picture the marks of a chart are kept, and for a log its lines are
 /// shown. Else the journal's end says all.
 #[derive(Drop)]
-pub(crate) struct Listener<'a> {
+pub(crate) struct JournalListener<'a> {
     alloc: Global,
     pub(crate) of: &'a ScopeCommand,
     /// The journal, if its header was read.
-    pub(crate) journal: Option<Journal>,
-    pub(crate) heard: Heard<'a>,
+    pub(crate) journal: Option<OpenJournal>,
+    pub(crate) heard: HeardMarks<'a>,
     pub(crate) utc: Zone,
 }
 
-impl Listener<'_> {
+impl JournalListener<'_> {
     /// Nothing is heard yet of what the command asks for.
-    pub(crate) fn new(alloc: Global, of: &ScopeCommand) -> Listener<'_> {
-        Listener {
+    pub(crate) fn new(alloc: Global, of: &ScopeCommand) -> JournalListener<'_> {
+        JournalListener {
             alloc,
             of,
             journal: None,
-            heard: Heard::new(alloc, of.words.as_slice()),
+            heard: HeardMarks::new(alloc, of.words.as_slice()),
             utc: utc(),
         }
     }
@@ -57,7 +57,7 @@ impl Listener<'_> {
     }
 }
 
-impl Hears for Listener<'_> {
+impl Hears for JournalListener<'_> {
     ghost stands = { λ listener lines. StandsAfter listener.journal lines };
 
     fn hear(
@@ -94,7 +94,7 @@ pub(crate) fn zone_shown<'a>(of: &ScopeCommand, utc: &'a Zone, journals: &'a Zon
 fn add_shown(
     alloc: Global,
     of: &ScopeCommand,
-    journal: &Journal,
+    journal: &OpenJournal,
     zone: &Zone,
     is_header: bool,
     shown: &mut String,

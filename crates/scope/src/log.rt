@@ -1,8 +1,8 @@
 //! A journal's events for people, as they come.
 
 use crate::journal::fault::{JournalFault, tell_fault};
-use crate::journal::lines::{Hears, Lines};
-use crate::journal::source::{Source, open_journal, read_source, tell_bad};
+use crate::journal::lines::{Hears, JournalLines};
+use crate::journal::source::{open_journal, read_source, tell_bad};
 use std::alloc::Global;
 use std::fs::File;
 use std::io::{ErrorKind, Read, Seek, SeekFrom};
@@ -20,7 +20,7 @@ pub(crate) fn follow<W: Wait, H: Hears>(
     waits: &W,
     alloc: Global,
     path: &str,
-    lines: &mut Lines,
+    lines: &mut JournalLines,
     hearer: &mut H,
 ) -> io::Result<u8> {
     let mut told: u64 = 0;
@@ -43,14 +43,13 @@ fn look<H: Hears>(
     host: &HostRuntime,
     alloc: Global,
     path: &str,
-    lines: &mut Lines,
+    lines: &mut JournalLines,
     hearer: &mut H,
 ) -> Result<(), JournalFault> {
     match reopened(host, alloc, path, lines) {
-        Ok(file) => {
-            let mut source = Source::File(file);
-            let shown = read_source(host, &mut source, false, lines, hearer);
-            drop(source);
+        Ok(mut file) => {
+            let shown = read_source(host, &mut file, false, lines, hearer);
+            drop(file);
             shown
         }
         Err(error) if error.kind() == ErrorKind::NotFound && lines.offset > 0 => Ok(()),
@@ -60,7 +59,12 @@ fn look<H: Hears>(
 
 // Opens the file where it was read up to. If it is shorter than that, or begins otherwise, it is another journal: it is read from its
 // beginning.
-fn reopened(host: &HostRuntime, alloc: Global, path: &str, lines: &mut Lines) -> io::Result<File> {
+fn reopened(
+    host: &HostRuntime,
+    alloc: Global,
+    path: &str,
+    lines: &mut JournalLines,
+) -> io::Result<File> {
     let mut file = open_journal(host, path)?;
     match go_on(alloc, &mut file, lines) {
         Ok(()) => Ok(file),
@@ -71,15 +75,15 @@ fn reopened(host: &HostRuntime, alloc: Global, path: &str, lines: &mut Lines) ->
     }
 }
 
-fn go_on(alloc: Global, file: &mut File, lines: &mut Lines) -> io::Result<()> {
+fn go_on(alloc: Global, file: &mut File, lines: &mut JournalLines) -> io::Result<()> {
     if is_other(alloc, file, lines)? {
-        drop(mem::replace(lines, Lines::new(alloc)));
+        drop(mem::replace(lines, JournalLines::new(alloc)));
     }
     file.seek(SeekFrom::Start(lines.offset))?;
     Ok(())
 }
 
-fn is_other(alloc: Global, file: &File, lines: &Lines) -> io::Result<bool> {
+fn is_other(alloc: Global, file: &File, lines: &JournalLines) -> io::Result<bool> {
     let length = file.metadata()?.len();
     let mut head = Vec::new(alloc);
     let _count = file.take(lines.head.len() as u64).read_to_end(&mut head)?;

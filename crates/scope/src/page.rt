@@ -1,16 +1,17 @@
 //! The coming starts that stand on a page.
 
-use crate::journal::reader::Journal;
+use crate::journal::reader::OpenJournal;
 use definition_files::calendar_after;
-use history_model::{MAX_WALL, Reading, SECOND};
+use history_model::Reading;
 use job_table::JobTable;
+use run_times::coming_second;
 use run_times::picture::{Chart, Coming};
 use std::alloc::{AllocError, Global};
 
 /// The next start by the calendar and the next by the interval of each job of the chart that is loaded, in the order of time.
 pub(crate) fn coming_of(
     alloc: Global,
-    journal: &Journal,
+    journal: &OpenJournal,
     chart: &Chart,
 ) -> Result<Vec<Coming>, AllocError> {
     let now = journal.table.reading();
@@ -47,6 +48,5 @@ fn add(
 // The second at which the present interval is over, if there is one.
 fn interval_end(table: &JobTable, label: &str, now: Reading) -> Option<u64> {
     let up = table.moments(label)?.interval?;
-    let ahead = up.saturating_sub(now.up).div_ceil(SECOND);
-    Some(now.wall.saturating_add(ahead).min(MAX_WALL))
+    Some(coming_second(now, up))
 }

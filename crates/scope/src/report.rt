@@ -1,12 +1,12 @@
 //! What is told of a journal: its events, as they are read or as they come, and once it was read to its end why each job stands as it
 //! does, what its runs came to, and their picture.
 
-use crate::charted::{Heard, chart_of};
+use crate::charted::{HeardMarks, chart_of};
 use crate::journal::fault::tell_fault;
-use crate::journal::lines::Lines;
-use crate::journal::reader::Journal;
+use crate::journal::lines::JournalLines;
+use crate::journal::reader::OpenJournal;
 use crate::journal::source::{INPUT, journal_path, read_journal, tell_bad};
-use crate::listener::{Listener, zone_shown};
+use crate::listener::{JournalListener, zone_shown};
 use crate::log::follow;
 use crate::page::coming_of;
 use crate::texts::runs::runs_table;
@@ -34,8 +34,8 @@ pub(crate) fn report<W: Wait>(
     of: &ScopeCommand,
 ) -> io::Result<u8> {
     let path = journal_path(host, of)?;
-    let mut lines = Lines::new(alloc);
-    let mut listener = Listener::new(alloc, of);
+    let mut lines = JournalLines::new(alloc);
+    let mut listener = JournalListener::new(alloc, of);
     let status = match &path {
         Some(path) if of.follows => {
             follow(host, waits, alloc, path.as_str(), &mut lines, &mut listener)
@@ -52,8 +52,8 @@ fn report_by(
     host: &HostRuntime,
     alloc: Global,
     path: &Option<String>,
-    lines: &mut Lines,
-    listener: &mut Listener<'_>,
+    lines: &mut JournalLines,
+    listener: &mut JournalListener<'_>,
 ) -> io::Result<u8> {
     let path = match path {
         Some(path) => Some(path.as_str()),
@@ -75,7 +75,11 @@ fn report_by(
 }
 
 // What the journal's end says. A log was written as it was read.
-fn write_report(host: &HostRuntime, alloc: Global, listener: &Listener<'_>) -> io::Result<()> {
+fn write_report(
+    host: &HostRuntime,
+    alloc: Global,
+    listener: &JournalListener<'_>,
+) -> io::Result<()> {
     let Some(journal) = &listener.journal else {
         return Ok(());
     };
@@ -97,9 +101,9 @@ fn write_report(host: &HostRuntime, alloc: Global, listener: &Listener<'_>) -> i
 fn paint(
     host: &HostRuntime,
     alloc: Global,
-    journal: &Journal,
+    journal: &OpenJournal,
     zone: &Zone,
-    heard: &Heard<'_>,
+    heard: &HeardMarks<'_>,
     of: &ScopeCommand,
 ) -> io::Result<()> {
     let labels = of.words.as_slice();
@@ -131,7 +135,7 @@ fn columns(host: &HostRuntime) -> u16 {
 fn paint_page(
     host: &HostRuntime,
     alloc: Global,
-    journal: &Journal,
+    journal: &OpenJournal,
     zone: &Zone,
     chart: &Chart,
     labels: &[Text],

@@ -1,7 +1,10 @@
 //! The texts that are written of a journal: why each job stands as it does, what its runs came to, and the journal for people.
 
+pub(crate) mod by_facts;
+pub(crate) mod cause_lines;
 pub(crate) mod causes;
 pub(crate) mod coming;
+pub(crate) mod fronts;
 pub(crate) mod log;
 pub(crate) mod runs;
 pub(crate) mod told;

@@ -3,7 +3,7 @@
 use crate::escape::is_unwritable;
 use crate::ink::Ink;
 use crate::ink::Piece::{Number, Text};
-use crate::page::Hole::Moment;
+use crate::page::Filling::Moment;
 use crate::page::Page;
 use crate::picture::axis::Axis;
 use crate::picture::chart::{Bar, Chart, Mark, Row, grade};

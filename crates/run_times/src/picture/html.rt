@@ -1,6 +1,6 @@
 //! A page that stands alone: the chart, the table of the runs, why each job stands as it does, and the coming starts. No script.
 
-use crate::page::Hole::{Escaped, Moment, Text};
+use crate::page::Filling::{Escaped, Moment, Text};
 use crate::page::Page;
 
 /// A start that the clock will want.

@@ -1,6 +1,6 @@
 //! The chart as SVG.
 
-use crate::page::Hole::{Escaped, Moment, Number, Text};
+use crate::page::Filling::{Escaped, Moment, Number, Text};
 use crate::page::Page;
 use crate::picture::axis::Axis;
 use crate::picture::chart::{Bar, Chart, Mark, Row, grade};

@@ -7,7 +7,7 @@ use std::io::ErrorKind;
 
 /// What keeps a journal from being read.
 #[derive(Drop)]
-pub(crate) enum JournalFault {
+pub enum JournalFault {
     NoMemory,
     /// The journal has no line, or none that is whole.
     NoHeader,

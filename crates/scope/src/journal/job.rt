@@ -1,13 +1,14 @@
 //! What is kept of one job: of its present load, and over all its loads.
 
 use crate::journal::news::{Wait, What};
-use crate::journal::run::{Run, RunEnd, is_crash};
+use crate::journal::run::{JobRun, RunEnd, is_crash};
 use history_model::{Answer, DemandKind, Ended, JobItem, Reading};
 use job_defs::Def;
+use pace::Signal;
 
 /// What was asked of a job, by a control client.
 #[derive(Clone, Copy)]
-pub(crate) enum Asked {
+pub(crate) enum JobRequest {
     Start,
     Stop,
     Kickstart,
@@ -54,7 +55,7 @@ const NOTHING: Totals = Totals {
 
 /// A job that is or was loaded.
 #[derive(Drop)]
-pub(crate) struct Job {
+pub(crate) struct KeptJob {
     /// Its definition, while it is loaded.
     pub(crate) def: Option<Def>,
     pub(crate) record: Record,
@@ -71,15 +72,15 @@ pub(crate) struct Record {
     pub(crate) starts: u64,
     pub(crate) ends: u64,
     /// The run whose order is not answered, or that lives.
-    pub(crate) current: Option<Run>,
+    pub(crate) current: Option<JobRun>,
     /// The run of this load that ended last; a refused one does not count.
-    pub(crate) last: Option<Run>,
+    pub(crate) last: Option<JobRun>,
     /// The last start of this load that was refused, if none went well after it.
-    pub(crate) refused: Option<Run>,
+    pub(crate) refused: Option<JobRun>,
     /// When the last start of this load was ordered.
     pub(crate) ordered: Option<Reading>,
     /// The last stop, strike or unload since the last start was ordered, and which of the questions to all jobs it was.
-    pub(crate) asked: Option<(Asked, Reading)>,
+    pub(crate) asked: Option<(JobRequest, Reading)>,
     pub(crate) ask: u64,
     /// Whether the system refused to wait for the present run.
     pub(crate) is_lost: bool,
@@ -128,7 +129,7 @@ impl Record {
     pub(crate) fn order(&mut self, run: u64, demand: Option<DemandKind>, at: Reading) {
         self.starts = self.starts.saturating_add(1);
         self.totals.starts = self.totals.starts.saturating_add(1);
-        self.current = Some(Run::ordered(self.serial, run, demand, at));
+        self.current = Some(JobRun::ordered(self.serial, run, demand, at));
         self.ordered = Some(at);
         self.asked = None;
         self.is_lost = false;
@@ -136,15 +137,14 @@ impl Record {
         self.kill = None;
     }
 
-    /// TERM or KILL was ordered for the present run.
-    pub(crate) fn tell(&mut self, kills: bool, at: Reading) {
+    /// A signal was ordered for the present run.
+    pub(crate) fn tell(&mut self, signal: Signal, at: Reading) {
         if let Some(run) = &mut self.current {
             run.is_ordered_to_end = true;
         }
-        if kills {
-            self.kill = Some(at);
-        } else {
-            self.term = self.term.or(Some(at));
+        match signal {
+            Signal::Term => self.term = self.term.or(Some(at)),
+            Signal::Kill => self.kill = Some(at),
         }
     }
 
@@ -155,7 +155,7 @@ impl Record {
         item: JobItem,
         wait: Wait,
         at: Reading,
-    ) -> (Option<What>, Option<Run>) {
+    ) -> (Option<What>, Option<JobRun>) {
         match item {
             JobItem::Asked(_) => (None, None),
             JobItem::Came(conn) => (Some(What::Came(conn)), None),
@@ -178,15 +178,15 @@ impl Record {
         answer: Answer,
         wait: Wait,
         at: Reading,
-    ) -> (Option<What>, Option<Run>) {
+    ) -> (Option<What>, Option<JobRun>) {
         match answer {
             Answer::Spawned { run, pid } => {
                 self.begin(at);
                 (Some(What::Began { run, pid }), None)
             }
             Answer::SpawnRefused { run } => (Some(What::NotBegun { run, wait }), self.refuse(at)),
-            Answer::Termed { run, ok: false } => (Some(What::Untold { run, kills: false }), None),
-            Answer::Killed { run, ok: false } => (Some(What::Untold { run, kills: true }), None),
+            Answer::Termed { run, ok: false } => (Some(unsent(run, Signal::Term)), None),
+            Answer::Killed { run, ok: false } => (Some(unsent(run, Signal::Kill)), None),
             Answer::Termed { .. } | Answer::Killed { .. } => (None, None),
         }
     }
@@ -203,7 +203,7 @@ impl Record {
     }
 
     // The start that was ordered was refused. It gives the run.
-    fn refuse(&mut self, at: Reading) -> Option<Run> {
+    fn refuse(&mut self, at: Reading) -> Option<JobRun> {
         self.totals.refused = self.totals.refused.saturating_add(1);
         let mut run = self.current?;
         run.ended = at;
@@ -214,7 +214,7 @@ impl Record {
     }
 
     // The present run ended. It gives the run.
-    fn end(&mut self, how: Ended, at: Reading) -> Option<Run> {
+    fn end(&mut self, how: Ended, at: Reading) -> Option<JobRun> {
         let mut run = self.current?;
         run.ended = at;
         run.is_crash = is_crash(how, run.is_ordered_to_end);
@@ -240,6 +240,14 @@ impl Record {
         Some(run)
     }
 
+    /// When the last start was refused, if none went well after it.
+    pub(crate) fn refused_at(&self) -> Option<Reading> {
+        match &self.refused {
+            Some(run) => Some(run.ended),
+            None => None,
+        }
+    }
+
     /// It is gone.
     pub(crate) fn leave(&mut self, at: Reading) {
         let loaded = at.up.saturating_sub(self.loaded.up);
@@ -261,7 +269,7 @@ impl Record {
             totals.loaded = totals.loaded.saturating_add(loaded);
         }
         if let Some(
-            Run {
+            JobRun {
                 end: RunEnd::Lives,
                 begun,
                 ..
@@ -274,4 +282,9 @@ impl Record {
         }
         totals
     }
+}
+
+// The signal could not be sent.
+fn unsent(run: u64, signal: Signal) -> What {
+    What::Untold { run, signal }
 }

@@ -1,7 +1,7 @@
 //! The lines of a journal that comes in pieces.
 
-ghost use Rattle.std.specs.Prelude.{◌≡◌, ℕ, List, IfOk, OnOk};
-ghost use Rattle.scope.specs.Journals.{HearsLine, HearsLines, HandsOn};
+ghost use Rattle.std.specs.Prelude.{◌≡◌, ℕ, List, [], IfOk, OnOk};
+ghost use Rattle.scope.specs.Journals.{HearsLine, HearsLines, HandsOn, Drains, IsFed};
 
 use crate::journal::fault::JournalFault;
 use ctl_protocol::{LINE_LIMIT, LineFault, LineFeed};
@@ -11,7 +11,7 @@ use std::alloc::Global;
 const HEAD: usize = 256;
 
 /// What hears a journal line by line.
-pub(crate) trait Hears {
+pub trait Hears {
     /// It stands for these lines, the header first.
     ghost stands: { Self → List (List ℕ) → Type 0 };
 
@@ -28,7 +28,7 @@ pub(crate) trait Hears {
 
 /// The lines of a journal that comes in pieces, and what was counted of them.
 #[derive(Drop)]
-pub(crate) struct Lines {
+pub struct JournalLines {
     feed: LineFeed,
     is_long: bool,
     /// How many lines were read, the header too.
@@ -43,10 +43,21 @@ pub(crate) struct Lines {
     pub(crate) shown: String,
 }
 
-impl Lines {
+impl JournalLines {
+    ghost use Rattle.std.specs.Prelude.{false};
+    ghost use Rattle.ctl_protocol.specs.Lines.{line_limit};
+
     /// No line was read.
-    pub(crate) fn new(alloc: Global) -> Lines {
-        Lines {
+    pub fn new(alloc: Global) -> JournalLines
+        ensures feed { result.feed ≡ record {
+          lines = [];
+          rest = [];
+          limit = line_limit;
+          refusing = false;
+        } }
+        ensures counted { result.count ≡ 0 }
+    {
+        JournalLines {
             feed: LineFeed::new(alloc, LINE_LIMIT),
             is_long: false,
             count: 0,
@@ -59,7 +70,9 @@ impl Lines {
     }
 
     /// Takes the next piece.
-    pub(crate) fn take(&mut self, piece: &[u8]) -> Result<(), JournalFault> {
+    pub(crate) fn take(&mut self, piece: &[u8]) -> Result<(), JournalFault>
+        ensures { OnOk result (IsFed self.old piece.now self.new) }
+    {
         let room = HEAD.saturating_sub(self.head.len()).min(piece.len());
         let front = piece.get(..room).unwrap_or(&[]);
         let is_kept = self.head.extend_from_slice(front).is_ok();
@@ -101,8 +114,9 @@ impl Lines {
 
     /// Hands each whole line on.
     pub(crate) fn hand_all_on<H: Hears>(&mut self, hearer: &mut H) -> Result<(), JournalFault>
-        ensures { OnOk result
+        ensures heard { OnOk result
             (HearsLines H.stands self.old.count hearer.old self.old.feed.lines hearer.new) }
+        ensures drained { OnOk result (Drains self.old self.new) }
     {
         'lines: loop {
             match self.hand_on(hearer) {

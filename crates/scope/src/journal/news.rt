@@ -1,8 +1,9 @@
 //! What an event of a journal was, or gave.
 
-use crate::journal::job::Asked;
-use crate::journal::run::Run;
+use crate::journal::job::JobRequest;
+use crate::journal::run::JobRun;
 use history_model::{DemandKind, Refusal, Wants};
+use pace::Signal;
 
 /// When a job that has no run starts again.
 #[derive(Clone, Copy)]
@@ -18,9 +19,9 @@ pub(crate) struct Wait {
 pub(crate) enum What {
     Loaded,
     LoadRefused(Refusal),
-    Asked(Asked),
+    Asked(JobRequest),
     /// It was asked, and refused.
-    Declined(Asked, Refusal),
+    Declined(JobRequest, Refusal),
     /// A connection came.
     Came(u64),
     /// A connection was given up by its client.
@@ -40,18 +41,18 @@ pub(crate) enum What {
         run: u64,
         wait: Wait,
     },
-    /// TERM was ordered for the run, or KILL.
+    /// A signal was ordered for the run.
     Told {
         run: u64,
-        kills: bool,
+        signal: Signal,
     },
-    /// That signal could not be sent.
+    /// It could not be sent.
     Untold {
         run: u64,
-        kills: bool,
+        signal: Signal,
     },
     Ended {
-        run: Run,
+        run: JobRun,
         wait: Wait,
     },
     /// The system refused to wait for the run.

@@ -1,10 +1,11 @@
 //! What is kept of an event of the journal, and told of it.
 
-use crate::journal::job::Asked;
+use crate::journal::job::JobRequest;
 use crate::journal::news::{News, Wait, What};
 use crate::journal::past::Past;
 use history_model::{Act, Ask, DemandKind, Event, JobItem, Reading, Refusal, Wants};
 use job_defs::read_def;
+use pace::Signal;
 use std::alloc::{AllocError, Global};
 
 impl Past {
@@ -137,12 +138,18 @@ impl Past {
                 }
             }
             Act::Term { run } => {
-                job.record.tell(false, at);
-                What::Told { run, kills: false }
+                job.record.tell(Signal::Term, at);
+                What::Told {
+                    run,
+                    signal: Signal::Term,
+                }
             }
             Act::Kill { run } => {
-                job.record.tell(true, at);
-                What::Told { run, kills: true }
+                job.record.tell(Signal::Kill, at);
+                What::Told {
+                    run,
+                    signal: Signal::Kill,
+                }
             }
             Act::Close { .. } => return Ok(()),
             Act::Gone => {
@@ -156,19 +163,19 @@ impl Past {
 }
 
 // What a client asks of one job.
-fn asked_by(ask: Ask) -> Asked {
+fn asked_by(ask: Ask) -> JobRequest {
     match ask {
-        Ask::Start => Asked::Start,
-        Ask::Stop => Asked::Stop,
-        Ask::Kickstart(false) => Asked::Kickstart,
-        Ask::Kickstart(true) => Asked::Strike,
-        Ask::Unload => Asked::Unload,
-        Ask::Shutdown => Asked::Shutdown,
+        Ask::Start => JobRequest::Start,
+        Ask::Stop => JobRequest::Stop,
+        Ask::Kickstart(false) => JobRequest::Kickstart,
+        Ask::Kickstart(true) => JobRequest::Strike,
+        Ask::Unload => JobRequest::Unload,
+        Ask::Shutdown => JobRequest::Shutdown,
     }
 }
 
 // What a client asked, and of which label; the empty one for all jobs.
-fn asked_in<'a>(event: &Event<'a>) -> Option<(&'a str, Asked)> {
+fn asked_in<'a>(event: &Event<'a>) -> Option<(&'a str, JobRequest)> {
     match event {
         Event::OfJob {
             job,
@@ -178,15 +185,15 @@ fn asked_in<'a>(event: &Event<'a>) -> Option<(&'a str, Asked)> {
             job,
             writes_setting: false,
             ..
-        } => Some((job.as_str(), Asked::Unload)),
-        Event::Unload { job, .. } => Some((job.as_str(), Asked::UnloadForGood)),
+        } => Some((job.as_str(), JobRequest::Unload)),
+        Event::Unload { job, .. } => Some((job.as_str(), JobRequest::UnloadForGood)),
         Event::Set {
             job,
             disabled: false,
             ..
-        } => Some((job.as_str(), Asked::Enable)),
-        Event::Set { job, .. } => Some((job.as_str(), Asked::Disable)),
-        Event::Shutdown => Some(("", Asked::Shutdown)),
+        } => Some((job.as_str(), JobRequest::Enable)),
+        Event::Set { job, .. } => Some((job.as_str(), JobRequest::Disable)),
+        Event::Shutdown => Some(("", JobRequest::Shutdown)),
         _ => None,
     }
 }

@@ -1,8 +1,8 @@
 //! What is kept of all jobs: by their labels, and the runs that are over.
 
-use crate::journal::job::{Asked, Job, Record};
+use crate::journal::job::{JobRequest, KeptJob, Record};
 use crate::journal::news::News;
-use crate::journal::run::Run;
+use crate::journal::run::JobRun;
 use history_model::Reading;
 use job_defs::Def;
 use std::alloc::{AllocError, Global};
@@ -18,9 +18,9 @@ pub(crate) const MOST_RUNS: usize = 131_072;
 #[derive(Drop)]
 pub(crate) struct Past {
     /// The jobs by their labels, those that are gone too.
-    pub(crate) jobs: BTreeMap<String, Job>,
+    pub(crate) jobs: BTreeMap<String, KeptJob>,
     /// The runs that are over, in the order of their ends.
-    pub(crate) runs: VecDeque<Run>,
+    pub(crate) runs: VecDeque<JobRun>,
     /// What the last line gave, in order.
     pub(crate) news: Vec<News>,
     /// The serial number of the job that was last new.
@@ -54,7 +54,7 @@ impl Past {
                 Record::new(self.serial, at)
             }
         };
-        let job = Job {
+        let job = KeptJob {
             def: Some(def),
             record,
         };
@@ -101,12 +101,16 @@ impl Past {
     }
 
     /// What keeps the job of this label from a start, or asks for its end, is kept until the next order; a shutdown is asked of all jobs.
-    pub(crate) fn ask(&mut self, label: &str, asked: Asked, at: Reading) {
+    pub(crate) fn ask(&mut self, label: &str, asked: JobRequest, at: Reading) {
         self.asks = self.asks.saturating_add(1);
         match asked {
-            Asked::Shutdown => self.shut_down = Some((self.asks, at)),
-            Asked::Start | Asked::Kickstart | Asked::Enable | Asked::Disable => {}
-            Asked::Stop | Asked::Strike | Asked::Unload | Asked::UnloadForGood => {
+            JobRequest::Shutdown => self.shut_down = Some((self.asks, at)),
+            JobRequest::Start | JobRequest::Kickstart | JobRequest::Enable | JobRequest::Disable =>
+                {}
+            JobRequest::Stop
+            | JobRequest::Strike
+            | JobRequest::Unload
+            | JobRequest::UnloadForGood => {
                 if let Some(job) = self.jobs.get_mut(label) {
                     job.record.asked = Some((asked, at));
                     job.record.ask = self.asks;
@@ -116,15 +120,15 @@ impl Past {
     }
 
     /// What was asked last of the job, or of all.
-    pub(crate) fn asked_of(&self, job: &Record) -> Option<(Asked, Reading)> {
+    pub(crate) fn asked_of(&self, job: &Record) -> Option<(JobRequest, Reading)> {
         match self.shut_down {
-            Some((ask, at)) if ask > job.ask => Some((Asked::Shutdown, at)),
+            Some((ask, at)) if ask > job.ask => Some((JobRequest::Shutdown, at)),
             _ => job.asked,
         }
     }
 
     /// A run is over.
-    pub(crate) fn keep(&mut self, run: Run) -> Result<(), AllocError> {
+    pub(crate) fn keep(&mut self, run: JobRun) -> Result<(), AllocError> {
         if self.runs.len() >= MOST_RUNS {
             let _oldest = self.runs.pop_front();
         }

@@ -1,23 +1,25 @@
 //! A journal that is open: the table, the zone of civil time, and what is kept of the past.
-ghost use Rattle.std.specs.Prelude.{OnOk, IfOk};
+ghost use Rattle.std.specs.Prelude.{◌≡◌, OnOk, IfOk};
 ghost use Rattle.loaded_jobs.specs.TableOutcomes.{IsNextTable};
 ghost use Rattle.job_table.specs.Taking.{machine_event};
 ghost use Rattle.table_opening.specs.JournalEvents.{event_in};
 ghost use Rattle.scope.specs.Journals.{IsOpenedAt, IsOpenedBy};
+ghost use Rattle.scope.specs.ByFacts.{wait_by};
 
 use crate::journal::fault::JournalFault;
 use crate::journal::news::Wait;
 use crate::journal::past::Past;
+use crate::journal::telling::is_wanted;
 use calendar_due::Zone;
 use ctl_protocol::{Header, LineRoom, ReadFault, read_event, read_header};
-use history_model::{Event, Reading, Refusal, Wants};
+use history_model::{Event, Reading, Reasons, Refusal};
 use job_table::{JobTable, Taken};
 use std::alloc::{AllocError, Global};
 use table_opening::{OpeningFault, table_of, zone_of};
 
 /// A journal whose header was read, and what its lines gave so far.
 #[derive(Drop)]
-pub(crate) struct Journal {
+pub struct OpenJournal {
     pub(crate) table: JobTable,
     /// The zone of the header.
     pub(crate) zone: Zone,
@@ -26,7 +28,7 @@ pub(crate) struct Journal {
 }
 
 /// The journal that a header opens.
-pub(crate) fn open(alloc: Global, line: &[u8]) -> Result<Journal, JournalFault>
+pub fn open(alloc: Global, line: &[u8]) -> Result<OpenJournal, JournalFault>
     ensures { IfOk result (λ journal. IsOpenedAt line.now journal.table) }
 {
     match read_header(alloc, line) {
@@ -36,12 +38,12 @@ pub(crate) fn open(alloc: Global, line: &[u8]) -> Result<Journal, JournalFault>
     }
 }
 
-fn opened_by(alloc: Global, header: Header) -> Result<Journal, JournalFault>
+fn opened_by(alloc: Global, header: Header) -> Result<OpenJournal, JournalFault>
     ensures { IfOk result (λ journal. IsOpenedBy header journal.table) }
 {
     let zone = zone_of(alloc, &header.zone);
     match (zone, table_of(alloc, header), LineRoom::new(alloc)) {
-        (Ok(Some(zone)), Ok(table), Ok(room)) => Ok(Journal {
+        (Ok(Some(zone)), Ok(table), Ok(room)) => Ok(OpenJournal {
             table,
             zone,
             past: Past::new(alloc),
@@ -63,10 +65,10 @@ fn opened_by(alloc: Global, header: Header) -> Result<Journal, JournalFault>
     }
 }
 
-impl Journal {
+impl OpenJournal {
     /// Takes in a line after the header. It says whether the line is an event; what it gave is the past's `news`.
     /// After it the table keeps the machine's next state.
-    pub(crate) fn take(&mut self, alloc: Global, line: &[u8]) -> Result<bool, AllocError>
+    pub fn take(&mut self, alloc: Global, line: &[u8]) -> Result<bool, AllocError>
         ensures { OnOk result (IsNextTable (event_in line.now) self.old.table self.new.table) }
     {
         self.past.news.clear();
@@ -111,10 +113,16 @@ fn take_in(
 
 // The wait of the job that the event was of, as the table has it.
 fn wait_after(table: &JobTable, event: &Event<'_>) -> Wait {
-    let reasons = match event {
-        Event::OfJob { job, .. } => table.reasons(job.as_str()),
-        _ => None,
-    };
+    match event {
+        Event::OfJob { job, .. } => wait_of(table.reasons(job.as_str())),
+        _ => wait_of(None),
+    }
+}
+
+// The wait by these reasons; of a job that is not loaded nothing wants a start.
+fn wait_of(reasons: Option<Reasons>) -> Wait
+    ensures { result ≡ wait_by reasons }
+{
     match reasons {
         Some(reasons) => Wait {
             is_wanted: is_wanted(&reasons.wants),
@@ -125,16 +133,6 @@ fn wait_after(table: &JobTable, event: &Event<'_>) -> Wait {
             throttled_until: None,
         },
     }
-}
-
-fn is_wanted(wants: &Wants) -> bool {
-    wants.demand
-        || wants.connections > 0
-        || wants.keep_alive
-        || wants.successful_exit
-        || wants.crashed
-        || wants.path_state
-        || wants.queue_directories
 }
 
 // The orders of the last step.

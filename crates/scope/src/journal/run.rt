@@ -21,7 +21,7 @@ pub(crate) enum RunEnd {
 
 /// A run, and the readings at which it was ordered, began and ended.
 #[derive(Clone, Copy)]
-pub(crate) struct Run {
+pub(crate) struct JobRun {
     /// The serial number of its job.
     pub(crate) job: u64,
     /// Its number among the runs of its job's load, from 1.
@@ -52,10 +52,10 @@ pub(crate) fn is_crash(how: Ended, is_ordered_to_end: bool) -> bool
     }
 }
 
-impl Run {
+impl JobRun {
     /// A run that is just ordered.
-    pub(crate) fn ordered(job: u64, run: u64, demand: Option<DemandKind>, at: Reading) -> Run {
-        Run {
+    pub(crate) fn ordered(job: u64, run: u64, demand: Option<DemandKind>, at: Reading) -> JobRun {
+        JobRun {
             job,
             run,
             demand,

@@ -1,7 +1,11 @@
 //! A journal that words name: where it is, and its reading.
 
+ghost use Rattle.std.specs.Prelude.{◌≡◌, false, None, IfOk, OnOk};
+ghost use Rattle.std.specs.Io.KnownBytes.{IsAtEnd};
+ghost use Rattle.scope.specs.Journals.{Reads, HearsPiece, HearsAll};
+
 use crate::journal::fault::JournalFault;
-use crate::journal::lines::{Hears, Lines};
+use crate::journal::lines::{Hears, JournalLines};
 use exit_status::BAD_FILE;
 use launchctl_words::ScopeCommand;
 use run_times::telling::put;
@@ -20,58 +24,67 @@ const PIECE: usize = 16_384;
 /// After so many pieces a line of progress is written anew.
 const STRIDE: u64 = 128;
 
-/// What is read: a file, or standard input.
-#[derive(Drop)]
-pub(crate) enum Source {
-    File(File),
-    Input,
+/// What one read gave.
+#[derive(Clone, Copy)]
+pub enum PieceRead {
+    /// The reader is at its end.
+    End,
+    /// The read was interrupted.
+    Nothing,
+    /// A piece, which was taken.
+    Piece,
 }
 
-fn read(host: &HostRuntime, source: &mut Source, piece: &mut [u8]) -> io::Result<usize> {
-    match source {
-        Source::File(file) => file.read(piece),
-        Source::Input => host.stdin().read(piece),
-    }
-}
-
-// Takes the next piece of the source, and says whether there was one.
-fn take_piece(
-    host: &HostRuntime,
-    source: &mut Source,
-    lines: &mut Lines,
-) -> Result<bool, JournalFault> {
+// Reads once, and takes the piece that came.
+fn take_piece<R: Read>(source: &mut R, lines: &mut JournalLines) -> Result<PieceRead, JournalFault>
+    ensures { IfOk result (λ read.
+        Reads read (R.remaining source.old) (R.remaining source.new) lines.old lines.new) }
+{
     let mut piece = [0u8; PIECE];
-    match read(host, source, &mut piece) {
-        Ok(0) => Ok(false),
-        Ok(count) => match lines.take(piece.get(..count).unwrap_or(&[])) {
-            Ok(()) => Ok(true),
+    match source.read(&mut piece) {
+        Ok(0) => Ok(PieceRead::End),
+        Ok(count) => match lines.take(&piece[..count]) {
+            Ok(()) => Ok(PieceRead::Piece),
             Err(fault) => Err(fault),
         },
-        Err(error) if error.kind() == ErrorKind::Interrupted => Ok(true),
+        Err(error) if error.kind() == ErrorKind::Interrupted => Ok(PieceRead::Nothing),
         Err(error) => Err(JournalFault::Read(error)),
     }
 }
 
-// Takes the next piece of the source, and each line that is whole now is heard. It says whether there was a piece.
-fn take_lines<H: Hears>(
-    host: &HostRuntime,
-    source: &mut Source,
-    lines: &mut Lines,
+// Takes the next piece of the source, and each line that is whole now is heard. It says whether the source may have more.
+fn take_lines<R: Read, H: Hears>(
+    source: &mut R,
+    lines: &mut JournalLines,
     hearer: &mut H,
-) -> Result<bool, JournalFault> {
-    let is_there = take_piece(host, source, lines)?;
-    lines.hand_all_on(hearer)?;
-    Ok(is_there)
+) -> Result<bool, JournalFault>
+    ensures heard { OnOk result (HearsPiece H.stands (R.remaining source.old)
+        (R.remaining source.new) lines.old hearer.old lines.new hearer.new) }
+    ensures ended { IfOk result (λ more. more ≡ false → IsAtEnd (R.remaining source.new)) }
+{
+    match take_piece(source, lines) {
+        Ok(PieceRead::End) => Ok(false),
+        Ok(PieceRead::Nothing) => Ok(true),
+        Ok(PieceRead::Piece) => match lines.hand_all_on(hearer) {
+            Ok(()) => Ok(true),
+            Err(fault) => Err(fault),
+        },
+        Err(fault) => Err(fault),
+    }
 }
 
 // The same, and what is to be shown is written, also if a line is at fault.
-fn take_and_show<H: Hears>(
+fn take_and_show<R: Read, H: Hears>(
     host: &HostRuntime,
-    source: &mut Source,
-    lines: &mut Lines,
+    source: &mut R,
+    lines: &mut JournalLines,
     hearer: &mut H,
-) -> Result<bool, JournalFault> {
-    let taken = take_lines(host, source, lines, hearer);
+) -> Result<bool, JournalFault>
+    ensures heard { OnOk result (HearsPiece H.stands (R.remaining source.old)
+        (R.remaining source.new) lines.old hearer.old lines.new hearer.new) }
+    ensures ended { IfOk result (λ more. more ≡ false → IsAtEnd (R.remaining source.new)) }
+{
+    let taken = take_lines(source, lines, hearer);
     match put(host, lines.shown.as_str()) {
         Ok(()) => {
             lines.shown.clear();
@@ -84,33 +97,45 @@ fn take_and_show<H: Hears>(
     }
 }
 
-/// Reads the source to its end. What is to be shown is written as it comes. If nothing is, a line of progress stands on standard error
-/// meanwhile, if that is a terminal.
-pub(crate) fn read_source<H: Hears>(
+/// Reads the source to its end, in whatever pieces it comes, and each whole line is heard. What is to be shown is written as it comes. If
+/// nothing is, a line of progress stands on standard error meanwhile, if that is a terminal. After an error the lines before it were heard.
+pub fn read_source<R: Read, H: Hears>(
     host: &HostRuntime,
-    source: &mut Source,
+    source: &mut R,
     is_quiet: bool,
-    lines: &mut Lines,
+    lines: &mut JournalLines,
     hearer: &mut H,
-) -> Result<(), JournalFault> {
+) -> Result<(), JournalFault>
+    ensures { OnOk result (HearsAll H.stands (R.remaining source.old) (R.remaining source.new)
+        lines.old hearer.old lines.new hearer.new) }
+{
     let is_seen = is_quiet && host.stderr().is_terminal();
-    let mut is_told = false;
-    for count in 1..u64::MAX {
+    'pieces: for count in 1..u64::MAX {
         match take_and_show(host, source, lines, hearer) {
             Ok(true) => {}
-            Ok(false) => break,
+            Ok(false) => {
+                tell_done(host, is_seen && count > STRIDE);
+                return Ok(());
+            }
             Err(fault) => return Err(fault),
         }
-        if is_seen && count % STRIDE == 0 {
-            let count = lines.count;
-            let _written = eprint!(host; "\r{count} lines");
-            is_told = true;
-        }
+        tell_count(host, is_seen && count % STRIDE == 0, lines.count);
     }
+    Err(JournalFault::Read(io::Error::from(ErrorKind::FileTooLarge)))
+}
+
+// Writes the line of progress anew.
+fn tell_count(host: &HostRuntime, is_due: bool, count: u64) {
+    if is_due {
+        let _written = eprint!(host; "\r{count} lines");
+    }
+}
+
+// Takes the line of progress away, if there is one.
+fn tell_done(host: &HostRuntime, is_told: bool) {
     if is_told {
         let _written = eprint!(host; "\r\x1b[K");
     }
-    Ok(())
 }
 
 /// The journal's path: that of the words, else that of `JOBD_JOURNAL`. None: it comes on standard input.
@@ -138,7 +163,7 @@ pub(crate) fn open_journal(host: &HostRuntime, path: &str) -> io::Result<File> {
 }
 
 /// Tells the lines that are no event, which were left out, if there are some. It answers the exit status, which is 65 then.
-pub(crate) fn tell_bad(host: &HostRuntime, name: &str, lines: &Lines) -> u8 {
+pub(crate) fn tell_bad(host: &HostRuntime, name: &str, lines: &JournalLines) -> u8 {
     let first = lines.first_bad;
     let more = lines.bad.saturating_sub(1);
     if lines.bad == 0 {
@@ -159,20 +184,35 @@ pub(crate) fn read_journal<H: Hears>(
     host: &HostRuntime,
     path: Option<&str>,
     is_quiet: bool,
-    lines: &mut Lines,
+    lines: &mut JournalLines,
     hearer: &mut H,
-) -> Result<(), JournalFault> {
-    let mut source = match path {
-        Some(path) => match open_journal(host, path) {
-            Ok(file) => Source::File(file),
-            Err(error) => return Err(JournalFault::Read(error)),
-        },
-        None => Source::Input,
-    };
-    let read = read_source(host, &mut source, is_quiet, lines, hearer);
-    drop(source);
-    match read {
+) -> Result<(), JournalFault>
+    ensures { OnOk result (HearsAll H.stands None None lines.old hearer.old lines.new hearer.new) }
+{
+    match read_from(host, path, is_quiet, lines, hearer) {
         Ok(()) if lines.count == 0 => Err(JournalFault::NoHeader),
         read => read,
+    }
+}
+
+fn read_from<H: Hears>(
+    host: &HostRuntime,
+    path: Option<&str>,
+    is_quiet: bool,
+    lines: &mut JournalLines,
+    hearer: &mut H,
+) -> Result<(), JournalFault>
+    ensures { OnOk result (HearsAll H.stands None None lines.old hearer.old lines.new hearer.new) }
+{
+    let Some(path) = path else {
+        return read_source(host, &mut host.stdin(), is_quiet, lines, hearer);
+    };
+    match open_journal(host, path) {
+        Ok(mut file) => {
+            let read = read_source(host, &mut file, is_quiet, lines, hearer);
+            drop(file);
+            read
+        }
+        Err(error) => Err(JournalFault::Read(error)),
     }
 }

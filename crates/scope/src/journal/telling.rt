@@ -1,13 +1,15 @@
 //! What keeps a job from a start, and what wants it, as a list in the order in which it is told.
 ghost use Rattle.std.specs.Prelude.{◌≡◌, ◌++◌, OnOk, IfOk};
-ghost use Rattle.scope.specs.Causes.{causes_of, when, causes_holding, causes_wanting};
+ghost use Rattle.history_model.specs.Reasons.{some_want};
+ghost use Rattle.scope.specs.Causes.{AreCauses};
+ghost use Rattle.scope.specs.CauseLists.{when, causes_holding, causes_wanting};
 
 use history_model::{Act, Reasons, StandingChild, Wants};
 use std::alloc::{AllocError, Global};
 
 /// One thing that keeps a job from a start, or one that wants it.
 #[derive(Clone, Copy)]
-pub enum Cause {
+pub enum JobCause {
     /// An unload or a shutdown was asked.
     Removing,
     /// A run lives.
@@ -32,7 +34,20 @@ pub enum Cause {
     QueueDirectories,
 }
 
-fn add_if(causes: &mut Vec<Cause>, holds: bool, cause: Cause) -> Result<(), AllocError>
+/// Whether something wants the job.
+pub(crate) fn is_wanted(wants: &Wants) -> bool
+    ensures { result ≡ some_want wants.now }
+{
+    wants.demand
+        || wants.connections > 0
+        || wants.keep_alive
+        || wants.successful_exit
+        || wants.crashed
+        || wants.path_state
+        || wants.queue_directories
+}
+
+fn add_if(causes: &mut Vec<JobCause>, holds: bool, cause: JobCause) -> Result<(), AllocError>
     ensures { OnOk result (causes.new.items ≡ causes.old.items ++ when holds cause) }
 {
     if holds {
@@ -42,54 +57,45 @@ fn add_if(causes: &mut Vec<Cause>, holds: bool, cause: Cause) -> Result<(), Allo
 }
 
 // What keeps it from a start but that nothing wants it.
-fn holding(alloc: Global, reasons: &Reasons) -> Result<Vec<Cause>, AllocError>
+fn holding(alloc: Global, reasons: &Reasons) -> Result<Vec<JobCause>, AllocError>
     ensures { IfOk result (λ causes. causes.items ≡ causes_holding reasons.now) }
 {
     let mut causes = Vec::new(alloc);
-    add_if(&mut causes, reasons.is_removing, Cause::Removing)?;
+    add_if(&mut causes, reasons.is_removing, JobCause::Removing)?;
     if let Some(child) = reasons.child {
-        causes.push(Cause::Child(child))?;
+        causes.push(JobCause::Child(child))?;
     }
     if let Some(act) = reasons.awaited {
-        causes.push(Cause::Awaited(act))?;
+        causes.push(JobCause::Awaited(act))?;
     }
-    add_if(&mut causes, reasons.is_launch_spent, Cause::LaunchSpent)?;
-    add_if(&mut causes, reasons.are_runs_spent, Cause::RunsSpent)?;
+    add_if(&mut causes, reasons.is_launch_spent, JobCause::LaunchSpent)?;
+    add_if(&mut causes, reasons.are_runs_spent, JobCause::RunsSpent)?;
     if let Some(until) = reasons.throttled_until {
-        causes.push(Cause::Throttled(until))?;
+        causes.push(JobCause::Throttled(until))?;
     }
     Ok(causes)
 }
 
 // What wants it, or that nothing does.
-fn wanting(alloc: Global, wants: &Wants) -> Result<Vec<Cause>, AllocError>
-    ensures { IfOk result (λ causes. causes.items ≡ causes_wanting wants.now) }
+fn add_wants(causes: &mut Vec<JobCause>, wants: &Wants) -> Result<(), AllocError>
+    ensures { OnOk result (causes.new.items ≡ causes.old.items ++ causes_wanting wants.now) }
 {
-    let mut causes = Vec::new(alloc);
-    add_if(&mut causes, wants.demand, Cause::Demand)?;
+    add_if(causes, wants.demand, JobCause::Demand)?;
     let waits = wants.connections > 0;
-    add_if(&mut causes, waits, Cause::Connections(wants.connections))?;
-    add_if(&mut causes, wants.keep_alive, Cause::KeepAlive)?;
-    add_if(&mut causes, wants.successful_exit, Cause::SuccessfulExit)?;
-    add_if(&mut causes, wants.crashed, Cause::Crashed)?;
-    add_if(&mut causes, wants.path_state, Cause::PathState)?;
-    add_if(
-        &mut causes,
-        wants.queue_directories,
-        Cause::QueueDirectories,
-    )?;
-    if causes.is_empty() {
-        causes.push(Cause::NotWanted)?;
-    }
-    Ok(causes)
+    add_if(causes, waits, JobCause::Connections(wants.connections))?;
+    add_if(causes, wants.keep_alive, JobCause::KeepAlive)?;
+    add_if(causes, wants.successful_exit, JobCause::SuccessfulExit)?;
+    add_if(causes, wants.crashed, JobCause::Crashed)?;
+    add_if(causes, wants.path_state, JobCause::PathState)?;
+    add_if(causes, wants.queue_directories, JobCause::QueueDirectories)?;
+    add_if(causes, !is_wanted(wants), JobCause::NotWanted)
 }
 
-/// The causes of what the table says of a job: one for each thing that holds, and none besides.
-pub fn causes(alloc: Global, reasons: &Reasons) -> Result<Vec<Cause>, AllocError>
-    ensures { IfOk result (λ causes. causes.items ≡ causes_of reasons.now) }
+/// The causes of what the table says of a job: one for each thing that holds, and none besides, first what keeps the job from a start.
+pub fn causes(alloc: Global, reasons: &Reasons) -> Result<Vec<JobCause>, AllocError>
+    ensures { IfOk result (λ causes. AreCauses reasons.now causes.items) }
 {
     let mut causes = holding(alloc, reasons)?;
-    let wants = wanting(alloc, &reasons.wants)?;
-    causes.extend_from_slice(wants.as_slice())?;
+    add_wants(&mut causes, &reasons.wants)?;
     Ok(causes)
 }

@@ -1,190 +1,171 @@
-//! What keeps a job from a start, and what wants it, in words.
+//! What stands behind the first words of the line of a cause.
 
-use crate::journal::job::{Asked, Record};
-use crate::journal::telling::Cause;
-use crate::texts::told::{NONE, Said, Told};
+use crate::journal::job::JobRequest;
+use crate::journal::telling::JobCause;
+use crate::texts::by_facts::{OrderWhen, ThrottleBy, kill_when, term_when, throttle_by};
+use crate::texts::coming::ways_said;
+use crate::texts::told::{
+    MOST_SENTENCES, NONE, SILENCE, Sentence, Sentences, ToldJob, alone, said_if,
+};
 use crate::texts::words::{asked_name, demand_words};
-use history_model::{Act, DemandKind, Reading, StandingChild};
-use run_times::Hole;
-use run_times::Hole::{Coming, Number, Span, Text, Time};
+use history_model::{DemandKind, Reading, StandingChild};
+use run_times::Filling::{Coming, Number, Span, Text, Time};
 
-/// The sentence of a cause, the first if there are several.
-pub(crate) fn cause_said<'a>(told: &Told<'a>, cause: Cause) -> Said<'a> {
+/// The sentences that end the line of a cause which names no path.
+pub(crate) fn sentences_of(told: &ToldJob<'_>, cause: JobCause) -> Sentences<'static> {
     match cause {
-        Cause::Child(child) => child_said(told.job, child, told.now),
-        Cause::Throttled(up) => throttle_said(told.job, told.keys.throttle_interval, up, told.now),
-        cause => {
-            let (form, first, second) = cause_words(told, cause);
-            (form, [first, second, NONE, NONE])
-        }
+        JobCause::Removing => removing_said(told.asked),
+        JobCause::Child(child) => child_said(told, child),
+        JobCause::Throttled(up) => throttle_said(told, up),
+        JobCause::NotWanted => ways_said(told),
+        JobCause::LaunchSpent | JobCause::RunsSpent => alone(" Unload it and load it.", NONE, NONE),
+        JobCause::Demand => alone(
+            demand_form(told),
+            Text(demand_words(told.facts.demand)),
+            NONE,
+        ),
+        JobCause::SuccessfulExit => alone(exit_words(told.keys.successful_exit), NONE, NONE),
+        JobCause::Crashed => alone(crash_words(told.keys.crashed), NONE, NONE),
+        JobCause::Awaited(_)
+        | JobCause::Connections(_)
+        | JobCause::KeepAlive
+        | JobCause::PathState
+        | JobCause::QueueDirectories => [SILENCE; MOST_SENTENCES],
     }
 }
 
-// A cause that is told by a form with two holes.
-fn cause_words<'a>(told: &Told<'a>, cause: Cause) -> (&'static str, Hole<'a>, Hole<'a>) {
-    match cause {
-        Cause::Removing => removing_words(told.asked),
-        Cause::Awaited(act) => awaited_words(act),
-        cause => {
-            let (form, hole) = want_words(told, cause);
-            (form, hole, NONE)
-        }
-    }
-}
-
-fn removing_words(asked: Option<(Asked, Reading)>) -> (&'static str, Hole<'static>, Hole<'static>) {
+fn removing_said(asked: Option<(JobRequest, Reading)>) -> Sentences<'static> {
     match asked {
-        Some((asked, at)) => (
-            "It is being removed ($ at $): it is gone once its run has ended.",
+        Some((asked, at)) => alone(
+            " ($ at $): it is gone once its run has ended.",
             Text(asked_name(asked)),
             Time(at.wall),
         ),
-        None => (
-            "It is being removed: it is gone once its run has ended.",
-            NONE,
-            NONE,
-        ),
+        None => alone(": it is gone once its run has ended.", NONE, NONE),
     }
 }
 
-fn awaited_words(act: Act) -> (&'static str, Hole<'static>, Hole<'static>) {
-    let (what, run) = match act {
-        Act::Spawn { run, .. } => ("The start of", run),
-        Act::Term { run } => ("TERM for", run),
-        Act::Kill { run } => ("KILL for", run),
-        Act::Close { .. } | Act::Gone => return ("An answer is awaited.", NONE, NONE),
-    };
-    let form = "$ run $ was ordered, and the answer is awaited.";
-    (form, Text(what), Number(run))
-}
-
-fn child_said(job: &Record, child: StandingChild, now: Reading) -> Said<'static> {
-    let (form, since, lived) = match &job.current {
-        Some(present) => (
-            "Run $ lives, process $, since $ (for $).",
-            present.begun.wall,
-            present.lived(now),
+// Since when the run lives, and what was asked and ordered for its end.
+fn child_said(told: &ToldJob<'_>, child: StandingChild) -> Sentences<'static> {
+    let mut said = match &told.job.current {
+        Some(run) => alone(
+            ", since $ (for $).",
+            Time(run.begun.wall),
+            Span(run.lived(told.at)),
         ),
-        None => ("Run $ lives, process $.", 0, 0),
+        None => alone(".", NONE, NONE),
     };
-    let pid = u64::from(child.pid);
-    let holes = [Number(child.run), Number(pid), Time(since), Span(lived)];
-    (form, holes)
+    said[1] = said_if(told.job.is_lost, " The system refused to wait for it.");
+    said[2] = said_if(child.is_struck, " `jobctl kickstart -k` asked for its end.");
+    said[3] = said_if(child.is_stopped, " Its end was asked for.");
+    said[4] = signals_said(told);
+    said[5] = term_said(told);
+    said
 }
 
-/// Which signals were ordered for the run that lives, and when KILL follows. That it is due, and waits for the answer to TERM, is so of a run
-/// that a `kickstart -k` struck.
-pub(crate) fn signals_said(told: &Told<'_>) -> Said<'static> {
-    let (form, at) = match (told.job.kill, told.job.term, told.moments.kill) {
-        (Some(at), _, _) => (" KILL was ordered at $.", at),
-        (None, Some(at), None) => (
+// Which signals were ordered for the run that lives, and when KILL follows. That it is due, and waits for the answer to TERM, is so of a run
+// that a `kickstart -k` struck.
+fn signals_said(told: &ToldJob<'_>) -> Sentence<'static> {
+    let when = kill_when(&told.facts.moments, told.at.up);
+    let (form, at, up) = match (told.job.kill, told.job.term, when) {
+        (Some(at), _, _) => (" KILL was ordered at $.", at, 0),
+        (None, Some(at), OrderWhen::Never) => (
             " TERM was ordered at $; no KILL follows, since ExitTimeOut is 0.",
             at,
+            0,
         ),
-        (None, Some(at), Some(up)) if up <= told.now.up => (
+        (None, Some(at), OrderWhen::AtOnce) => (
             " TERM was ordered at $; KILL follows once that is answered.",
             at,
+            0,
         ),
-        (None, Some(at), Some(_)) => (
+        (None, Some(at), OrderWhen::At(up)) => (
             " TERM was ordered at $; KILL follows at $ if it lives then (ExitTimeOut is $).",
             at,
+            up,
         ),
-        (None, None, _) => ("", told.now),
+        (None, None, _) => ("", told.at, 0),
     };
-    let kill = told.moments.kill.unwrap_or(0);
-    let timeout = Number(told.keys.exit_time_out);
-    (form, [Time(at.wall), Coming(kill), timeout, NONE])
+    let timeout = Number(u64::from(told.keys.exit_time_out));
+    (form, [Time(at.wall), Coming(up), timeout, NONE])
 }
 
-// How long it is throttled, and the start from which the throttle goes, if it is known: the last one that was ordered, or one that
-// was refused.
-fn throttle_said(job: &Record, throttle: u64, up: u64, now: Reading) -> Said<'static> {
-    let length = throttle.saturating_mul(1000);
-    let (form, wall) = match (job.ordered, &job.refused) {
-        (Some(at), _) if at.up.saturating_add(length) == up => (
-            "It is throttled until $ (in $): its last start was ordered at $, ThrottleInterval is $.",
+// When TERM is ordered again, which was refused.
+fn term_said(told: &ToldJob<'_>) -> Sentence<'static> {
+    match term_when(&told.facts.moments, told.at.up) {
+        OrderWhen::At(up) => (
+            " TERM could not be sent: it is ordered again at $.",
+            [Coming(up), NONE, NONE, NONE],
+        ),
+        OrderWhen::Never | OrderWhen::AtOnce => SILENCE,
+    }
+}
+
+// How long it is throttled, and by which start, if that is known.
+fn throttle_said(told: &ToldJob<'_>, up: u64) -> Sentences<'static> {
+    let throttle = told.keys.throttle_interval;
+    let refused = told.job.refused_at();
+    let (form, wall) = match throttle_by(told.job.ordered, refused, throttle, up) {
+        ThrottleBy::Order(at) => (
+            "$ (in $): its last start was ordered at $, ThrottleInterval is $.",
             at.wall,
         ),
-        (_, Some(run)) if run.ended.up.saturating_add(1000) == up => (
-            "It is throttled until $ (in $): its last start was refused at $, and the next comes a second later at the earliest.",
-            run.ended.wall,
+        ThrottleBy::Refusal(at) => (
+            "$ (in $): its last start was refused at $, and the next comes a second later at the earliest.",
+            at.wall,
         ),
-        _ => ("It is throttled until $ (in $).", 0),
+        ThrottleBy::Unknown => ("$ (in $).", 0),
     };
-    let left = up.saturating_sub(now.up);
-    (form, [Coming(up), Span(left), Time(wall), Number(throttle)])
+    let left = up.saturating_sub(told.at.up);
+    let throttle = Number(u64::from(throttle));
+    let mut said = [SILENCE; MOST_SENTENCES];
+    said[0] = (form, [Coming(up), Span(left), Time(wall), throttle]);
+    said
 }
 
-// A cause that is told by a form with one hole.
-fn want_words<'a>(told: &Told<'a>, cause: Cause) -> (&'static str, Hole<'a>) {
-    match cause {
-        Cause::LaunchSpent => (
-            "It does not start again: LaunchOnlyOnce is true, and a start went well. Unload it and load it.",
-            NONE,
-        ),
-        Cause::RunsSpent => (
-            "It does not start again: 2^63 starts were ordered since its load. Unload it and load it.",
-            NONE,
-        ),
-        Cause::NotWanted => ("Nothing wants it.", NONE),
-        Cause::Demand => (demand_form(told), Text(demand_words(told.demand))),
-        Cause::Connections(1) => ("It is wanted: a connection waits.", NONE),
-        Cause::Connections(count) => { ("It is wanted: $ connections wait.", Number(count as u64)) }
-        Cause::PathState => path_words(told),
-        Cause::QueueDirectories => {
-            // A path of `PathState` is named in place of a folder.
-            let folder = match told.path {
-                Some(path) if !told.reasons.wants.path_state => path,
-                _ => "a folder",
-            };
-            let form = "It is wanted: QueueDirectories, and $ was last seen with an entry.";
-            (form, Text(folder))
-        }
-        cause => (level_form(told, cause), NONE),
+fn demand_form(told: &ToldJob<'_>) -> &'static str {
+    match told.facts.demand {
+        Some(DemandKind::Load) if told.keys.run_at_load => "$ (RunAtLoad is true).",
+        Some(DemandKind::Load) => "$ (by KeepAlive SuccessfulExit).",
+        _ => "$.",
     }
 }
 
-fn demand_form(told: &Told<'_>) -> &'static str {
-    match told.demand {
-        Some(DemandKind::Load) if told.keys.run_at_load => {
-            "It is wanted: $ (RunAtLoad is true)."
-        }
-        Some(DemandKind::Load) => "It is wanted: $ (by KeepAlive SuccessfulExit).",
-        _ => "It is wanted: $.",
+fn exit_words(successful_exit: Option<bool>) -> &'static str {
+    match successful_exit {
+        Some(true) => "true, and its last run ended with code 0.",
+        _ => "false, and its last run did not end with code 0.",
     }
 }
 
-// By its last end, or by KeepAlive alone.
-fn level_form(told: &Told<'_>, cause: Cause) -> &'static str {
-    match (cause, told.keys.successful_exit, told.keys.crashed) {
-        (Cause::SuccessfulExit, Some(true), _) => {
-            "It is wanted: KeepAlive SuccessfulExit is true, and its last run ended with code 0."
-        }
-        (Cause::SuccessfulExit, _, _) => {
-            "It is wanted: KeepAlive SuccessfulExit is false, and its last run did not end with code 0."
-        }
-        (Cause::Crashed, _, Some(true)) => {
-            "It is wanted: KeepAlive Crashed is true, and its last run crashed."
-        }
-        (Cause::Crashed, _, _) => {
-            "It is wanted: KeepAlive Crashed is false, and its last run did not crash."
-        }
-        _ => "It is wanted: KeepAlive is true.",
+fn crash_words(crashed: Option<bool>) -> &'static str {
+    match crashed {
+        Some(true) => "true, and its last run crashed.",
+        _ => "false, and its last run did not crash.",
     }
 }
 
-fn path_words<'a>(told: &Told<'a>) -> (&'static str, Hole<'a>) {
-    let path = told.path.unwrap_or("a path");
+/// The end of the line of `PathState`.
+pub(crate) fn path_said<'a>(told: &ToldJob<'a>) -> Sentences<'a> {
+    let path = told.facts.path.unwrap_or("a path");
     for condition in told.keys.path_state {
         if condition.path.as_str() == path {
             let form = if condition.present {
-                "It is wanted: KeepAlive PathState, and $ was last seen there."
+                "$ was last seen there."
             } else {
-                "It is wanted: KeepAlive PathState, and $ was last seen not there."
+                "$ was last seen not there."
             };
-            return (form, Text(path));
+            return alone(form, Text(path), NONE);
         }
     }
-    let form = "It is wanted: KeepAlive PathState, and $ was last seen as it says.";
-    (form, Text(path))
+    alone("$ was last seen as it says.", Text(path), NONE)
+}
+
+/// That of `QueueDirectories`. A path of `PathState` is named in place of a folder.
+pub(crate) fn queue_said<'a>(told: &ToldJob<'a>) -> Sentences<'a> {
+    let folder = match told.facts.path {
+        Some(path) if !told.facts.reasons.wants.path_state => path,
+        _ => "a folder",
+    };
+    alone("$ was last seen with an entry.", Text(folder), NONE)
 }

@@ -1,12 +1,13 @@
 //! The journal for people: a line for each event that matters.
 
 use crate::journal::news::{News, Wait, What};
-use crate::journal::reader::Journal;
-use crate::journal::run::Run;
+use crate::journal::reader::OpenJournal;
+use crate::journal::run::JobRun;
 use crate::texts::words::{asked_name, demand_words, end_words, refusal_name};
 use history_model::{DemandKind, Wants};
-use run_times::Hole::{Coming, Now, Number, Span, Text};
-use run_times::{Hole, Page};
+use pace::Signal;
+use run_times::Filling::{Coming, Now, Number, Span, Text};
+use run_times::{Filling, Page};
 
 /// Whether the label is among those; each is if there is none.
 pub(crate) fn is_named(labels: &[history_model::Text], label: &str) -> bool {
@@ -20,7 +21,11 @@ pub(crate) fn is_named(labels: &[history_model::Text], label: &str) -> bool {
 
 /// Adds what the last line of the journal gave, a line each, of the labels that are named, or of all if none is. What has no label is of
 /// each.
-pub(crate) fn add_lines(page: &mut Page<'_>, journal: &Journal, labels: &[history_model::Text]) {
+pub(crate) fn add_lines(
+    page: &mut Page<'_>,
+    journal: &OpenJournal,
+    labels: &[history_model::Text],
+) {
     for news in &journal.past.news {
         let label = news.label.as_str();
         if label.is_empty() || is_named(labels, label) {
@@ -94,20 +99,25 @@ fn add_what(page: &mut Page<'_>, what: &What) {
                 Number(u64::from(pid)),
             )
         }
-        What::Told { run, kills } => ("$ was ordered for run $", signal(kills), Number(run)),
-        What::Untold { run, kills } => {
-            ("$ could not be sent to run $", signal(kills), Number(run))
-        }
+        What::Told { run, signal } => ("$ was ordered for run $", signal_name(signal), Number(run)),
+        What::Untold { run, signal } => (
+            "$ could not be sent to run $",
+            signal_name(signal),
+            Number(run),
+        ),
         _ => ("removed", none, none),
     };
     page.add(form, &[first, second]);
 }
 
-fn signal(kills: bool) -> Hole<'static> {
-    Text(if kills { "KILL" } else { "TERM" })
+fn signal_name(signal: Signal) -> Filling<'static> {
+    Text(match signal {
+        Signal::Term => "TERM",
+        Signal::Kill => "KILL",
+    })
 }
 
-fn add_ended(page: &mut Page<'_>, run: &Run) {
+fn add_ended(page: &mut Page<'_>, run: &JobRun) {
     let (words, end) = end_words(run.end);
     let crash = if run.is_crash { " (a crash)" } else { "" };
     let holes = [

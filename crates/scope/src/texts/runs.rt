@@ -1,6 +1,6 @@
 //! What the runs of each job came to, in columns with a tab between them.
 
-use crate::journal::job::{Job, Totals};
+use crate::journal::job::{KeptJob, Totals};
 use crate::journal::past::Past;
 use crate::journal::run::RunEnd;
 use history_model::{Reading, Text};
@@ -51,7 +51,7 @@ fn lengths(alloc: Global, past: &Past, now: Reading) -> Result<Vec<(u64, u64)>, 
     Ok(lengths)
 }
 
-fn add_row(ink: &mut Ink, now: Reading, lengths: &[(u64, u64)], label: &str, job: &Job) {
+fn add_row(ink: &mut Ink, now: Reading, lengths: &[(u64, u64)], label: &str, job: &KeptJob) {
     let totals = job.record.totals_at(job.def.is_some(), now);
     ink.put(label);
     add_counts(ink, &totals);

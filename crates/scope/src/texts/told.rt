@@ -1,31 +1,65 @@
 //! What is told of one job, and the sentences that tell it.
 
-use crate::journal::job::{Asked, Record};
-use history_model::{DemandKind, Reading, Reasons};
+use crate::journal::facts::JobFacts;
+use crate::journal::job::{JobRequest, Record};
+use history_model::Reading;
 use job_defs::{Def, PathState};
-use job_table::Moments;
-use run_times::{Hole, Ink};
+use run_times::Filling;
 
 /// A sentence: its form, and what stands in the holes. An empty form says nothing.
-pub(crate) type Said<'a> = (&'static str, [Hole<'a>; 4]);
+pub(crate) type Sentence<'a> = (&'static str, [Filling<'a>; 4]);
 
 /// What stands where a form has no hole.
-pub(crate) const NONE: Hole<'static> = Hole::Text("");
+pub(crate) const NONE: Filling<'static> = Filling::Text("");
 
-/// A job, and what the table says of it.
+/// What says nothing.
+pub(crate) const SILENCE: Sentence<'static> = ("", [NONE; 4]);
+
+/// How many sentences a line may have behind its first words.
+pub(crate) const MOST_SENTENCES: usize = 10;
+
+/// The sentences of a line, in order.
+pub(crate) type Sentences<'a> = [Sentence<'a>; MOST_SENTENCES];
+
+/// A sentence without holes; nothing, if it does not hold.
+pub(crate) fn said_if(holds: bool, words: &'static str) -> Sentence<'static> {
+    (if holds { words } else { "" }, [NONE; 4])
+}
+
+/// One sentence alone, with two holes at most.
+pub(crate) fn alone<'a>(
+    form: &'static str,
+    first: Filling<'a>,
+    second: Filling<'a>,
+) -> Sentences<'a> {
+    let mut said = [SILENCE; MOST_SENTENCES];
+    said[0] = (form, [first, second, NONE, NONE]);
+    said
+}
+
+/// A job, what the table says of it, and what is kept of its past.
 #[derive(Clone, Copy)]
-pub(crate) struct Told<'a> {
-    pub(crate) now: Reading,
-    pub(crate) reasons: Reasons,
-    pub(crate) moments: Moments,
-    /// What made the pending demand.
-    pub(crate) demand: Option<DemandKind>,
-    /// Which path holds it wanted.
-    pub(crate) path: Option<&'a str>,
+pub(crate) struct ToldJob<'a> {
+    /// The reading as of which it is told.
+    pub(crate) at: Reading,
+    pub(crate) facts: JobFacts<'a>,
     /// What was asked of it last, or of all jobs.
-    pub(crate) asked: Option<(Asked, Reading)>,
+    pub(crate) asked: Option<(JobRequest, Reading)>,
     pub(crate) job: &'a Record,
     pub(crate) keys: Keys<'a>,
+    /// The next minute of its calendar.
+    pub(crate) calendar: CalendarNext,
+}
+
+/// The next minute that an entry of a calendar matches.
+#[derive(Clone, Copy)]
+pub(crate) enum CalendarNext {
+    /// There is no entry.
+    Absent,
+    /// It is beyond what is looked ahead.
+    Far,
+    /// The minute that begins at this second of `wall`.
+    At(u64),
 }
 
 /// What its definition says.
@@ -36,9 +70,10 @@ pub(crate) struct Keys<'a> {
     pub(crate) crashed: Option<bool>,
     pub(crate) path_state: &'a [PathState],
     pub(crate) start_interval: Option<u32>,
+    pub(crate) has_calendar: bool,
     /// Both in seconds.
-    pub(crate) throttle_interval: u64,
-    pub(crate) exit_time_out: u64,
+    pub(crate) throttle_interval: u32,
+    pub(crate) exit_time_out: u32,
     pub(crate) has_watch_paths: bool,
     pub(crate) has_queue_directories: bool,
     pub(crate) has_sockets: bool,
@@ -52,20 +87,12 @@ impl Keys<'_> {
             crashed: def.crashed(),
             path_state: def.path_state(),
             start_interval: def.start_interval(),
-            throttle_interval: u64::from(def.throttle_interval()),
-            exit_time_out: u64::from(def.exit_time_out()),
+            has_calendar: !def.calendar().is_empty(),
+            throttle_interval: def.throttle_interval(),
+            exit_time_out: def.exit_time_out(),
             has_watch_paths: !def.watch_paths().is_empty(),
             has_queue_directories: !def.queue_directories().is_empty(),
             has_sockets: def.has_sockets(),
-        }
-    }
-}
-
-/// Adds those of the words that hold.
-pub(crate) fn add_words(ink: &mut Ink, words: &[(bool, &'static str)]) {
-    for (holds, words) in words {
-        if *holds {
-            ink.put(*words);
         }
     }
 }

@@ -1,15 +1,14 @@
 //! Why each job stands as it does, at the journal's end.
 
-use crate::journal::job::{Job, Record};
-use crate::journal::reader::Journal;
-use crate::journal::telling::{Cause, causes};
-use crate::texts::causes::{cause_said, signals_said};
-use crate::texts::coming::{FARTHEST, add_ways};
-use crate::texts::told::{Keys, Told, add_words};
+use crate::journal::job::{KeptJob, Record};
+use crate::journal::reader::OpenJournal;
+use crate::texts::cause_lines::add_causes;
+use crate::texts::coming::{FARTHEST, calendar_next};
+use crate::texts::told::{Keys, ToldJob};
 use crate::texts::words::end_words;
 use calendar_due::Zone;
-use history_model::{Entry, MAX_UP, MAX_WALL, Reading, Reasons, StandingChild};
-use run_times::Hole::{Now, Number, Span, Text, Time};
+use history_model::{Entry, MAX_UP, MAX_WALL, Reading, Reasons};
+use run_times::Filling::{Now, Number, Span, Text, Time};
 use run_times::{Page, next_run};
 use std::alloc::{AllocError, Global};
 
@@ -17,7 +16,7 @@ use std::alloc::{AllocError, Global};
 /// last, and when it starts. Moments are shown in the zone.
 pub(crate) fn why_text(
     alloc: Global,
-    journal: &Journal,
+    journal: &OpenJournal,
     zone: &Zone,
     labels: &[history_model::Text],
 ) -> Result<String, AllocError> {
@@ -39,7 +38,7 @@ pub(crate) fn why_text(
     page.into_text()
 }
 
-fn add_all(page: &mut Page<'_>, journal: &Journal) {
+fn add_all(page: &mut Page<'_>, journal: &OpenJournal) {
     let mut is_empty = true;
     for (label, job) in &journal.past.jobs {
         if job.def.is_some() {
@@ -52,33 +51,29 @@ fn add_all(page: &mut Page<'_>, journal: &Journal) {
     }
 }
 
-fn add_job(page: &mut Page<'_>, journal: &Journal, label: &str, job: &Job) {
-    let Some(def) = &job.def else {
+fn add_job(page: &mut Page<'_>, journal: &OpenJournal, label: &str, job: &KeptJob) {
+    let (Some(def), Some(facts)) = (&job.def, journal.facts(label)) else {
         let form = "\n$ is not loaded: it was removed at $.\n";
         return page.add(form, &[Text(label), Time(job.record.gone.wall)]);
     };
-    let table = &journal.table;
-    let (Some(reasons), Some(moments)) = (table.reasons(label), table.moments(label)) else {
-        return;
-    };
-    let told = Told {
-        now: page.now,
-        reasons,
-        moments,
-        demand: table.latest_demand(label),
-        path: table.path_that_holds(label),
+    let entries = def.calendar();
+    let told = ToldJob {
+        at: page.now,
+        facts,
         asked: journal.past.asked_of(&job.record),
         job: &job.record,
         keys: Keys::of(def),
+        calendar: calendar_next(entries, &journal.zone, page.now.wall),
     };
-    page.add("\n$ $.\n", &[Text(label), Text(state_words(&reasons))]);
-    let entries = def.calendar();
-    let is_idle = add_causes(page, &told, entries, &journal.zone);
+    page.add(
+        "\n$ $.\n",
+        &[Text(label), Text(state_words(&facts.reasons))],
+    );
+    let is_idle = add_causes(page, &told);
     add_past(page, &job.record);
     // Of a job that nothing wants, and that nothing else keeps from a start, the ways by which it comes to start were told.
     if !is_idle {
-        let spawns_from = table.spawns_from(label);
-        let (form, wall) = start_words(&told, spawns_from, entries, &journal.zone);
+        let (form, wall) = start_words(&told, entries, &journal.zone);
         page.add(form, &[Time(wall)]);
     }
 }
@@ -91,41 +86,6 @@ fn state_words(reasons: &Reasons) -> &'static str {
         (_, None, Some(_)) => "is being started",
         (_, None, None) => "is not running",
     }
-}
-
-// A line for each cause. It says whether the only one is that nothing wants the job.
-fn add_causes(page: &mut Page<'_>, told: &Told<'_>, entries: &[Entry], zone: &Zone) -> bool {
-    let Ok(list) = causes(page.alloc, &told.reasons) else {
-        page.ink.refuse();
-        return false;
-    };
-    for cause in &list {
-        let (form, holes) = cause_said(told, *cause);
-        page.ink.put("  ");
-        page.add(form, &holes);
-        match *cause {
-            Cause::NotWanted => add_ways(page, told, entries, zone),
-            Cause::Child(child) => add_ending(page, told, child),
-            _ => {}
-        }
-        page.ink.put("\n");
-    }
-    match list.as_slice() {
-        [Cause::NotWanted] => true,
-        _ => false,
-    }
-}
-
-// What was asked and ordered for the end of the run that lives.
-fn add_ending(page: &mut Page<'_>, told: &Told<'_>, child: StandingChild) {
-    let words = [
-        (told.job.is_lost, " The system refused to wait for it."),
-        (child.is_struck, " `jobctl kickstart -k` asked for its end."),
-        (child.is_stopped, " Its end was asked for."),
-    ];
-    add_words(&mut page.ink, &words);
-    let (form, holes) = signals_said(told);
-    page.add(form, &holes);
 }
 
 // How the last run ended, how many there were, and that the last start was refused.
@@ -154,17 +114,20 @@ fn add_past(page: &mut Page<'_>, job: &Record) {
 }
 
 // When it starts by the clocks alone, if it does.
-fn start_words(
-    told: &Told<'_>,
-    spawns_from: Option<u64>,
-    entries: &[Entry],
-    zone: &Zone,
-) -> (&'static str, u64) {
+fn start_words(told: &ToldJob<'_>, entries: &[Entry], zone: &Zone) -> (&'static str, u64) {
     let now = Reading {
-        up: told.now.up.min(MAX_UP),
-        wall: told.now.wall.min(MAX_WALL),
+        up: told.at.up.min(MAX_UP),
+        wall: told.at.wall.min(MAX_WALL),
     };
-    match next_run(&told.reasons, spawns_from, entries, zone, now, FARTHEST) {
+    let facts = &told.facts;
+    match next_run(
+        &facts.reasons,
+        facts.spawns_from,
+        entries,
+        zone,
+        now,
+        FARTHEST,
+    ) {
         Some(seconds) => (
             "  It starts at $, if nothing else happens.\n",
             now.wall.saturating_add(seconds),

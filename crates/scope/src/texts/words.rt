@@ -1,21 +1,21 @@
 //! Names for what a journal tells.
 
-use crate::journal::job::Asked;
+use crate::journal::job::JobRequest;
 use crate::journal::run::RunEnd;
 use history_model::{DemandKind, Refusal};
 
 /// What was asked, as the word of `jobctl`.
-pub(crate) fn asked_name(asked: Asked) -> &'static str {
+pub(crate) fn asked_name(asked: JobRequest) -> &'static str {
     match asked {
-        Asked::Start => "start",
-        Asked::Stop => "stop",
-        Asked::Kickstart => "kickstart",
-        Asked::Strike => "kickstart -k",
-        Asked::Unload => "unload",
-        Asked::UnloadForGood => "unload -w",
-        Asked::Enable => "enable",
-        Asked::Disable => "disable",
-        Asked::Shutdown => "shutdown",
+        JobRequest::Start => "start",
+        JobRequest::Stop => "stop",
+        JobRequest::Kickstart => "kickstart",
+        JobRequest::Strike => "kickstart -k",
+        JobRequest::Unload => "unload",
+        JobRequest::UnloadForGood => "unload -w",
+        JobRequest::Enable => "enable",
+        JobRequest::Disable => "disable",
+        JobRequest::Shutdown => "shutdown",
     }
 }
 

@@ -1,6 +1,6 @@
 -- A line that is no header is heard by the journal that is open.
 use Rattle.scope.proofs.HearingLemmas.{hears_on}
-use Rattle.scope.proofs.listener.Listener.take.Goals as goal
+use Rattle.scope.proofs.listener.JournalListener.take.Goals as goal
 
 pub returns-in-Ok : goal.returns-in-Ok
 returns-in-Ok c = hears_on c.args.self.now.journal c.in-Some.journal c.take.new.self c.args.line.now c.args.is_header c.in-Some.is c.if-not-is_header.true c.in-Ok.ensures

@@ -1,0 +1,6 @@
+-- What is written stays, whatever stands in the holes.
+use Rattle.run_times.specs.Written.{Grows}
+use Rattle.run_times.proofs.page.Page.add.Given as goal
+
+abbrev pub invariant-loop-part : goal.invariant-loop-part
+invariant-loop-part l = Grows l.fn.self.ink l.self.ink

@@ -1,0 +1,13 @@
+use Rattle.std.proofs.Common.{◌++◌, codes, subst}
+use Rattle.std.specs.Fmt.{decimal}
+use Rattle.run_times.specs.Written.{Adds}
+use Rattle.run_times.proofs.GrowingLemmas.{adds_on}
+use Rattle.scope.proofs.texts.fronts.put_child.Goals as goal
+
+pub returns : goal.returns
+returns c =
+    let a = c.args.ink.now in
+    let b = c.put_numbered.new.ink in
+    let d = c.put_numbered-2.new.ink in
+    adds_on (codes "  Run " ++ decimal c.args.child.run) (codes " lives, process " ++ decimal c.args.child.pid) a b d c.put_numbered.ensures
+    (subst (λ n. Adds (codes " lives, process " ++ decimal n) b d) c.from.ensures c.put_numbered-2.ensures)

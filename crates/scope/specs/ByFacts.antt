@@ -1,0 +1,54 @@
+-- What the texts say of a job by its facts, as plain values.
+use Rattle.std.specs.Option.{option_map}
+use Rattle.std.specs.Prelude.{◌≡◌, ◌⊎◌, ℕ, ◌+◌, ◌*◌, ◌<◌, Bool, true, false, nat_le, Option, Some, None, is_none, is_some, if◌then◌else◌}
+use Rattle.history_model.specs.declared.TheConstants.{SECOND}
+use Rattle.history_model.specs.declared.Ask.TheVariants.{Start, Kickstart}
+use Rattle.history_model.specs.declared.Reading.{Reading}
+use Rattle.history_model.specs.declared.reasons.Reasons.{Reasons}
+use Rattle.history_model.specs.Items.{Item, Asked, History}
+use Rattle.history_model.specs.Demands.{fires}
+use Rattle.history_model.specs.Reasons.{reasons_of, some_want}
+use Rattle.scope.specs.declared.journal.news.Wait.{Wait}
+use Rattle.scope.specs.declared.texts.by_facts.OrderWhen.{OrderWhen}
+use Rattle.scope.specs.declared.texts.by_facts.OrderWhen.TheVariants.{Never, AtOnce, At}
+use Rattle.scope.specs.declared.texts.by_facts.StartWord.{StartWord}
+use Rattle.scope.specs.declared.texts.by_facts.StartWord.TheVariants as words
+use Rattle.scope.specs.declared.texts.by_facts.ThrottleBy.{ThrottleBy}
+use Rattle.scope.specs.declared.texts.by_facts.ThrottleBy.TheVariants.{Order, Refusal, Unknown}
+
+-- when a job that has no run starts again, by its reasons; of one that is not loaded nothing wants it
+abbrev pub wait_by : Option Reasons → Wait
+wait_by None = record { is_wanted = false; throttled_until = None }
+wait_by (Some r) = record { is_wanted = some_want r.wants; throttled_until = r.throttled_until }
+
+-- an order that may be given at these moments of `up` comes so, if nothing but readings happens:
+-- never; at this moment already; or from a later one on, and not before
+abbrev pub ComesSo : (ℕ → Bool) → ℕ → OrderWhen → Type 0
+ComesSo may now Never = (up : ℕ) → may up ≡ false
+ComesSo may now AtOnce = may now ≡ true
+ComesSo may now (At at) = (now < at) × ((up : ℕ) → may up ≡ nat_le at up)
+
+-- the question that the word of `jobctl` asks
+abbrev pub item_asked : StartWord → Item
+item_asked words.Start = Asked Start
+item_asked words.Kickstart = Asked (Kickstart true)
+
+abbrev pub is_start : StartWord → Bool
+is_start words.Start = true
+is_start words.Kickstart = false
+
+-- the child, or that no answer is awaited: the reasons tell then whether a stop was asked
+abbrev pub tells_stop : Reasons → Bool
+tells_stop r = if is_some r.child then true else is_none r.awaited
+
+-- what is asked by the word is a demand, and it is `start` wherever that is one, as far as the
+-- reasons tell
+pub record AsksBy (past : History) (word : StartWord) : Type 0 where
+  pub demands : fires (item_asked word) past ≡ true
+  pub plain : tells_stop (reasons_of past) ≡ true → is_start word ≡ fires (Asked Start) past
+
+-- the event to which the throttle is put down has just this moment for the throttle's end
+abbrev pub ThrottlesBy : ℕ → ℕ → ThrottleBy → Type 0
+ThrottlesBy throttle until (Order at) = until ≡ at.up + SECOND * throttle
+ThrottlesBy throttle until (Refusal at) = until ≡ at.up + SECOND
+ThrottlesBy throttle until Unknown = Unit {0}

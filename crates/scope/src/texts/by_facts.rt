@@ -1,0 +1,108 @@
+//! What the texts say of a job by its facts, as plain values: when TERM and KILL come, by which word a client can ask for a start, and by what the job
+//! is throttled.
+
+ghost use Rattle.std.specs.Prelude.{◌≡◌, ◌+◌, ℕ, Bool, true};
+ghost use Rattle.history_model.specs.NextMomentByFacts.{has_come};
+ghost use Rattle.history_model.specs.Items.{History};
+ghost use Rattle.history_model.specs.Reasons.{reasons_of};
+ghost use Rattle.job_core.specs.JobMoments.{AreMoments, may_kill_when, may_term_when};
+ghost use Rattle.scope.specs.ByFacts.{ComesSo, AsksBy, ThrottlesBy};
+
+use history_model::{Reading, Reasons, SECOND};
+use job_table::Moments;
+
+/// When an order comes, if nothing but readings happens.
+#[derive(Clone, Copy)]
+pub(crate) enum OrderWhen {
+    Never,
+    /// It is due, and is given once no answer is awaited.
+    AtOnce,
+    /// From this `up` on.
+    At(u64),
+}
+
+/// When KILL comes for the run that lives, by the moments that the table gives at this `up`.
+pub(crate) fn kill_when(moments: &Moments, up: u64) -> OrderWhen
+    ensures { (past : History) → AreMoments past moments.now →
+        ComesSo (λ at. may_kill_when at past) up result }
+{
+    order_when(moments.kill, up)
+}
+
+/// When TERM comes for the run that lives, once more if one was refused.
+pub(crate) fn term_when(moments: &Moments, up: u64) -> OrderWhen
+    ensures { (past : History) → AreMoments past moments.now →
+        ComesSo (λ at. may_term_when at past) up result }
+{
+    order_when(moments.term, up)
+}
+
+fn order_when(from: Option<u64>, up: u64) -> OrderWhen
+    ensures { (may : ℕ → Bool) → ((at : ℕ) → has_come from at ≡ may at) → ComesSo may up result }
+{
+    match from {
+        None => OrderWhen::Never,
+        Some(at) if at <= up => OrderWhen::AtOnce,
+        Some(at) => OrderWhen::At(at),
+    }
+}
+
+/// By which word of `jobctl` a client can ask for a start.
+#[derive(Clone, Copy)]
+pub(crate) enum StartWord {
+    Start,
+    /// `kickstart -k`, which ends the run that lives.
+    Kickstart,
+}
+
+/// By which word a client can ask for a start: `start`, where it is a demand. It is none of a job that runs and is not being stopped. While a
+/// start is awaited the reasons do not tell whether a stop was asked.
+pub(crate) fn start_word(reasons: &Reasons) -> StartWord
+    ensures { (past : History) → reasons.now ≡ reasons_of past → AsksBy past result }
+{
+    match reasons.child {
+        Some(child) if child.is_stopped => StartWord::Start,
+        Some(_) => StartWord::Kickstart,
+        None if reasons.awaited.is_none() => StartWord::Start,
+        None => StartWord::Kickstart,
+    }
+}
+
+/// By what a job is throttled.
+#[derive(Clone, Copy)]
+pub(crate) enum ThrottleBy {
+    /// By the start that was ordered at this reading.
+    Order(Reading),
+    /// By the one that was refused at this reading.
+    Refusal(Reading),
+    /// By an earlier one, which is not kept.
+    Unknown,
+}
+
+/// By what the job is throttled until this `up`, if its last start was ordered and its last refused one was refused at these readings, and
+/// `ThrottleInterval` is so many seconds.
+pub(crate) fn throttle_by(
+    ordered: Option<Reading>,
+    refused: Option<Reading>,
+    throttle: u32,
+    until: u64,
+) -> ThrottleBy
+    ensures { ThrottlesBy throttle until result }
+{
+    let length = SECOND * u64::from(throttle);
+    if let Some(at) = ordered {
+        if ends_at(at, length, until) {
+            return ThrottleBy::Order(at);
+        }
+    }
+    match refused {
+        Some(at) if ends_at(at, SECOND, until) => ThrottleBy::Refusal(at),
+        _ => ThrottleBy::Unknown,
+    }
+}
+
+fn ends_at(at: Reading, length: u64, until: u64) -> bool
+    ensures { result ≡ true → until ≡ at.up + length }
+{
+    at.up <= until && until - at.up == length
+}

@@ -1,0 +1,70 @@
+//! The lines for what keeps a job from a start, and for what wants it.
+
+ghost use Rattle.std.specs.Prelude.{◌≡◌, ◌++◌, ◌∷◌, ℕ, List, [], false};
+ghost use Rattle.run_times.specs.Written.{Adds, Grows};
+ghost use Rattle.scope.specs.Fronts.{front_of, TellsCauses, TellsEach};
+
+use crate::journal::telling::{JobCause, causes};
+use crate::texts::causes::{path_said, queue_said, sentences_of};
+use crate::texts::fronts::put_front;
+use crate::texts::told::{Sentence, ToldJob};
+use run_times::Page;
+
+/// Adds a line for each cause of the job, in order: for each thing that the table's reasons say, and for nothing else. It says whether the only
+/// one is that nothing wants the job.
+pub(crate) fn add_causes(page: &mut Page<'_>, told: &ToldJob<'_>) -> bool
+    ensures { page.new.ink.is_refused ≡ false →
+        TellsCauses told.now.facts.reasons page.old.ink page.new.ink }
+{
+    let Ok(list) = causes(page.alloc, &told.facts.reasons) else {
+        page.ink.refuse();
+        return false;
+    };
+    add_lines(page, told, list.as_slice());
+    is_idle(list.as_slice())
+}
+
+// Whether the only cause is that nothing wants the job.
+fn is_idle(causes: &[JobCause]) -> bool {
+    match causes {
+        [JobCause::NotWanted] => true,
+        _ => false,
+    }
+}
+
+// A line for each of the causes, in order.
+fn add_lines(page: &mut Page<'_>, told: &ToldJob<'_>, causes: &[JobCause])
+    ensures { TellsEach causes.now page.old.ink page.new.ink }
+{
+    for cause in causes {
+        add_line(page, told, *cause);
+    }
+}
+
+// The line of a cause: its first words, and the sentences that end it.
+fn add_line(page: &mut Page<'_>, told: &ToldJob<'_>, cause: JobCause)
+    ensures { (more : List ℕ) × Adds (front_of cause ++ (more ++ 10 ∷ [])) page.old.ink page.new.ink }
+{
+    put_front(&mut page.ink, cause);
+    add_end(page, told, cause);
+    page.ink.put("\n");
+}
+
+// What ends it.
+fn add_end(page: &mut Page<'_>, told: &ToldJob<'_>, cause: JobCause)
+    ensures { Grows page.old.ink page.new.ink }
+{
+    match cause {
+        JobCause::PathState => add_sentences(page, &path_said(told)),
+        JobCause::QueueDirectories => add_sentences(page, &queue_said(told)),
+        cause => add_sentences(page, &sentences_of(told, cause)),
+    }
+}
+
+fn add_sentences(page: &mut Page<'_>, said: &[Sentence<'_>])
+    ensures { Grows page.old.ink page.new.ink }
+{
+    for (form, holes) in said {
+        page.add(*form, holes);
+    }
+}
