@@ -18,7 +18,7 @@ pub enum Seen {
     Silent,
     /// It could not be asked, or the look-out ended twice in a row before its answer.
     Failed(io::Error),
-    /// The system starts no look-out.
+    /// The system starts no look-out, or none that ever answered.
     Unstarted,
 }
 

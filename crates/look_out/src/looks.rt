@@ -35,6 +35,8 @@ pub struct Looks<P: OpenProcess + Drop> {
     // The moment of `up` at which the last answer came, or the first question that waits was asked.
     since: u64,
     losses: u32,
+    // One has answered.
+    is_known: bool,
 }
 
 impl<P: OpenProcess + Drop> Looks<P> {
@@ -48,6 +50,7 @@ impl<P: OpenProcess + Drop> Looks<P> {
             part: Vec::new(alloc),
             since: 0,
             losses: 0,
+            is_known: false,
         }
     }
 
@@ -174,6 +177,7 @@ impl<P: OpenProcess + Drop> Looks<P> {
             Ok(true) => {
                 self.since = up;
                 self.losses = 0;
+                self.is_known = true;
             }
             Ok(false) => {
                 if up.saturating_sub(self.since) >= PATIENCE {
@@ -307,13 +311,17 @@ impl<P: OpenProcess + Drop> Looks<P> {
         self.batch.pass();
     }
 
-    // The look-out ended, or none could be started. What waits is asked once more, and the first question then no more.
+    // The look-out ended. What waits is asked once more, and the first question then no more; nothing, if none has ever answered.
     fn lose(&mut self, error: io::Error, up: u64) {
         self.let_go();
         self.losses = self.losses.saturating_add(1);
         if self.losses >= LOSSES {
             self.losses = 0;
-            self.decide(Seen::Failed(error));
+            if self.is_known {
+                self.decide(Seen::Failed(error));
+            } else {
+                self.give_in();
+            }
         }
         self.since = up;
     }

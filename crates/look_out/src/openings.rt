@@ -28,7 +28,7 @@ pub enum Asked {
     StillHangs(usize),
     /// A path can't be asked about, or the look-out ended twice before its answer, which says nothing of the paths.
     Unasked(io::Error),
-    /// The system starts no look-out.
+    /// The system starts no look-out, or none that ever answered.
     Unstarted,
 }
 
@@ -43,6 +43,8 @@ pub struct Openings<P: OpenProcess + Drop> {
     is_open: bool,
     // The last one that was wanted was started.
     has_started: bool,
+    // One has answered.
+    is_known: bool,
 }
 
 impl<P: OpenProcess + Drop> Model for Openings<P> {
@@ -64,6 +66,7 @@ impl<P: OpenProcess + Drop> Openings<P> {
             owed: 0,
             is_open: false,
             has_started: false,
+            is_known: false,
         }
     }
 
@@ -101,6 +104,7 @@ impl<P: OpenProcess + Drop> Openings<P> {
         drop(text);
         match last {
             Ok(()) => {
+                self.is_known = true;
                 open_all(hung, questions);
                 Asked::Answered
             }
@@ -109,7 +113,9 @@ impl<P: OpenProcess + Drop> Openings<P> {
                 self.give_up(rt, hung, path_at(questions, at), up);
                 Asked::Hangs(at)
             }
-            Err(_) if self.helper.is_none() && !self.has_started => Asked::Unstarted,
+            Err(error) if !(self.has_started && self.is_known) && is_of_system(&error) => {
+                Asked::Unstarted
+            }
             Err(error) => Asked::Unasked(error),
         }
     }
@@ -216,6 +222,11 @@ impl<P: OpenProcess + Drop> Openings<P> {
 // No answer in time.
 fn is_late(error: &io::Error) -> bool {
     error.kind() == ErrorKind::WouldBlock
+}
+
+// Not of a path that can't be asked about.
+fn is_of_system(error: &io::Error) -> bool {
+    error.kind() != ErrorKind::InvalidInput
 }
 
 // Whether the folder of what the process holds is open to this one: its input is a socket, which is there to be looked at.
