@@ -1,5 +1,8 @@
 //! The questions of a round of looks that are on their way, in the order in which they were asked, each with what became of it.
 
+ghost use Rattle.std.specs.Prelude.{◌≡◌, true};
+ghost use Rattle.look_out.specs.Batches.{IsDecidedAt};
+
 use crate::answer::Answer;
 use std::alloc::{AllocError, Global};
 use std::io;
@@ -81,14 +84,18 @@ impl Batch {
     }
 
     /// The next answer: it is that of the first question which waits. False: none waits.
-    pub(crate) fn take_in(&mut self, answer: Answer) -> bool {
+    pub(crate) fn take_in(&mut self, answer: Answer) -> bool
+        ensures { result ≡ true → IsDecidedAt self.old.next (Seen.Answered answer) self.old.entries.items self.new.entries.items }
+    {
         let is_asked = self.decide(Seen::Answered(answer));
         self.pass();
         is_asked
     }
 
     // Decides the first question that waits.
-    pub(crate) fn decide(&mut self, seen: Seen) -> bool {
+    pub(crate) fn decide(&mut self, seen: Seen) -> bool
+        ensures decided { result ≡ true → IsDecidedAt self.old.next seen self.old.entries.items self.new.entries.items }
+    {
         match self.entries.get_mut(self.next) {
             Some(entry) => {
                 entry.seen = seen;
@@ -99,7 +106,9 @@ impl Batch {
     }
 
     // Goes past what is decided.
-    pub(crate) fn pass(&mut self) {
+    pub(crate) fn pass(&mut self)
+        ensures { self.new.entries ≡ self.old.entries }
+    {
         for at in self.next..self.entries.len() {
             match self.entries.get(at) {
                 Some(
