@@ -173,7 +173,7 @@ def late(times):
     return times[int(len(times) * 0.99)], times[-1]
 
 
-def is_prompt(honest, waits=1):
+def is_prompt(honest, waits=3):
     """All but some waits of half a second were prompt."""
     times = honest.end()
     part, most = late(times)
@@ -290,6 +290,7 @@ def a_socket(stage):
         check(reply["code"] != 0, f"the load got {reply}")
         told(launcher, "no answer")
         goes_on(launcher, stage, "good")
+        time.sleep(1)
         is_prompt(honest)
         hung.go_on()
         launcher.shut_down(30)

@@ -26,7 +26,8 @@ struct Far {
     question: Vec<u8>,
 }
 
-/// Answers the questions that come at the socket, in their order, until its end. What a question opens stays open until the one
+/// Answers the questions that come at the socket, in their order, until its end: each before the next is looked at, so that the first without
+/// an answer is the one that hangs. What a question opens stays open until the one
 /// that forgets it.
 pub fn serve<R: AllocGlobal + Clone + Drop + Env + Files<File = File>, S: Read + Write>(
     rt: &R,
@@ -45,9 +46,13 @@ pub fn serve<R: AllocGlobal + Clone + Drop + Env + Files<File = File>, S: Read +
         if count == 0 {
             break;
         }
-        answers.clear();
-        take_in(rt, &mut far, &room[..count], &mut answers)?;
-        socket.write_all(answers.as_slice())?;
+        for byte in &room[..count] {
+            answers.clear();
+            take_in(rt, &mut far, &[*byte], &mut answers)?;
+            if !answers.is_empty() {
+                socket.write_all(answers.as_slice())?;
+            }
+        }
     }
     Ok(())
 }
