@@ -168,8 +168,8 @@ class Soak:
         time.sleep(0.5)
         if self.children():
             self.complain(f"children are left: {self.children()}")
-        # One more is that of the shell which gives TERM.
-        if len(self.descriptors()) > len(self.open_before) + 1:
+        # One more is that of the shell which gives TERM, and two those of the look-outs.
+        if len(self.descriptors()) > len(self.open_before) + 3:
             self.complain(f"descriptors are left: {len(self.open_before)} before, {len(self.descriptors())} after")
         if os.listdir(self.path("spool")):
             self.complain(f"spool files are left: {os.listdir(self.path('spool'))[:5]}")

@@ -1,5 +1,5 @@
 -- What a child's command has in its environment beside what the launcher has.
-use Rattle.std.specs.Prelude.{◌≡◌, ℕ, List, fold, bytes_eq, Option, Some, if◌then◌else◌}
+use Rattle.std.specs.Prelude.{◌≡◌, ℕ, List, fold, bytes_eq, Option, Some, None, if◌then◌else◌}
 use Rattle.history_model.specs.declared.definition.parts.Variable.{Variable}
 
 -- what is said of a name, if anything: its value, or that it has none
@@ -16,3 +16,9 @@ said_after name before variables =
 abbrev pub SetsVariables : List Variable → (List ℕ → Said) → (List ℕ → Said) → Type 0
 SetsVariables variables old new =
     (name : List ℕ) → new name ≡ said_after name (old name) variables
+
+-- the folder that a child begins in: none, if the definition says none; else the place where it is held, or the folder itself
+abbrev pub folder_at : Option (List ℕ) → Option (List ℕ) → Option (List ℕ)
+folder_at None held = None
+folder_at (Some folder) None = Some folder
+folder_at (Some folder) (Some place) = Some place

@@ -1,3 +1,4 @@
 pub mod Calls
 pub mod Command
 pub mod MemoryEdges
+pub mod Sights

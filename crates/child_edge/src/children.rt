@@ -3,6 +3,7 @@
 ghost use Rattle.std.specs.Prelude.{◌<◌, IfOk};
 
 use crate::failure::{Failure, culprit};
+use crate::held::Held;
 use crate::maps::key_from;
 use crate::shell::KeptShell;
 use crate::start::Start;
@@ -91,6 +92,7 @@ impl<P: OpenProcess + Drop> Children<P> {
         start: Start<'_>,
         is_timed: bool,
         command: Command,
+        held: &Held,
     ) -> Result<u32, Failure>
         ensures { IfOk result (λ pid. 0 < pid) }
     {
@@ -98,7 +100,7 @@ impl<P: OpenProcess + Drop> Children<P> {
         let kept = Kept::of(rt, alloc, start, is_timed);
         let answer = match self.spawn(rt, start.key, kept, &mut command) {
             Ok(pid) => Ok(pid),
-            Err(error) => Err(culprit(rt, alloc, start.def, error)),
+            Err(error) => Err(culprit(rt, alloc, start.def, held, error)),
         };
         drop(command);
         answer

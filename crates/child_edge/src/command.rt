@@ -2,7 +2,7 @@
 
 ghost use Rattle.std.specs.Prelude.{◌≡◌, ◌++◌, ℕ, List, None, Some, IfOk, OnOk, option_map};
 ghost use Rattle.std.specs.Process.{command_program, command_args, command_dir, command_arg0, command_var, SameEnv, SameDir, SameOtherVars, SameProgramAndArgs};
-ghost use Rattle.child_edge.specs.Command.{SetsVariables, said_after};
+ghost use Rattle.child_edge.specs.Command.{SetsVariables, said_after, folder_at};
 
 use history_model::Text;
 use history_model::definition::{Def, Variable};
@@ -11,17 +11,22 @@ use std::os::unix::process::CommandExt;
 use std::process::Command;
 
 /// The command that the definition says: its program, which is also the child's own name for itself, its arguments, its
-/// directory, and its variables beside the launcher's. It has no streams yet.
-pub(crate) fn command_of(alloc: Global, def: &Def) -> Result<Command, AllocError>
+/// directory, or the place where that is held, and its variables beside the launcher's. It has no streams yet.
+pub(crate) fn command_of(
+    alloc: Global,
+    def: &Def,
+    held: Option<&str>,
+) -> Result<Command, AllocError>
     ensures program { IfOk result (λ c. command_program c ≡ def.now.program) }
     ensures name { IfOk result (λ c. command_arg0 c ≡ Some def.now.program) }
     ensures arguments { IfOk result (λ c. command_args c ≡ def.now.arguments) }
-    ensures directory { IfOk result (λ c. command_dir c ≡ def.now.working_directory) }
+    ensures directory { IfOk result (λ c. command_dir c
+        ≡ folder_at def.now.working_directory (option_map (λ place. place.now) held.entry)) }
     ensures variables { IfOk result (λ c. (name : List ℕ) →
         command_var c name ≡ said_after name None def.now.environment) }
 {
     let mut command = Command::new(alloc, def.program())?;
-    match set_up(&mut command, def) {
+    match set_up(&mut command, def, held) {
         Ok(()) => Ok(command),
         Err(error) => {
             drop(command);
@@ -31,31 +36,41 @@ pub(crate) fn command_of(alloc: Global, def: &Def) -> Result<Command, AllocError
 }
 
 // What the definition says beside the program. The command is lent, so that no `?` has to drop it.
-fn set_up(command: &mut Command, def: &Def) -> Result<(), AllocError>
+fn set_up(command: &mut Command, def: &Def, held: Option<&str>) -> Result<(), AllocError>
     requires { command_dir command.old ≡ None }
     ensures program { OnOk result (command_program command.new ≡ command_program command.old) }
     ensures name { OnOk result (command_arg0 command.new ≡ Some def.now.program) }
     ensures arguments { OnOk result
         (command_args command.new ≡ command_args command.old ++ def.now.arguments) }
-    ensures directory { OnOk result (command_dir command.new ≡ def.now.working_directory) }
+    ensures directory { OnOk result (command_dir command.new
+        ≡ folder_at def.now.working_directory (option_map (λ place. place.now) held.entry)) }
     ensures variables { OnOk result
         (SetsVariables def.now.environment (command_var command.old) (command_var command.new)) }
 {
     add_words(command, def.arguments())?;
     add_variables(command, def.environment())?;
-    set_folder(command, def.working_directory())?;
+    set_folder(command, def.working_directory(), held)?;
     command.arg0(def.program())?;
     Ok(())
 }
 
-fn set_folder(command: &mut Command, folder: Option<&str>) -> Result<(), AllocError>
+fn set_folder(
+    command: &mut Command,
+    folder: Option<&str>,
+    held: Option<&str>,
+) -> Result<(), AllocError>
     requires { command_dir command.old ≡ None }
     ensures call { OnOk result (SameProgramAndArgs command.old command.new) }
     ensures env { OnOk result (SameEnv command.old command.new) }
-    ensures folder { OnOk result (command_dir command.new ≡ option_map (λ s. s.now) folder.entry) }
+    ensures folder { OnOk result (command_dir command.new ≡ folder_at
+        (option_map (λ s. s.now) folder.entry) (option_map (λ place. place.now) held.entry)) }
 {
     if let Some(folder) = folder {
-        command.current_dir(folder)?;
+        let place = match held {
+            Some(held) => held,
+            None => folder,
+        };
+        command.current_dir(place)?;
     }
     Ok(())
 }

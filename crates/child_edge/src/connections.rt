@@ -12,7 +12,8 @@ use crate::Client;
 use crate::children::{Kept, RunKey};
 use crate::command::command_of;
 use crate::connection::{Connection, Progress};
-use crate::failure::{Failure, culprit};
+use crate::failure::{Failure, Part, culprit};
+use crate::held::Held;
 use crate::maps::key_from;
 use crate::notices::{Asked, LetGo, Notices, OF_ROOM};
 use crate::spool::Spooled;
@@ -21,7 +22,7 @@ use crate::streams::{own_streams, served_streams};
 use crate::words::Hole::{Error, Text as Words};
 use history_model::{Ended, JobNo, Text};
 use socket_demand::Exchange;
-use std::alloc::Global;
+use std::alloc::{AllocError, Global};
 use std::collections::BTreeMap;
 use std::fs::{File, Files};
 use std::io;
@@ -229,27 +230,39 @@ impl Connections {
         tally
     }
 
-    /// The command that the start's definition says, with its streams.
+    /// The command that the start's definition says, with its streams. What a look-out holds is taken from there.
     pub(crate) fn command_for<R: Files<File = File>>(
         &mut self,
         rt: &R,
         notices: &mut Notices,
         start: Start<'_>,
+        held: &Held,
     ) -> Result<Command, Failure> {
-        let mut command = match command_of(self.alloc, start.def) {
+        let mut command = match self.command_at(start, held) {
             Ok(command) => command,
             Err(error) => {
                 let error = io::Error::from(error);
-                return Err(culprit(rt, self.alloc, start.def, error));
+                return Err(culprit(rt, self.alloc, start.def, held, error));
             }
         };
-        match self.give_streams(rt, notices, start, &mut command) {
+        match self.give_streams(rt, notices, start, held, &mut command) {
             Ok(()) => Ok(command),
             Err(failure) => {
                 drop(command);
                 Err(failure)
             }
         }
+    }
+
+    // The command, whose folder is the one that is held, if it is.
+    fn command_at(&self, start: Start<'_>, held: &Held) -> Result<Command, AllocError> {
+        let place = held.path_of(self.alloc, Part::Folder)?;
+        let command = match &place {
+            Some(place) => command_of(self.alloc, start.def, Some(place.as_str())),
+            None => command_of(self.alloc, start.def, None),
+        };
+        drop(place);
+        command
     }
 
     // A run that serves a connection reads its request and writes its reply. If one of these files is lost, the client is let go and
@@ -259,21 +272,23 @@ impl Connections {
         rt: &R,
         notices: &mut Notices,
         start: Start<'_>,
+        held: &Held,
         command: &mut Command,
     ) -> Result<(), Failure> {
+        let alloc = self.alloc;
         let Some(conn) = start.conn else {
-            return own_streams(rt, start.def, command);
+            return own_streams(rt, alloc, start.def, held, command);
         };
         let key = (start.key.0, conn);
         let files = match self.held.get(&key) {
             Some(connection) => Some(&connection.files),
             None => None,
         };
-        match served_streams(rt, start.def, files, command) {
+        match served_streams(rt, alloc, start.def, held, files, command) {
             Err(failure) if failure.is_lost() => {
                 notices.spool_lost(start, failure);
                 self.close(rt, notices, key, None);
-                served_streams(rt, start.def, None, command)
+                served_streams(rt, alloc, start.def, held, None, command)
             }
             answer => answer,
         }

@@ -1,7 +1,7 @@
 //! The outside as traits: what the launcher asks of it, one small trait for each kind of call. A child is a process that
 //! the launcher started; its run is named by the job's number and the run's.
 
-ghost use Rattle.std.specs.Prelude.{◌≡◌, ◌<◌, ℕ, List, [], ◌∷◌, Option, IfOk, OnErr, OnOk};
+ghost use Rattle.std.specs.Prelude.{◌≡◌, ◌<◌, ℕ, List, [], ◌∷◌, Option, Result, IfOk, OnErr, OnOk};
 ghost use Rattle.child_edge.specs.Calls.{TellsOne, one_more, start_answer, done_answer, poll_answer, look_answer, read_answer};
 ghost use Rattle.child_edge.specs.declared.plain.EdgeCall.{EdgeCall as Call};
 ghost use Rattle.child_edge.specs.declared.plain.Scripted.{Scripted as Answer};
@@ -84,13 +84,45 @@ pub trait SocketEdge: Edge {
         ensures success { Self.failures self.new ≡ Self.failures self.old };
 }
 
-/// Looks at paths. Each call is told with its answer; it answers a fault exactly if it adds one to the count of
-/// failures.
+/// Looks at paths, in rounds: paths are asked about, and once it is known what is at one of them, it is looked at. An edge that need not
+/// be asked knows it at once. Each look is told with its answer; it answers a fault exactly if it adds one to the count of failures. The
+/// other calls are no looks, and add none.
 pub trait PathEdge: Edge {
-    /// What is at the path now. That nothing is there is an observation too.
+    ghost use Rattle.history_model.specs.declared.Obs.{Obs};
+    ghost use Rattle.child_edge.specs.declared.plain.EdgeFault.{EdgeFault};
+
+    /// A look at the path, with this answer, may lead from the one to the other.
+    ghost Looks: { List ℕ → Result Obs EdgeFault → Self → Self → Type 0 };
+
+    /// Begins a round of looks: what was asked before it and not looked at is not answered any more.
+    fn begin_looks(&mut self)
+        ensures told { Self.told self.new ≡ Self.told self.old }
+        ensures success { Self.failures self.new ≡ Self.failures self.old }
+    {}
+
+    /// Asks what is at the path, and does not wait for the answer. False: before that, paths that were asked about are to be looked at.
+    fn ask(&mut self, _path: &str) -> bool
+        ensures told { Self.told self.new ≡ Self.told self.old }
+        ensures success { Self.failures self.new ≡ Self.failures self.old }
+    {
+        true
+    }
+
+    /// Whether it is known what is at the path, or that there will be no answer: within half a second of the question. A path that was not
+    /// asked about in this round is asked about.
+    fn is_seen(&mut self, _path: &str) -> bool
+        ensures told { Self.told self.new ≡ Self.told self.old }
+        ensures success { Self.failures self.new ≡ Self.failures self.old }
+    {
+        true
+    }
+
+    /// What was at the path when it was asked about, at most half a second ago. That nothing is there is an observation too. An `Err` if the
+    /// system refused to look, or if there was no answer.
     fn look(&mut self, path: &str) -> Result<Obs, EdgeFault>
         ensures told { TellsOne (Self.told self.old)
             (EdgeCall.Look, look_answer result) (Self.told self.new) }
+        ensures looks { Self.Looks path.now result self.old self.new }
         ensures fault { OnErr result (Self.failures self.new ≡ one_more (Self.failures self.old)) }
         ensures success { OnOk result (Self.failures self.new ≡ Self.failures self.old) };
 }

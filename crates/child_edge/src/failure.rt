@@ -1,5 +1,6 @@
 //! Why a start was refused: which part of it, and what the system said.
 
+use crate::held::Held;
 use history_model::definition::Def;
 use std::alloc::Global;
 use std::fs::Files;
@@ -53,8 +54,19 @@ impl Failure {
     }
 }
 
-/// Whose error a spawn's is: the system does not tell the folder's from the program's, so the folder is tried.
-pub(crate) fn culprit<R: Files>(rt: &R, alloc: Global, def: &Def, error: io::Error) -> Failure {
+/// Whose error a spawn's is: the system does not tell the folder's from the program's. A look-out has tried the folder; if there was none, it
+/// is tried here.
+pub(crate) fn culprit<R: Files>(
+    rt: &R,
+    alloc: Global,
+    def: &Def,
+    held: &Held,
+    error: io::Error,
+) -> Failure {
+    if held.is_asked {
+        let part = Part::Program;
+        return Failure { part, error };
+    }
     if let Some(folder) = def.working_directory() {
         if let Err(error) = enter(rt, alloc, folder) {
             let part = Part::Folder;

@@ -2,6 +2,7 @@
 //! their answers, and counts its failures. [`MemoryEdge`] answers from a script, for tests.
 #![tactic(auto)]
 
+mod asking;
 mod children;
 mod clearing;
 mod client;
@@ -12,6 +13,7 @@ mod connections;
 mod edge;
 mod failure;
 mod fault;
+mod held;
 mod listener;
 mod maps;
 mod memory;

@@ -46,6 +46,14 @@ impl Listener {
         }
     }
 
+    /// The path of a Unix socket.
+    pub(crate) fn path(&self) -> Option<&str> {
+        match self {
+            Listener::Unix { path, .. } => Some(path.as_str()),
+            Listener::Inet(_) => None,
+        }
+    }
+
     /// Whether this is the socket at the path.
     pub(crate) fn is_at(&self, path: &str) -> bool {
         match self {

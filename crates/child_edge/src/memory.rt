@@ -268,6 +268,9 @@ impl SocketEdge for MemoryEdge {
 }
 
 impl PathEdge for MemoryEdge {
+    // its record of calls has no paths
+    ghost Looks = { λ path answer old new. Unit {0} };
+
     fn look(&mut self, _path: &str) -> Result<Obs, EdgeFault>
         ensures answer { look_answer result ≡ answer_of EdgeCall.Look self.old }
         ensures after { self.new ≡ after_call EdgeCall.Look self.old }

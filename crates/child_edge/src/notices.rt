@@ -363,6 +363,15 @@ impl Notices {
         }
     }
 
+    /// What a look-out holds can't be opened, since its folder in /proc is closed to this process.
+    pub(crate) fn shut(&mut self) {
+        if self.has_place() {
+            let form = "streams are opened by their paths: /proc is closed to the launcher";
+            let line = filled(self.alloc, form, &[]);
+            self.add(NoticeKind::Refusal, line);
+        }
+    }
+
     // Whether a line more has room. One that has none is counted.
     fn has_place(&mut self) -> bool {
         if self.dropped > 0 || self.waiting.len() >= ROOM {

@@ -3,10 +3,12 @@
 ghost use Rattle.std.specs.Prelude.{◌≡◌, ◌<◌, None, IfOk, OnOk, OnErr};
 ghost use Rattle.child_edge.specs.Calls.{one_more};
 
+use crate::asking::{first_silent, hold};
 use crate::children::{Children, RunKey};
 use crate::connections::Connections;
 use crate::failure::Failure;
 use crate::fault::fault_of;
+use crate::held::Held;
 use crate::notices::{Asked, Notices};
 use crate::shell::KeptShell;
 use crate::sockets::Sockets;
@@ -16,6 +18,7 @@ use crate::{
 };
 use history_model::definition::Def;
 use history_model::{Ended, JobNo, Obs, Reading};
+use look_out::{Hung, Looks, Openings, Seen};
 use mio::{Registry, Token};
 use socket_demand::Exchange;
 use std::alloc::Global;
@@ -34,6 +37,12 @@ pub struct OsEdge<R: Processes> {
     made: Instant,
     children: Children<R::Started>,
     shell: KeptShell<R::Started>,
+    // One is asked what is at paths and not waited for; the other is asked what starts and binds need. What hung is remembered for both.
+    looks: Looks<R::Started>,
+    openings: Openings<R::Started>,
+    hung: Hung<R::Started>,
+    // That what the look-out holds can't be opened was told.
+    is_shut_told: bool,
     sockets: Sockets,
     connections: Connections,
     notices: Notices,
@@ -49,6 +58,10 @@ impl<R: Drop + Processes> Drop for OsEdge<R> {
             made: _,
             children: _,
             shell: _,
+            looks: _,
+            openings: _,
+            hung: _,
+            is_shut_told: _,
             sockets: _,
             connections: _,
             notices: _,
@@ -78,6 +91,10 @@ impl<R: Clock + Drop + Processes> OsEdge<R> {
             made,
             children: Children::new(alloc),
             shell: KeptShell::new(alloc),
+            looks: Looks::new(alloc),
+            openings: Openings::new(alloc),
+            hung: Hung::new(alloc),
+            is_shut_told: false,
             sockets: Sockets::new(alloc),
             connections: Connections::new(alloc, spool, made),
             notices: Notices::new(alloc),
@@ -240,25 +257,68 @@ impl<R: Clock + Files<File = File> + Processes> OsEdge<R> {
     }
 
     /// Lets each connection go that is held, and removes its files from the spool: at the end, so that nothing is left there of
-    /// clients that took no reply. Ends the shell that is kept for TERM, even if it was stopped. Takes no memory.
+    /// clients that took no reply. Ends the shell that is kept for TERM and the look-outs, even if they were stopped. Takes no memory.
     pub fn let_all_go(&mut self)
         ensures { self.new ≡ self.old }
     {
         self.connections.close_all(&self.rt, &mut self.notices);
         self.shell.end();
+        self.looks.let_go();
+        self.openings.let_go();
     }
 
+    // Starts the run over what a look-out holds for it, and has that forgotten.
     fn launch(&mut self, start: Start<'_>) -> Result<u32, Failure>
+    where
+        R: AllocGlobal + Net,
+        ensures pid { IfOk result (λ pid. 0 < pid) }
+        ensures failures { self.new ≡ self.old }
+    {
+        let up = clock::up(&self.rt, self.made);
+        let held = match hold(
+            &self.rt,
+            self.alloc,
+            &mut self.openings,
+            &mut self.hung,
+            start,
+            up,
+        ) {
+            Ok(held) => held,
+            Err(failure) => {
+                self.openings.forget();
+                return Err(failure);
+            }
+        };
+        let answer = self.launch_over(start, held);
+        self.tell_shut(held);
+        self.openings.forget();
+        answer
+    }
+
+    fn launch_over(&mut self, start: Start<'_>, held: Held) -> Result<u32, Failure>
         ensures pid { IfOk result (λ pid. 0 < pid) }
         ensures failures { self.new ≡ self.old }
     {
         let notices = &mut self.notices;
         let is_timed = notices.tells_runs;
-        match self.connections.command_for(&self.rt, notices, start) {
+        match self
+            .connections
+            .command_for(&self.rt, notices, start, &held)
+        {
             Ok(command) => self
                 .children
-                .start(&self.rt, self.alloc, start, is_timed, command),
+                .start(&self.rt, self.alloc, start, is_timed, command, &held),
             Err(failure) => Err(failure),
+        }
+    }
+
+    // At the first start over a look-out whose folder in /proc is closed, that is told.
+    fn tell_shut(&mut self, held: Held)
+        ensures { self.new ≡ self.old }
+    {
+        if held.is_asked && !self.is_shut_told && self.openings.id().is_none() {
+            self.is_shut_told = true;
+            self.notices.shut();
         }
     }
 }
@@ -269,7 +329,7 @@ impl<R: Processes> Edge for OsEdge<R> {
     ghost failures = { λ failures. failures };
 }
 
-impl<R: Clock + Files<File = File> + Net + Processes> ChildEdge for OsEdge<R> {
+impl<R: AllocGlobal + Clock + Files<File = File> + Net + Processes> ChildEdge for OsEdge<R> {
     fn start(
         &mut self,
         job: JobNo,
@@ -315,9 +375,30 @@ impl<R: Clock + Files<File = File> + Net + Processes> ChildEdge for OsEdge<R> {
     }
 }
 
-impl<R: AllocGlobal + Clone + Drop + Files + Processes> PathEdge for OsEdge<R> {
+impl<R: AllocGlobal + Clock + Clone + Drop + Files + Net + Processes> PathEdge for OsEdge<R> {
+    // it keeps no record of its looks
+    ghost Looks = { λ path answer old new. Unit {0} };
+
+    fn begin_looks(&mut self) {
+        self.looks.begin_round();
+    }
+
+    fn ask(&mut self, path: &str) -> bool {
+        let up = clock::up(&self.rt, self.made);
+        self.looks.ask(&self.rt, &mut self.hung, path, up)
+    }
+
+    fn is_seen(&mut self, path: &str) -> bool {
+        let up = clock::up(&self.rt, self.made);
+        self.looks.is_seen(&self.rt, &mut self.hung, path, up)
+    }
+
     fn look(&mut self, path: &str) -> Result<Obs, EdgeFault> {
-        let answer = paths::look(&self.rt, path);
+        let _is_seen = PathEdge::is_seen(self, path);
+        let answer = match self.looks.take(path) {
+            Seen::Unstarted => paths::look(&self.rt, path),
+            seen => paths::sight_of_seen(seen),
+        };
         self.notices.looked(path, answer);
         match answer {
             Ok(seen) => Ok(seen),
@@ -336,10 +417,26 @@ impl<R: Clock + Processes> ClockEdge for OsEdge<R> {
 }
 
 impl<
-    R: Files + Net<Listener = std::net::TcpListener, Stream = std::net::TcpStream> + Processes,
+    R: AllocGlobal
+        + Clock
+        + Files
+        + Net<Listener = std::net::TcpListener, Stream = std::net::TcpStream>
+        + Processes,
 > SocketEdge for OsEdge<R> {
     fn bind(&mut self, job: JobNo, def: &Def) -> Result<(), EdgeFault> {
-        let answer = self.sockets.bind(&self.rt, &mut self.notices, job, def);
+        let up = clock::up(&self.rt, self.made);
+        let silent = first_silent(
+            &self.rt,
+            self.alloc,
+            &mut self.openings,
+            &mut self.hung,
+            def.sockets(),
+            up,
+        );
+        let answer = match silent {
+            None => self.sockets.bind(&self.rt, &mut self.notices, job, def),
+            Some(at) => self.sockets.hangs(&mut self.notices, job, def, at),
+        };
         self.answered(answer)
     }
 
@@ -349,6 +446,19 @@ impl<
     }
 
     fn release(&mut self, job: JobNo) {
-        self.sockets.release(&self.rt, job);
+        let up = clock::up(&self.rt, self.made);
+        let hangs = self.sockets.any_silent(
+            &self.rt,
+            self.alloc,
+            &mut self.openings,
+            &mut self.hung,
+            job,
+            up,
+        );
+        if hangs {
+            self.sockets.leave(&mut self.notices, job);
+        } else {
+            self.sockets.release(&self.rt, job);
+        }
     }
 }

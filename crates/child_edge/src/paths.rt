@@ -1,8 +1,12 @@
-//! Observations of paths, as launchd.plist(5) speaks of them under WatchPaths, QueueDirectories and PathState.
+//! Observations of paths, as launchd.plist(5) speaks of them under WatchPaths, QueueDirectories and PathState: out of a look-out's answers,
+//! or, if the system starts none, of looks of this process's own.
 
-ghost use Rattle.std.specs.Prelude.{◌≡◌, ◌+◌, ◌-◌, ◌*◌, ◌^◌, min};
+ghost use Rattle.std.specs.Prelude.{◌≡◌, ◌+◌, ◌-◌, ◌*◌, ◌^◌, min, Some, IfOk};
+ghost use Rattle.child_edge.specs.Sights.{sight_in};
 
+use crate::asking::error_of;
 use history_model::Obs;
+use look_out::{Answer, Seen, no_answer};
 use std::fs::{Files, Metadata};
 use std::io::ErrorKind;
 use std::os::unix::fs::MetadataExt;
@@ -13,6 +17,34 @@ const ABSENT: Obs = Obs {
     nonempty_dir: false,
     stamp: 0,
 };
+
+/// What a look-out saw. An error if it was refused, or gave no answer.
+pub(crate) fn sight_of_seen(seen: Seen) -> io::Result<Obs>
+    ensures { IfOk result (λ obs. (answer : Answer) × (seen ≡ Seen.Answered answer) × (sight_in answer ≡ Some obs)) }
+{
+    match seen {
+        Seen::Answered(answer) => sight_of_answer(answer),
+        Seen::Failed(error) => Err(error),
+        Seen::Waits | Seen::Silent | Seen::Unstarted => Err(no_answer()),
+    }
+}
+
+fn sight_of_answer(answer: Answer) -> io::Result<Obs>
+    ensures { IfOk result (λ obs. sight_in answer ≡ Some obs) }
+{
+    let (nonempty_dir, stamp) = match answer {
+        Answer::Absent => return Ok(ABSENT),
+        Answer::There { stamp } => (false, stamp),
+        Answer::Filled { stamp } => (true, stamp),
+        Answer::Refused { error } => return Err(error_of(error)),
+        _ => return Err(io::Error::from(ErrorKind::InvalidData)),
+    };
+    Ok(Obs {
+        present: true,
+        nonempty_dir,
+        stamp,
+    })
+}
 
 /// Looks at the path. That nothing is there is an observation too, also if a folder above it is a file.
 pub(crate) fn look<R: Files + AllocGlobal + Clone + Drop>(rt: &R, path: &str) -> io::Result<Obs> {
@@ -50,9 +82,11 @@ fn is_absence(error: &io::Error) -> bool {
     matches!(error.kind(), ErrorKind::NotFound | ErrorKind::NotADirectory)
 }
 
+// A folder that may not be read has no entry that is told; that it is there, is.
 fn has_entry<R: Files + AllocGlobal + Clone + Drop>(rt: &R, path: &str) -> io::Result<bool> {
     let mut listing = match fs::read_dir(rt, path) {
         Ok(listing) => listing,
+        Err(error) if error.kind() == ErrorKind::PermissionDenied => return Ok(false),
         Err(error) => return Err(error),
     };
     let first = listing.next();

@@ -1,6 +1,7 @@
 //! The listening sockets that are bound, by job.
 
 use crate::Client;
+use crate::asking::is_silent;
 use crate::listener::Listener;
 use crate::maps::key_from;
 use crate::notices::{Asked, Notices};
@@ -8,6 +9,7 @@ use crate::words::Hole::Error;
 use crate::words::cannot_bind;
 use history_model::definition::{Address, Def, Socket};
 use history_model::{JobNo, MAX_JOBS, Text};
+use look_out::{Hung, Openings, no_answer};
 use mio::{Registry, Token};
 use std::alloc::Global;
 use std::collections::BTreeMap;
@@ -15,6 +17,8 @@ use std::fs::Files;
 use std::io;
 use std::io::ErrorKind;
 use std::net::Net;
+use std::process::{OpenProcess, Processes};
+use std::rt::Clock;
 
 /// The sockets of a job, its label, by which bind it has them, and how many of them a poll knows.
 #[derive(Drop)]
@@ -70,13 +74,54 @@ impl Sockets {
                 notices.done(job, Asked::Bind);
                 Ok(())
             }
-            Err(fault) => {
-                let socket = def.sockets().get(fault.socket);
-                let (form, holes) = cannot_bind(socket, fault.error);
-                let label = Some(def.label());
-                notices.refused(job, Asked::Bind, label, None, form, &holes);
-                Err(fault.error)
+            Err(fault) => tell_fault(notices, job, def, fault),
+        }
+    }
+
+    /// The path of the definition's socket at this place gives no answer: none is bound, which is told.
+    pub(crate) fn hangs(
+        &self,
+        notices: &mut Notices,
+        job: JobNo,
+        def: &Def,
+        socket: usize,
+    ) -> io::Result<()> {
+        let error = no_answer();
+        tell_fault(notices, job, def, BindFault { socket, error })
+    }
+
+    /// Whether the path of one of the job's sockets gives no answer.
+    pub(crate) fn any_silent<
+        P: OpenProcess + Drop,
+        R: AllocGlobal + Clock + Files + Net + Processes<Started = P>,
+    >(
+        &self,
+        rt: &R,
+        alloc: Global,
+        openings: &mut Openings<P>,
+        hung: &mut Hung<P>,
+        job: JobNo,
+        up: u64,
+    ) -> bool {
+        let Some(bound) = self.jobs.get(&job) else {
+            return false;
+        };
+        for listener in bound.listeners.iter() {
+            if let Some(path) = listener.path() {
+                if is_silent(rt, alloc, openings, hung, path, up) {
+                    return true;
+                }
             }
+        }
+        false
+    }
+
+    /// Gives up the job's sockets, and leaves their files, which is told: the path of one of them gives no answer.
+    pub(crate) fn leave(&mut self, notices: &mut Notices, job: JobNo) {
+        if let Some(bound) = self.jobs.remove(&job) {
+            let form = "cannot remove the files of its sockets: $";
+            bound.refused(notices, job, Asked::Bind, form, no_answer());
+            drop(bound);
         }
     }
 
@@ -283,6 +328,15 @@ impl Bound {
         }
         Ok(())
     }
+}
+
+// Tells that the job's sockets were not bound.
+fn tell_fault(notices: &mut Notices, job: JobNo, def: &Def, fault: BindFault) -> io::Result<()> {
+    let socket = def.sockets().get(fault.socket);
+    let (form, holes) = cannot_bind(socket, fault.error);
+    let label = Some(def.label());
+    notices.refused(job, Asked::Bind, label, None, form, &holes);
+    Err(fault.error)
 }
 
 fn give_up<R: Files>(rt: &R, listeners: &[Listener]) {

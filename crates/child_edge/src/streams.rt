@@ -1,16 +1,22 @@
 //! The streams of a child: a plain file, a terminal, a device of the system's memory, or the null device.
 //!
-//! An open of anything else may wait for ever, as that of a FIFO without a peer does, and there is no open that does not. So
-//! each path is looked at first, and what was opened is looked at again. Between the look and the open there is a moment: who
-//! may write in the folder can put a FIFO there then, and the open waits for its peer. An open also waits while another process
-//! gives up a lease of the file (fcntl(2), F_SETLEASE; at most /proc/sys/fs/lease-break-time seconds), and as long as a file
-//! system of the network does.
+//! An open of anything else may wait for ever, as that of a FIFO without a peer does, and there is no open that does not. So a
+//! look-out opens each path first, after a look at it, and holds it; the launcher opens what is held (`/proc/LOOK-OUT/fd/N`), so
+//! nothing that is put at the path since comes between, and no lease of the file can be taken (fcntl(2), F_SETLEASE). A file system
+//! that begins to hang in the tenth of a millisecond between the two opens is waited for.
+//!
+//! Where that folder is closed to the launcher, an output that the look-out has opened is opened by its path to be read and
+//! written, which waits at no FIFO, and then by its number here to be appended to. An input is opened by its path; so is everything if
+//! the system starts no look-out: then each path is looked at first, and what was opened is looked at again.
 
 use crate::failure::{Failure, Part};
+use crate::held::Held;
 use crate::spool::Spooled;
 use history_model::definition::Def;
+use std::alloc::Global;
 use std::fs::{File, FileType, Files, Metadata, OpenOptions};
 use std::io::ErrorKind;
+use std::os::fd::AsRawFd;
 use std::os::unix::fs::{FileTypeExt, MetadataExt};
 use std::process::{Command, Stdio};
 use std::{fs, io};
@@ -18,15 +24,38 @@ use std::{fs, io};
 /// Gives the command the streams that the definition says.
 pub(crate) fn own_streams<R: Files<File = File>>(
     rt: &R,
+    alloc: Global,
     def: &Def,
+    held: &Held,
     command: &mut Command,
 ) -> Result<(), Failure> {
-    match give(rt, Part::Input, def.standard_in_path(), command) {
+    match give(
+        rt,
+        alloc,
+        Part::Input,
+        def.standard_in_path(),
+        held,
+        command,
+    ) {
         Ok(()) => {}
         Err(failure) => return Err(failure),
     }
-    match give(rt, Part::Output, def.standard_out_path(), command) {
-        Ok(()) => give(rt, Part::Errors, def.standard_error_path(), command),
+    match give(
+        rt,
+        alloc,
+        Part::Output,
+        def.standard_out_path(),
+        held,
+        command,
+    ) {
+        Ok(()) => give(
+            rt,
+            alloc,
+            Part::Errors,
+            def.standard_error_path(),
+            held,
+            command,
+        ),
         Err(failure) => Err(failure),
     }
 }
@@ -35,7 +64,9 @@ pub(crate) fn own_streams<R: Files<File = File>>(
 /// connection, which its client has given up or which was lost, both are the null device.
 pub(crate) fn served_streams<R: Files<File = File>>(
     rt: &R,
+    alloc: Global,
     def: &Def,
+    held: &Held,
     files: Option<&Spooled>,
     command: &mut Command,
 ) -> Result<(), Failure> {
@@ -55,18 +86,27 @@ pub(crate) fn served_streams<R: Files<File = File>>(
             command.stdout(Stdio::null());
         }
     }
-    give(rt, Part::Errors, def.standard_error_path(), command)
+    give(
+        rt,
+        alloc,
+        Part::Errors,
+        def.standard_error_path(),
+        held,
+        command,
+    )
 }
 
 // The command's part is the file at the path, or the null device.
 fn give<R: Files<File = File>>(
     rt: &R,
+    alloc: Global,
     part: Part,
     path: Option<&str>,
+    held: &Held,
     command: &mut Command,
 ) -> Result<(), Failure> {
     match path {
-        Some(path) => give_file(part, opened(rt, part, path), command),
+        Some(path) => give_file(part, opened_as(rt, alloc, part, path, held), command),
         None => {
             set(part, Stdio::null(), command);
             Ok(())
@@ -90,6 +130,69 @@ fn set(part: Part, stream: Stdio, command: &mut Command) {
         Part::Output | Part::Reply => command.stdout(stream),
         _ => command.stderr(stream),
     };
+}
+
+// The file at the path, as the look-out holds it, if it does.
+fn opened_as<R: Files<File = File>>(
+    rt: &R,
+    alloc: Global,
+    part: Part,
+    path: &str,
+    held: &Held,
+) -> io::Result<File> {
+    let place = match held.path_of(alloc, part) {
+        Ok(place) => place,
+        Err(error) => return Err(io::Error::from(error)),
+    };
+    match place {
+        Some(place) => {
+            let file = open_held(rt, part, place.as_str());
+            drop(place);
+            file
+        }
+        None if held.has(part) && !matches!(part, Part::Input) => open_both_ways(rt, alloc, path),
+        None => opened(rt, part, path),
+    }
+}
+
+// What is held is there, and was looked at.
+fn open_held<R: Files<File = File>>(rt: &R, part: Part, place: &str) -> io::Result<File> {
+    let is_read = matches!(part, Part::Input);
+    let mut how = OpenOptions::new();
+    how.read(is_read);
+    how.append(!is_read);
+    how.open(rt, place)
+}
+
+// An open both ways waits at no FIFO. What was opened is looked at, and opened again by its number to be appended to alone.
+fn open_both_ways<R: Files<File = File>>(rt: &R, alloc: Global, path: &str) -> io::Result<File> {
+    let mut how = OpenOptions::new();
+    how.read(true);
+    how.append(true);
+    let file = match how.open(rt, path) {
+        Ok(file) => file,
+        Err(error) if error.kind() == ErrorKind::PermissionDenied => {
+            return opened(rt, Part::Output, path);
+        }
+        Err(error) => return Err(error),
+    };
+    let answer = match allow(file.metadata()) {
+        Ok(()) => open_again(rt, alloc, &file),
+        Err(error) => Err(error),
+    };
+    drop(file);
+    answer
+}
+
+fn open_again<R: Files<File = File>>(rt: &R, alloc: Global, file: &File) -> io::Result<File> {
+    let number = file.as_raw_fd();
+    let place = match format!(in alloc; "/proc/self/fd/{number}") {
+        Ok(place) => place,
+        Err(error) => return Err(io::Error::from(error)),
+    };
+    let answer = open_held(rt, Part::Output, place.as_str());
+    drop(place);
+    answer
 }
 
 // The file at the path: the input is read from its beginning, and the others are appended to, and made if they are not there.

@@ -7,6 +7,9 @@ use std::fmt::Write;
 use std::io;
 use std::net::Ipv4Addr;
 
+/// As many bytes of a text are told: the longest path has no more.
+const LONGEST: usize = 1_024;
+
 /// What stands in a hole.
 #[derive(Clone, Copy)]
 pub(crate) enum Hole<'a> {
@@ -90,9 +93,13 @@ fn put(line: &mut String, hole: Option<&Hole<'_>>) -> Result<(), AllocError> {
 }
 
 // The text with `?` for each control character: a path may hold a newline, and what stands behind it would pass for a line
-// of the launcher's own.
+// of the launcher's own. Of a longer text the beginning is told: a line is then taken whole by a pipe, which takes 4,096 bytes.
 fn put_plain(line: &mut String, text: &str) -> Result<(), AllocError> {
+    let start = line.len();
     for letter in text.chars() {
+        if line.len().saturating_sub(start) >= LONGEST {
+            return line.push_str("...");
+        }
         let plain = if letter.is_control() { '?' } else { letter };
         match line.push(plain) {
             Ok(()) => {}

@@ -24,7 +24,7 @@ use Rattle.launcher.specs.Inputs.{Incoming, asked_by, event_if_label, happened}
 use Rattle.launcher.specs.Journals.{reported}
 use Rattle.launcher.specs.Accepting.{is_accepted_load}
 use Rattle.launcher.specs.Writable.{WritesWhat}
-use Rattle.live_loop.specs.Looks.{PathCall, HasLoaded, LookedAt, Sighted}
+use Rattle.live_loop.specs.Looks.{PathCall, HasLoaded, AsksAt, Awaits, LookedAt, Sighted}
 use Rattle.live_loop.specs.declared.loop_host.HandedIn.{HandedIn}
 use Rattle.live_loop.specs.declared.loop_host.HandedIn.TheVariants as handed
 use Rattle.history_model.specs.News.{may_change}
@@ -159,14 +159,18 @@ module _ {T E W : Type 0} (calls : E → Option (List ToldCall)) (stores : T →
 
   -- ---- paths
 
-  -- what the looks at paths ask, and what they hand in: that path with that sight
-  abbrev pub DoesPath : PathCall → RoundLauncher T E W → RoundLauncher T E W → Type 0
-  DoesPath (HasLoaded loaded) old new =
-      (loaded ≡ old.has_loaded) × (new ≡ record old { has_loaded = false })
-  DoesPath (LookedAt path seen) old new = (answer : Result Obs EdgeFault) × (edge : E)
+  -- What the looks at paths ask, and what they hand in: that path with that sight. A look of the edge is a look at that path.
+  abbrev pub DoesPath : (List ℕ → Result Obs EdgeFault → E → E → Type 0) → PathCall →
+      RoundLauncher T E W → RoundLauncher T E W → Type 0
+  DoesPath Looks (HasLoaded loaded) old new = (edge : E)
+      × (loaded ≡ old.has_loaded) × (new ≡ record (lent edge old) { has_loaded = false })
+  DoesPath Looks (AsksAt path answer) old new = (edge : E) × (new ≡ lent edge old)
+  DoesPath Looks (Awaits path answer) old new = (edge : E) × (new ≡ lent edge old)
+  DoesPath Looks (LookedAt path seen) old new = (answer : Result Obs EdgeFault) × (edge : E)
       × TellsOne (calls old.host.edge) (Look, look_answer answer) (calls edge)
+      × Looks path answer old.host.edge edge
       × (seen ≡ seen_by answer) × (new ≡ lent edge old)
-  DoesPath (Sighted path obs) old new =
+  DoesPath Looks (Sighted path obs) old new =
       (refusal : Option Refusal) × Tells (Some (happened (journaled.Saw path obs))) refusal old new
 
   -- ---- clients

@@ -180,13 +180,14 @@ impl<T: SettingStore, E: ChildEdge + SocketEdge + PathEdge, W: Write> PathHost
 
     ghost IsNext = { ListsNext };
 
-    ghost Did = { DoesPath E.told T.told T.holds T.stamped };
+    ghost Did = { DoesPath E.told T.told T.holds T.stamped E.Looks };
 
     fn up(&self) -> u64 {
         self.at.up
     }
 
     fn take_loaded(&mut self) -> bool {
+        self.host.edge().begin_looks();
         let has_loaded = self.has_loaded;
         self.has_loaded = false;
         has_loaded
@@ -194,6 +195,14 @@ impl<T: SettingStore, E: ChildEdge + SocketEdge + PathEdge, W: Write> PathHost
 
     fn path_after(&self, path: &str) -> Option<&str> {
         self.host.table().path_after(path)
+    }
+
+    fn ask(&mut self, path: &str) -> bool {
+        self.host.edge().ask(path)
+    }
+
+    fn is_seen(&mut self, path: &str) -> bool {
+        self.host.edge().is_seen(path)
     }
 
     fn look(&mut self, path: &str) -> Option<Obs> {

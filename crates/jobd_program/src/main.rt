@@ -1,4 +1,4 @@
-//! The programs `jobd`, `jobctl` and `jobscope` in one file: it acts by the name that it was started under.
+//! The programs `jobd`, `jobctl`, `jobscope` and a launcher's look-out in one file: it acts by the name that it was started under.
 #![tactic(auto)]
 
 mod stack;
@@ -25,6 +25,10 @@ impl Programs for OneFile {
 
     fn jobscope<L: Wait>(&self, host: &HostRuntime, waits: &L, words: &[String]) -> u8 {
         jobscope(host, waits, host.alloc(), words)
+    }
+
+    fn look_out(&self, host: &HostRuntime) -> u8 {
+        look_out::by_input(host)
     }
 }
 

@@ -2,7 +2,7 @@
 use Rattle.std.specs.Prelude.{◌≡◌}
 use Rattle.live_loop.specs.declared.live.Live.{Live}
 use Rattle.live_loop.specs.Rounds.{Left}
-use Rattle.live_loop.specs.Sightings.{known_in, next_in}
+use Rattle.live_loop.specs.Sightings.{known_in, next_in, walk_in, later_in}
 
 pub record IsLookKeptBy {H : Type 0} (old new : Live H) : Type 0 where
   pub child : new.next_child ≡ old.next_child
@@ -21,5 +21,7 @@ left_in live = record {
   child = live.next_child;
   conn = live.rooms.sockets.conn;
   look = next_in live.rooms.sights;
+  walk = walk_in live.rooms.sights;
+  later = later_in live.rooms.sights;
   known = known_in live.rooms.sights;
 }

@@ -4,7 +4,9 @@ use Rattle.history_model.specs.declared.Obs.{Obs}
 
 -- what is asked of a launcher, and handed in to it, of the paths that its jobs list
 pub data PathCall : Type 0 where
-  HasLoaded : Bool → PathCall  -- whether a load was accepted since this was asked last
+  HasLoaded : Bool → PathCall  -- a round of looks begins; whether a load was accepted since the one before
+  AsksAt : List ℕ → Bool → PathCall  -- it was asked what is at the path; false: that is to be asked later
+  Awaits : List ℕ → Bool → PathCall  -- it was asked whether it is known what is at the path
   LookedAt : List ℕ → Option Obs → PathCall  -- what is at the path; None if the system refused to look
   Sighted : List ℕ → Obs → PathCall  -- this sight of the path was handed in
 
@@ -51,25 +53,41 @@ IsLast IsNext host path = IsNext host path None
     ⊎ ((next : List ℕ) × IsNext host path (Some next) × (1024 < length next))
 
 module _ {H : Type 0} (IsNext : H → List ℕ → Option (List ℕ) → Type 0) (Did : PathCall → H → H → Type 0) where
-  -- So many looks, the last of them at the path: each at the path that then comes next behind the one before.
-  pub data Walks (first : H) (known : Known) : ℕ → List ℕ → H → Known → Type 0 where
-    no_look : Walks first known 0 [] first known
-    one_more : {n : ℕ} {path next : List ℕ} {mid new : H} {before after : Known} →
-        Walks first known n path mid before → IsNext mid path (Some next) →
-        Looks Did next mid before new after → Walks first known (n + 1) next new after
+  -- Nothing but questions about paths, by which nothing is handed in.
+  pub data Questions (first : H) : H → Type 0 where
+    no_question : Questions first first
+    ahead : {mid new : H} {path : List ℕ} {answer : Bool} → Questions first mid → Did (AsksAt path answer) mid new → Questions first new
+    awaits : {mid new : H} {path : List ℕ} {answer : Bool} → Questions first mid → Did (Awaits path answer) mid new → Questions first new
 
-  -- Each listed path was looked at, once, as many as there can be.
-  pub record WalksAll (old : H) (known : Known) (new : H) (known' : Known) : Type 0 where
+  -- So many looks behind this path, the last of them at that one: each at the path that then comes next behind the one before, once it is known
+  -- what is there; and questions between them.
+  pub data Walks (first : H) (known : Known) (from : List ℕ) : ℕ → List ℕ → H → Known → Type 0 where
+    no_look : Walks first known from 0 from first known
+    asked : {n : ℕ} {path : List ℕ} {mid new : H} {after : Known} →
+        Walks first known from n path mid after → Questions mid new → Walks first known from n path new after
+    one_more : {n : ℕ} {path next : List ℕ} {mid seen new : H} {before after : Known} →
+        Walks first known from n path mid before → IsNext mid path (Some next) → Did (Awaits next true) mid seen →
+        Looks Did next seen before new after → Walks first known from (n + 1) next new after
+
+  -- The looks go on behind this path, and then either on behind that one, or no listed path comes behind the last of them.
+  pub record WalksOn (from : List ℕ) (old : H) (known : Known) (new : H) (known' : Known) (to : Option (List ℕ)) : Type 0 where
     pub looks : ℕ
     pub last : List ℕ
-    pub walk : Walks old known looks last new known'
-    pub all : IsLast IsNext new last ⊎ (looks ≡ 65536)
+    pub walk : Walks old known from looks last new known'
+    pub rest : (to ≡ Some last) ⊎ ((to ≡ None) × IsLast IsNext new last)
 
-  -- The same, after the question for loads.
-  pub record LooksAtAll (old : H) (known : Known) (new : H) (known' : Known) : Type 0 where
-    pub loaded : Bool
+  -- A round of looks that goes on does so behind its last path; else one begins before all paths, after the question for loads.
+  abbrev pub Begins : Option (List ℕ) → H → Known → List ℕ → H → Known → Type 0
+  Begins (Some path) old known from first begun = (from ≡ path) × (first ≡ old) × IsKept known begun
+  Begins None old known from first begun = (from ≡ [])
+      × ((loaded : Bool) × Did (HasLoaded loaded) old first × IsKept (known_after loaded known) begun)
+
+  -- A round of looks begins or goes on: paths are asked about, and then looked at.
+  pub record LooksOn (at : Option (List ℕ)) (old : H) (known : Known) (at' : Option (List ℕ)) (new : H) (known' : Known) : Type 0 where
+    pub from : List ℕ
     pub first : H
-    pub asked : Did (HasLoaded loaded) old first
     pub begun : Known
-    pub forgets : IsKept (known_after loaded known) begun
-    pub walks : WalksAll first begun new known'
+    pub begins : Begins at old known from first begun
+    pub mid : H
+    pub asks : Questions first mid
+    pub walks : WalksOn from mid begun new known' at'

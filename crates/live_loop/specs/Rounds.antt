@@ -4,7 +4,8 @@ use Rattle.history_model.specs.declared.Reply.{Reply}
 use Rattle.control_socket.specs.Serving.{Serves}
 use Rattle.live_loop.specs.declared.loop_host.HandedIn.{HandedIn}
 use Rattle.live_loop.specs.Children.{PollsAll}
-use Rattle.live_loop.specs.Looks.{PathCall, IsKept, Known, LooksAtAll}
+use Rattle.live_loop.specs.Looks.{PathCall, IsKept, Known, LooksOn}
+use Rattle.live_loop.specs.Sightings.{later_after, IsNextLook}
 
 -- The edge was asked, time and again, and nothing was handed in.
 pub data Asks {H : Type 0} (Asked : H → H → Type 0) (from : H) : H → Type 0 where
@@ -33,12 +34,14 @@ module _ {H : Type 0} (Answered : List ℕ → Reply → H → H → Type 0) (As
     pub asks : Asks Asked last new
 
 -- what a round leaves for the next: the launcher, the job whose child is asked about first, the number of the next client of a job, when paths
--- are looked at, and what was handed in last of them
+-- are looked at, the path behind which a round of looks goes on, if one does, when the next one begins, and what was handed in last of them
 pub record Left (H : Type 0) : Type 0 where
   pub host : H
   pub child : ℕ
   pub conn : ℕ
   pub look : ℕ
+  pub walk : Option (List ℕ)
+  pub later : ℕ
   pub known : Known
 
 -- what is asked of a launcher, and handed in to it, as its trait says
@@ -52,15 +55,18 @@ pub record Launcher (H : Type 0) : Type 1 where
   pub Asked : H → H → Type 0
   pub Came : ℕ → ℕ → HandedIn → H → H → Type 0
 
--- before its moment nothing is looked at; at it each listed path is, and the next looks are a second behind it
-abbrev pub Sees : {H : Type 0} → Launcher H → H → ℕ → Known → H → ℕ → Known → Type 0
-Sees it old look known new look' known' =
-    ((it.round_up old < look) × (new ≡ old) × (look' ≡ look) × IsKept known known')
-    ⊎ ((look ≤ it.round_up old) × (look' ≡ min (it.round_up old + 1000) (2 ^ 64 - 1))
-    × LooksAtAll it.IsNext it.Did old known new known')
+-- before its moment nothing is looked at; from then on a round of looks begins, or the one that was begun goes on
+abbrev pub Sees : {H : Type 0} → Launcher H → H → Left H → H → Left H → Type 0
+Sees it polled old looked new =
+    ((it.round_up polled < old.look) × (looked ≡ polled) × (new.look ≡ old.look) × (new.walk ≡ old.walk)
+    × (new.later ≡ old.later) × IsKept old.known new.known)
+    ⊎ ((old.look ≤ it.round_up polled)
+    × (new.later ≡ later_after old.walk (it.round_up polled) old.later)
+    × IsNextLook new.walk (it.round_up polled) new.later new.look
+    × LooksOn it.IsNext it.Did old.walk polled old.known new.walk looked new.known)
 
--- A whole round: it waits; it begins at a reading; each run that is over is handed in; if it is time, each listed path is looked at, and what
--- is new there is handed in; clients are served. Nothing else is handed in, and in the end it only tells.
+-- A whole round: it waits; it begins at a reading; each run that is over is handed in; if it is time, a round of looks begins or goes on, and what
+-- is new at the paths is handed in; clients are served. Nothing else is handed in, and in the end it only tells.
 pub record IsRound {H : Type 0} (it : Launcher H) (old new : Left H) : Type 0 where
   pub waited : H
   pub waits : Asks it.Asked old.host waited
@@ -69,7 +75,7 @@ pub record IsRound {H : Type 0} (it : Launcher H) (old new : Left H) : Type 0 wh
   pub polled : H
   pub polls : PollsAll it.Polled old.child begun new.child polled
   pub looked : H
-  pub looks : Sees it polled old.look old.known looked new.look new.known
+  pub looks : Sees it polled old looked new
   pub served : H
   pub serves : ServesAll it.Answered it.Asked it.Came old.conn new.conn looked served
   pub tells : Asks it.Asked served new.host

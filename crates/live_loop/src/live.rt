@@ -14,7 +14,6 @@ use control_socket::ControlSocket;
 use history_model::JobNo;
 use mio::{Events, Poll, Token};
 use std::alloc::{AllocError, Global};
-use std::net::Net;
 
 /// Under this token the control socket and its clients wake the poll.
 const CONTROL: Token = Token(0);
@@ -55,7 +54,7 @@ pub(crate) struct Rooms {
     pub(crate) voice: Voice,
 }
 
-fn make_rooms(net: &impl Net, alloc: Global) -> Result<Rooms, AllocError> {
+fn make_rooms<R: System>(rt: &R, alloc: Global) -> Result<Rooms, AllocError> {
     let label = LabelRoom::new(alloc)?;
     let events = match Events::with_capacity(alloc, EVENTS) {
         Ok(events) => events,
@@ -64,7 +63,7 @@ fn make_rooms(net: &impl Net, alloc: Global) -> Result<Rooms, AllocError> {
             return Err(fault);
         }
     };
-    let voice = match Voice::new(net, alloc) {
+    let voice = match Voice::new(rt, alloc) {
         Ok(voice) => voice,
         Err(fault) => {
             drop((label, events));

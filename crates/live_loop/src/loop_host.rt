@@ -3,7 +3,7 @@
 
 ghost use Rattle.std.specs.Prelude.{◌≡◌, ◌≤◌, ℕ, List, Option, Some};
 ghost use Rattle.std.specs.Option.{option_map};
-ghost use Rattle.live_loop.specs.Looks.{PathCall, HasLoaded, LookedAt, Sighted};
+ghost use Rattle.live_loop.specs.Looks.{PathCall, HasLoaded, AsksAt, Awaits, LookedAt, Sighted};
 
 use crate::label_room::LabelRoom;
 use child_edge::{Client, Notice};
@@ -28,7 +28,7 @@ pub trait PathHost {
     fn up(&self) -> u64
         ensures { result ≡ Self.round_up self.now };
 
-    /// Whether a load was accepted since this was asked last.
+    /// Begins a round of looks, and says whether a load was accepted since the one before.
     fn take_loaded(&mut self) -> bool
         ensures { Self.Did (HasLoaded result) self.old self.new };
 
@@ -36,7 +36,15 @@ pub trait PathHost {
     fn path_after(&self, path: &str) -> Option<&str>
         ensures { Self.IsNext self.now path.now (option_map (λ next. next.now) result) };
 
-    /// What is at the path now. None if the system refuses to look.
+    /// Asks what is at the path, and does not wait for the answer. False: that is to be asked later.
+    fn ask(&mut self, path: &str) -> bool
+        ensures { Self.Did (AsksAt path.now result) self.old self.new };
+
+    /// Whether it is known what is at the path, or that there will be no answer.
+    fn is_seen(&mut self, path: &str) -> bool
+        ensures { Self.Did (Awaits path.now result) self.old self.new };
+
+    /// What was at the path when it was asked about, at most half a second ago. None if the system refuses to look, or gives no answer.
     fn look(&mut self, path: &str) -> Option<Obs>
         ensures { Self.Did (LookedAt path.now result) self.old self.new };
 

@@ -1,22 +1,29 @@
-//! The paths that jobs list, each looked at once a second.
+//! The paths that jobs list, each looked at once a second. Nobody waits for what is there: paths are asked about, and looked at once that is
+//! known, in this round of the loop or in later ones.
 
-ghost use Rattle.std.specs.Prelude.{◌≡◌, ◌≤◌, ◌<◌, ◌+◌, ◌-◌, ◌^◌, min, ℕ, IsTrue, true, false, [], None, Some, MatchOption, List};
+ghost use Rattle.std.specs.Prelude.{◌≡◌, ◌≤◌, ◌<◌, ◌+◌, ◌-◌, ◌^◌, min, ℕ, IsTrue, true, false, [], None, Some, MatchOption, Option, List};
 ghost use Rattle.std.specs.String.{string_capacity};
-ghost use Rattle.live_loop.specs.Looks.{Looks, LooksAtAll, WalksAll, IsLast, IsNoted, IsKept, known_after};
+ghost use Rattle.live_loop.specs.Looks.{Looks, LooksOn, WalksOn, Begins, Questions, IsLast, IsNoted, IsKept, known_after};
 
 use crate::loop_host::PathHost;
 use history_model::{Obs, SECOND};
 use std::alloc::{AllocError, Global};
 use std::collections::BTreeMap;
+use std::mem;
 
-/// As many milliseconds of `up` lie between two looks.
+/// As many milliseconds of `up` lie between two rounds of looks.
 const BETWEEN: u64 = SECOND;
+
+/// As many milliseconds pass before it is asked again whether it is known what is at a path.
+const SOON: u64 = 2;
 
 /// As many bytes a path has at most.
 const LONGEST_PATH: usize = 1_024;
 
-/// As many paths all jobs list at most: 64 each.
-const MOST_PATHS: u32 = 65_536;
+/// As many paths are asked about at most, and looked at, before the loop goes on to other things.
+const ASKED: u32 = 1_024;
+
+const LOOKS: u32 = 256;
 
 /// What was last seen at each path and handed in. A sight that is equal to the last one is not handed in again, unless a job
 /// was loaded since.
@@ -24,21 +31,34 @@ const MOST_PATHS: u32 = 65_536;
 pub struct Sights {
     alloc: Global,
     seen: BTreeMap<String, Obs>,
+    // The path of the last look, and that of the last question; and a room.
     path: String,
+    asked: String,
+    room: String,
+    is_walking: bool,
     next: u64,
-    ghost room: { 1024 ≤ string_capacity path },
+    later: u64,
+    ghost path_room: { 1024 ≤ string_capacity path },
+    ghost asked_room: { 1024 ≤ string_capacity asked },
+    ghost room_room: { 1024 ≤ string_capacity room },
 }
 
 impl Sights {
-    ghost use Rattle.live_loop.specs.Sightings.{known_in, path_in, next_in};
+    ghost use Rattle.live_loop.specs.Sightings.{known_in, path_in, room_in, walk_in, next_in, later_in, later_after, IsNextLook, IsStill};
 
     pub fn new(alloc: Global) -> Result<Sights, AllocError> {
         let path = String::with_capacity(alloc, LONGEST_PATH)?;
+        let asked = String::with_capacity(alloc, LONGEST_PATH)?;
+        let room = String::with_capacity(alloc, LONGEST_PATH)?;
         Ok(Sights {
             alloc,
             seen: BTreeMap::new(alloc),
             path,
+            asked,
+            room,
+            is_walking: false,
             next: 0,
+            later: 0,
         })
     }
 
@@ -53,70 +73,136 @@ impl Sights {
         }
     }
 
-    /// Looks at each listed path, if it is time: in byte order, and hands in what is new. A refused look is no event. It says
-    /// whether it was time.
+    /// Looks at each listed path, in byte order, and hands in what is new; a refused look is no event. A round of looks begins if it is time. It
+    /// goes on as far as it is known what is at the paths, and 256 paths at most; then the next call goes on with it, two milliseconds later or
+    /// at once. It says whether a round of looks began.
     pub fn look<H: PathHost>(&mut self, alloc: Global, host: &mut H) -> bool
         ensures early { H.round_up host.old < next_in self.old →
             (result ≡ false) × (host.new ≡ host.old) × (self.new ≡ self.old) }
-        ensures due { next_in self.old ≤ H.round_up host.old → (result ≡ true)
-            × (next_in self.new ≡ min (H.round_up host.old + 1000) (2 ^ 64 - 1))
-            × LooksAtAll H.IsNext H.Did host.old (known_in self.old) host.new (known_in self.new) }
+        ensures due { next_in self.old ≤ H.round_up host.old →
+            (later_in self.new ≡ later_after (walk_in self.old) (H.round_up host.old) (later_in self.old))
+            × IsNextLook (walk_in self.new) (H.round_up host.old) (later_in self.new) (next_in self.new)
+            × LooksOn H.IsNext H.Did (walk_in self.old) host.old (known_in self.old)
+            (walk_in self.new) host.new (known_in self.new) }
     {
         let up = host.up();
         if up < self.next {
             return false;
         }
-        self.next = up.saturating_add(BETWEEN);
-        self.begin(host.take_loaded());
-        self.walk(alloc, host);
-        true
+        let begins = !self.is_walking;
+        self.start(host, up);
+        self.ask_ahead(host);
+        let waits = self.walk(alloc, host);
+        self.next = moment_of(self.is_walking, waits, up, self.later);
+        begins
     }
 
-    // After a load each sight is handed in again. The walk begins before all paths.
+    // Begins a round of looks, if none goes on.
+    fn start<H: PathHost>(&mut self, host: &mut H, up: u64)
+        ensures begins { Begins H.IsNext H.Did (walk_in self.old) host.old (known_in self.old)
+            (path_in self.new) host.new (known_in self.new) }
+        ensures later { later_in self.new ≡ later_after (walk_in self.old) up (later_in self.old) }
+    {
+        if self.is_walking {
+            return;
+        }
+        self.later = up.saturating_add(BETWEEN);
+        self.begin(host.take_loaded());
+    }
+
+    // After a load each sight is handed in again. The round of looks begins before all paths.
     fn begin(&mut self, has_loaded: bool)
         ensures known { IsKept (known_after has_loaded (known_in self.old)) (known_in self.new) }
         ensures path { path_in self.new ≡ [] }
-        ensures next { next_in self.new ≡ next_in self.old }
+        ensures later { later_in self.new ≡ later_in self.old }
     {
         if has_loaded {
             self.seen.clear();
         }
         self.path.clear();
+        self.asked.clear();
     }
 
-    // Looks at each listed path behind this one.
-    fn walk<H: PathHost>(&mut self, alloc: Global, host: &mut H)
-        requires { path_in self.old ≡ [] }
-        ensures walks { WalksAll H.IsNext H.Did host.old (known_in self.old) host.new (known_in self.new) }
-        ensures next { next_in self.new ≡ next_in self.old }
+    // Asks what is at the paths behind the one that was asked about last, as far as they may be asked about.
+    fn ask_ahead<H: PathHost>(&mut self, host: &mut H)
+        ensures asks { Questions H.IsNext H.Did host.old host.new }
+        ensures still { IsStill self.old self.new }
     {
-        for _ in 0..MOST_PATHS {
-            if !self.goes_on(host) {
+        for _ in 0..ASKED {
+            if !self.ask_next(host) {
                 return;
             }
-            self.look_here(alloc, host);
         }
     }
 
-    // Goes on to the next listed path, if there is one.
+    fn ask_next<H: PathHost>(&mut self, host: &mut H) -> bool
+        ensures asks { Questions H.IsNext H.Did host.old host.new }
+        ensures still { IsStill self.old self.new }
+    {
+        let Some(next) = host.path_after(self.asked.as_str()) else {
+            return false;
+        };
+        self.room.clear();
+        if self.room.push_str(next).is_err() {
+            return false;
+        }
+        if !host.ask(self.room.as_str()) {
+            return false;
+        }
+        mem::swap(&mut self.asked, &mut self.room);
+        true
+    }
+
+    // Looks at the listed paths behind this one, as far as it is known what is there. It says whether that is not known of the next one.
+    fn walk<H: PathHost>(&mut self, alloc: Global, host: &mut H) -> bool
+        ensures walks { WalksOn H.IsNext H.Did (path_in self.old) host.old (known_in self.old)
+            host.new (known_in self.new) (walk_in self.new) }
+        ensures later { later_in self.new ≡ later_in self.old }
+    {
+        self.is_walking = true;
+        for _ in 0..LOOKS {
+            if !self.goes_on(host) {
+                self.is_walking = false;
+                return false;
+            }
+            if !host.is_seen(self.room.as_str()) {
+                return true;
+            }
+            self.step_on();
+            self.look_here(alloc, host);
+        }
+        false
+    }
+
+    // Whether a listed path comes next. It is then in the room.
     fn goes_on<H: PathHost>(&mut self, host: &H) -> bool
-        ensures on { IsTrue result → H.IsNext host.now (path_in self.old) (Some (path_in self.new)) }
+        ensures on { IsTrue result → H.IsNext host.now (path_in self.old) (Some (room_in self.new)) }
         ensures end { result ≡ false → IsLast H.IsNext host.now (path_in self.old) }
-        ensures seen { self.new.seen ≡ self.old.seen }
-        ensures next { next_in self.new ≡ next_in self.old }
+        ensures still { IsStill self.old self.new }
     {
         let Some(next) = host.path_after(self.path.as_str()) else {
             return false;
         };
-        self.path.clear();
-        self.path.push_str(next).is_ok()
+        self.room.clear();
+        self.room.push_str(next).is_ok()
+    }
+
+    // The path in the room is the one to be looked at.
+    fn step_on(&mut self)
+        ensures path { path_in self.new ≡ room_in self.old }
+        ensures seen { self.new.seen ≡ self.old.seen }
+        ensures later { later_in self.new ≡ later_in self.old }
+        ensures walking { self.new.is_walking ≡ self.old.is_walking }
+    {
+        mem::swap(&mut self.path, &mut self.room);
     }
 
     // Looks at the path, and hands in what is new there.
     fn look_here<H: PathHost>(&mut self, alloc: Global, host: &mut H)
         ensures looks { Looks H.Did (path_in self.old) host.old (known_in self.old) host.new (known_in self.new) }
         ensures path { path_in self.new ≡ path_in self.old }
-        ensures next { next_in self.new ≡ next_in self.old }
+        ensures later { later_in self.new ≡ later_in self.old }
+        ensures walking { self.new.is_walking ≡ self.old.is_walking }
     {
         let path = self.path.as_str();
         let Some(obs) = host.look(path) else {
@@ -133,7 +219,8 @@ impl Sights {
     fn note(&mut self, obs: Obs)
         ensures noted { IsNoted (path_in self.old) obs (known_in self.old) (known_in self.new) }
         ensures path { path_in self.new ≡ path_in self.old }
-        ensures next { next_in self.new ≡ next_in self.old }
+        ensures later { later_in self.new ≡ later_in self.old }
+        ensures walking { self.new.is_walking ≡ self.old.is_walking }
     {
         let path = self.path.as_str();
         if let Some(seen) = self.seen.get_mut(path) {
@@ -143,5 +230,19 @@ impl Sights {
         if let Ok(path) = String::from_str(self.alloc, path) {
             let _ = self.seen.insert(path, obs);
         }
+    }
+}
+
+// When paths are asked about or looked at next: if a round of looks goes on, soon or at once, and else at its moment.
+fn moment_of(is_walking: bool, waits: bool, up: u64, later: u64) -> u64
+    ensures over { is_walking ≡ false → result ≡ later }
+    ensures on { is_walking ≡ true → (up ≤ result) × (result ≤ up + 2) }
+{
+    if !is_walking {
+        later
+    } else if waits {
+        up.saturating_add(SOON)
+    } else {
+        up
     }
 }

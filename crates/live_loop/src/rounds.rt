@@ -30,8 +30,8 @@ const PATIENCE: u64 = SECOND;
 const QUICK_WAIT: u64 = 200;
 
 /// One round. It waits at most a tenth of a second, or 200 microseconds if it is one of the four behind a round in which a client's
-/// request came whole, reads the clock, asks about each child, looks at the listed paths once in
-/// 1,000 milliseconds of `up`, takes new control clients and serves all of them, and does the same for the clients of jobs'
+/// request came whole, reads the clock, asks about each child, asks what is at the listed paths once in
+/// 1,000 milliseconds of `up` and looks at those of which that is known by now, takes new control clients and serves all of them, and does the same for the clients of jobs'
 /// sockets. What it finds is handed to the launcher, one by one. In the end it tells what was refused, and what became of runs,
 /// in a line each on standard error.
 ///
@@ -209,6 +209,7 @@ fn ends<H: LoopHost>(live: &mut Live<H>) -> bool
     let up = live.host.up();
     let ended_at = live.ended_at.unwrap_or(up);
     live.ended_at = Some(ended_at);
-    let is_quiet = !live.is_busy && live.untold.is_none() && live.control.is_quiet();
+    let is_told = live.untold.is_none() && live.rooms.voice.is_done();
+    let is_quiet = !live.is_busy && is_told && live.control.is_quiet();
     is_quiet || ended_at.saturating_add(PATIENCE) <= up
 }

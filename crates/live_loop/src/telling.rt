@@ -20,6 +20,9 @@ pub(crate) fn tell<R: Eprint, H: LoopHost>(rt: &R, alloc: Global, live: &mut Liv
     ensures asks { Asks H.Asked live.old.host live.new.host }
     ensures kept { IsKeptBy live.old live.new }
 {
+    if !live.rooms.voice.go_on(rt) {
+        return;
+    }
     for _ in 0..LINES {
         let Some(notice) = next_notice(alloc, live) else {
             return;

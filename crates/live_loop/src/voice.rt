@@ -1,11 +1,15 @@
-//! Standard error: a line at a time, and only while it takes lines without a wait.
+//! Standard error: a line at a time, and only while it takes lines without a wait. To a terminal, or another device, a line goes in pieces of
+//! 256 bytes: a terminal that says that it takes something takes as many.
 
 use child_edge::{Notice, NoticeKind};
 use mio::unix::SourceFd;
 use mio::{Events, Interest, Poll, Token};
 use std::alloc::{AllocError, Global};
+use std::fs;
+use std::fs::Files;
 use std::net::Net;
 use std::os::fd::RawFd;
+use std::os::unix::fs::FileTypeExt;
 use std::time::Duration;
 
 const STANDARD_ERROR: RawFd = 2;
@@ -13,8 +17,14 @@ const STANDARD_ERROR: RawFd = 2;
 /// Standard error is all that its poll knows.
 const TAKING: Token = Token(0);
 
-/// A poll that knows when standard error takes something. A pipe, a socket or a terminal then takes 4,096 bytes without a wait,
-/// and a line has fewer, if its paths are not longer than paths can be.
+/// What tells of which kind it is.
+const ITS_FILE: &str = "/proc/self/fd/2";
+
+/// As many bytes go to a device at a time.
+const PIECE: usize = 256;
+
+/// A poll that knows when standard error takes something. A pipe or a socket then takes 4,096 bytes without a wait, and a line has
+/// fewer, since no text within it is longer than 1,024 bytes.
 #[derive(Drop)]
 struct Watch {
     poll: Poll,
@@ -27,6 +37,11 @@ pub(crate) struct Voice {
     pub(crate) is_leveled: bool,
     // Absent if standard error is a file, or what else no poll waits for.
     watch: Option<Watch>,
+    is_device: bool,
+    alloc: Global,
+    // What is left of a line for a device, from this byte on.
+    rest: String,
+    from: usize,
 }
 
 impl Watch {
@@ -66,28 +81,84 @@ impl Watch {
 }
 
 impl Voice {
-    pub(crate) fn new(net: &impl Net, alloc: Global) -> Result<Voice, AllocError> {
+    pub(crate) fn new<R: Files + Net>(rt: &R, alloc: Global) -> Result<Voice, AllocError> {
         let events = Events::with_capacity(alloc, 1)?;
+        let is_device = match fs::metadata(rt, ITS_FILE) {
+            Ok(data) => data.file_type().is_char_device(),
+            Err(_) => true,
+        };
         Ok(Voice {
             is_leveled: false,
-            watch: Watch::new(net, events),
+            watch: Watch::new(rt, events),
+            is_device,
+            alloc,
+            rest: String::new(alloc),
+            from: 0,
         })
     }
 
-    /// Tells the notice in a line. False: that would have to wait, and nothing was told.
+    /// Whether nothing is left of a line.
+    pub(crate) fn is_done(&self) -> bool {
+        self.from >= self.rest.len()
+    }
+
+    /// Tells the notice in a line. False: that would have to wait, and nothing was told of it.
     pub(crate) fn tell<R: Eprint>(&mut self, rt: &R, notice: &Notice) -> bool {
-        let is_taking = match &mut self.watch {
+        if !self.go_on(rt) || !self.is_taking() {
+            return false;
+        }
+        let level = match notice.kind {
+            _ if !self.is_leveled => "",
+            NoticeKind::Refusal => "<4>",
+            NoticeKind::Run => "<6>",
+        };
+        if !self.is_device {
+            let _written = eprintln!(rt; "{level}jobd: {}", notice.text.as_str());
+            return true;
+        }
+        // Without memory the line is not told.
+        if let Ok(line) = format!(in self.alloc; "{level}jobd: {}\n", notice.text.as_str()) {
+            self.rest = line;
+            self.from = 0;
+            let _is_done = self.go_on(rt);
+        }
+        true
+    }
+
+    /// Tells what is left of a line, piece by piece, while that is taken without a wait. True: nothing is left.
+    pub(crate) fn go_on<R: Eprint>(&mut self, rt: &R) -> bool {
+        for _ in 0..self.rest.len() {
+            if self.is_done() {
+                return true;
+            }
+            if !self.is_taking() {
+                return false;
+            }
+            let piece = match self.rest.as_str().get(self.from..) {
+                Some(left) => front_of(left),
+                None => "",
+            };
+            let _written = eprint!(rt; "{piece}");
+            // A piece is never empty.
+            self.from = self.from.saturating_add(piece.len().max(1));
+        }
+        self.is_done()
+    }
+
+    fn is_taking(&mut self) -> bool {
+        match &mut self.watch {
             None => true,
             Some(watch) => watch.is_taking(),
-        };
-        if is_taking {
-            let level = match notice.kind {
-                _ if !self.is_leveled => "",
-                NoticeKind::Refusal => "<4>",
-                NoticeKind::Run => "<6>",
-            };
-            let _written = eprintln!(rt; "{level}jobd: {}", notice.text.as_str());
         }
-        is_taking
     }
+}
+
+// As much of the text as goes to a device at a time. No letter is cut.
+fn front_of(text: &str) -> &str {
+    for less in 0..4 {
+        if let Some(front) = text.get(..PIECE - less) {
+            return front;
+        }
+    }
+    text
 }

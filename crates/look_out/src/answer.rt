@@ -10,7 +10,8 @@ pub const LENGTH: usize = 9;
 pub enum Answer {
     /// A look: nothing is there.
     Absent,
-    /// A look: something is there that is no folder, or an empty one; when it was changed.
+    /// A look: something is there that is no folder, or an empty one, or one that may not be read; when it was changed. A
+    /// folder: it may be entered and not read. A program: it is there.
     There { stamp: u64 },
     /// A look: a folder with an entry.
     Filled { stamp: u64 },
@@ -18,6 +19,14 @@ pub enum Answer {
     Held { number: u64 },
     /// The system's number of the error.
     Refused { error: u64 },
+    /// An open: a FIFO is there, whose open may wait.
+    Fifo,
+    /// An open: a socket is there.
+    Socket,
+    /// An open: a folder is there.
+    Folder,
+    /// An open: a device is there whose open may wait.
+    Device,
 }
 
 impl Answer {
@@ -30,6 +39,10 @@ impl Answer {
             Answer::Filled { stamp } => (2, stamp),
             Answer::Held { number } => (3, number),
             Answer::Refused { error } => (4, error),
+            Answer::Fifo => (5, 0),
+            Answer::Socket => (6, 0),
+            Answer::Folder => (7, 0),
+            Answer::Device => (8, 0),
         };
         let [a, b, c, d, e, f, g, h] = number.to_le_bytes();
         [tag, a, b, c, d, e, f, g, h]
@@ -47,6 +60,10 @@ impl Answer {
             2 => Some(Answer::Filled { stamp: number }),
             3 => Some(Answer::Held { number }),
             4 => Some(Answer::Refused { error: number }),
+            5 => Some(Answer::Fifo),
+            6 => Some(Answer::Socket),
+            7 => Some(Answer::Folder),
+            8 => Some(Answer::Device),
             _ => None,
         }
     }

@@ -1,31 +1,44 @@
-//! The helper's side: it answers questions, each a letter, a space, and a path that a NUL ends, until its peer is gone.
+//! The helper's side: it answers questions, each a letter, a space, and a text that a NUL ends, until its peer is gone.
 
-use crate::answer::{Answer, LENGTH};
+ghost use Rattle.std.specs.Prelude.{◌≡◌, ◌+◌, ◌*◌, length, OnOk};
+ghost use Rattle.look_out.specs.Answers.{asked_in};
+
+use crate::answer::Answer;
+use crate::looking::{INVALID, look};
+use crate::opening::{enter, open, program, search};
+use crate::question::LONGEST;
 use std::alloc::{AllocError, Global};
-use std::fs::{File, Files, Metadata, OpenOptions};
-use std::io::{ErrorKind, Read, Write};
-use std::os::fd::AsRawFd;
-use std::os::unix::fs::MetadataExt;
-use std::{fs, io};
+use std::fs::{File, Files};
+use std::io;
+use std::io::{Read, Write};
+use std::os::fd::AsFd;
+use std::os::unix::net::UnixStream;
+use std::rt::Env;
 
 /// As many bytes of questions are read at a time.
 const ROOM: usize = 4_096;
 
-/// As many bytes has a question at most; a longer one is answered as one that is refused.
-const LONGEST: usize = 4_096;
+/// What a look-out has: what it holds open, and the question that still comes.
+#[derive(Drop)]
+struct Far {
+    alloc: Global,
+    held: Vec<File>,
+    question: Vec<u8>,
+}
 
-/// EINVAL, of a question that is none.
-const INVALID: u64 = 22;
-
-/// Answers the questions that come at the socket, in their order, until its end. What a question opens stays open until the one
+/// Answers the questions that come at the socket, in their order, until its end: each before the next is looked at, so that the first without
+/// an answer is the one that hangs. What a question opens stays open until the one
 /// that forgets it.
-pub fn serve<R: AllocGlobal + Clone + Drop + Files<File = File>, S: Read + Write>(
+pub fn serve<R: AllocGlobal + Clone + Drop + Env + Files<File = File>, S: Read + Write>(
     rt: &R,
     alloc: Global,
     socket: &mut S,
 ) -> io::Result<()> {
-    let mut held: Vec<File> = Vec::new(alloc);
-    let mut question: Vec<u8> = Vec::new(alloc);
+    let mut far = Far {
+        alloc,
+        held: Vec::new(alloc),
+        question: Vec::new(alloc),
+    };
     let mut answers: Vec<u8> = Vec::new(alloc);
     let mut room = [0u8; ROOM];
     for _ in 0..u64::MAX {
@@ -33,98 +46,84 @@ pub fn serve<R: AllocGlobal + Clone + Drop + Files<File = File>, S: Read + Write
         if count == 0 {
             break;
         }
-        answers.clear();
         for byte in &room[..count] {
-            if *byte == 0 {
-                let answer = answer_to(rt, question.as_slice(), &mut held);
-                answers.extend_from_slice(&answer.to_bytes())?;
-                question.clear();
-            } else if question.len() < LONGEST {
-                question.push(*byte).map_err(AllocError::from)?;
+            answers.clear();
+            take_in(rt, &mut far, &[*byte], &mut answers)?;
+            if !answers.is_empty() {
+                socket.write_all(answers.as_slice())?;
             }
         }
-        socket.write_all(answers.as_slice())?;
     }
     Ok(())
 }
 
-fn answer_to<R: AllocGlobal + Clone + Drop + Files<File = File>>(
+// Answers each question that ends within the bytes.
+fn take_in<R: AllocGlobal + Clone + Drop + Env + Files<File = File>>(
     rt: &R,
-    question: &[u8],
-    held: &mut Vec<File>,
+    far: &mut Far,
+    bytes: &[u8],
+    answers: &mut Vec<u8>,
+) -> Result<(), AllocError>
+    ensures { OnOk result (length answers.new.items ≡ length answers.old.items + 9 * asked_in bytes.now) }
+{
+    for byte in bytes {
+        take_byte(rt, far, *byte, answers)?;
+    }
+    Ok(())
+}
+
+// One byte more. It ends a question if it is a NUL; of a question that is too long the rest is left out.
+fn take_byte<R: AllocGlobal + Clone + Drop + Env + Files<File = File>>(
+    rt: &R,
+    far: &mut Far,
+    byte: u8,
+    answers: &mut Vec<u8>,
+) -> Result<(), AllocError>
+    ensures end { byte ≡ 0 → OnOk result (length answers.new.items ≡ length answers.old.items + 9) }
+    ensures within { (byte ≡ 0 → ⊥) → OnOk result (answers.new.items ≡ answers.old.items) }
+{
+    if byte == 0 {
+        let answer = answer_to(rt, far);
+        far.question.clear();
+        answers.extend_from_slice(&answer.to_bytes())
+    } else if far.question.len() <= LONGEST {
+        far.question.push(byte).map_err(AllocError::from)
+    } else {
+        Ok(())
+    }
+}
+
+fn answer_to<R: AllocGlobal + Clone + Drop + Env + Files<File = File>>(
+    rt: &R,
+    far: &mut Far,
 ) -> Answer {
-    let Ok(text) = std::str::from_utf8(question) else {
-        return Answer::Refused { error: INVALID };
+    let none = Answer::Refused { error: INVALID };
+    if far.question.len() > LONGEST {
+        return none;
+    }
+    let Ok(text) = std::str::from_utf8(far.question.as_slice()) else {
+        return none;
     };
     match text.split_once(' ') {
         Some(("l", path)) => look(rt, path),
-        Some(("r", path)) => open(rt, path, true, held),
-        Some(("a", path)) => open(rt, path, false, held),
+        Some(("r", path)) => open(rt, path, true, &mut far.held),
+        Some(("a", path)) => open(rt, path, false, &mut far.held),
+        Some(("d", path)) => enter(rt, far.alloc, path, &mut far.held),
+        Some(("p", path)) => program(rt, path),
+        Some(("s", text)) => search(rt, text),
         Some(("f", _)) => {
-            held.clear();
+            far.held.clear();
             Answer::Absent
         }
-        _ => Answer::Refused { error: INVALID },
+        _ => none,
     }
 }
 
-fn refused(error: &io::Error) -> Answer {
-    let number = error.raw_os_error().unwrap_or(0);
-    Answer::Refused {
-        error: u64::from(number.unsigned_abs()),
-    }
-}
-
-fn look<R: AllocGlobal + Clone + Drop + Files>(rt: &R, path: &str) -> Answer {
-    match fs::metadata(rt, path) {
-        Ok(data) => sight_of(rt, path, &data),
-        Err(error) => match error.kind() {
-            ErrorKind::NotFound | ErrorKind::NotADirectory => Answer::Absent,
-            _ => refused(&error),
-        },
-    }
-}
-
-fn sight_of<R: AllocGlobal + Clone + Drop + Files>(rt: &R, path: &str, data: &Metadata) -> Answer {
-    let stamp = match u64::try_from(data.mtime()) {
-        Ok(seconds) => seconds
-            .saturating_mul(1_000_000_000)
-            .saturating_add(data.mtime_nsec().unsigned_abs()),
-        Err(_) => 0,
+/// Answers what comes at standard input, a socket, until its end: 0, or 1 if the system refuses.
+pub fn by_input(host: &HostRuntime) -> u8 {
+    let Ok(input) = host.stdin().as_fd().try_clone_to_owned() else {
+        return 1;
     };
-    if data.is_dir() && has_entry(rt, path) {
-        return Answer::Filled { stamp };
-    }
-    Answer::There { stamp }
-}
-
-// A folder that may not be read has no entry that is told; that it is there, is.
-fn has_entry<R: AllocGlobal + Clone + Drop + Files>(rt: &R, path: &str) -> bool {
-    let mut listing = match fs::read_dir(rt, path) {
-        Ok(listing) => listing,
-        Err(_) => return false,
-    };
-    let first = listing.next();
-    drop(listing);
-    let has_entry = first.is_some();
-    drop(first);
-    has_entry
-}
-
-// An open that waits, as that of a FIFO without a peer, is what the launcher's patience is for.
-fn open<R: Files<File = File>>(rt: &R, path: &str, is_read: bool, held: &mut Vec<File>) -> Answer {
-    let mut how = OpenOptions::new();
-    how.read(is_read);
-    how.append(!is_read);
-    how.create(!is_read);
-    match how.open(rt, path) {
-        Ok(file) => {
-            let number = u64::from(file.as_raw_fd().unsigned_abs());
-            match held.push(file) {
-                Ok(()) => Answer::Held { number },
-                Err(_) => Answer::Refused { error: INVALID },
-            }
-        }
-        Err(error) => refused(&error),
-    }
+    let mut socket = UnixStream::from(input);
+    u8::from(serve(host, host.alloc(), &mut socket).is_err())
 }

@@ -1,18 +1,30 @@
 //! A helper process that looks at files and opens them in its launcher's place, so that a file system which hangs, a FIFO or a
-//! lease stops the helper and not the launcher.
+//! lease stops the helper and not the launcher. [`Looks`] asks and does not wait; [`Openings`] asks at once and waits half a second at
+//! most. Both remember what hung in a [`Hung`].
 #![tactic(auto)]
 
 mod answer;
+mod batch;
 mod far;
-mod kept;
-mod left;
+mod helper;
+mod hung;
+mod looking;
+mod looks;
+mod mounts;
+mod opening;
+mod openings;
+mod question;
 
 ghost use Rattle.std.specs.Prelude.{◌≡◌, Some};
 
 pub use answer::{Answer, LENGTH};
-pub use far::serve;
-pub use kept::{Asked, KeptLookOut, NAME, Question};
-pub use left::MOST;
+pub use batch::Seen;
+pub use far::{by_input, serve};
+pub use helper::{NAME, no_answer};
+pub use hung::{Hung, MOST};
+pub use looks::Looks;
+pub use openings::{Asked, Openings};
+pub use question::{Asks, LONGEST, Question};
 
 /// What crosses the socket is the answer that was given.
 pub fn crossed(answer: Answer) -> Option<Answer>

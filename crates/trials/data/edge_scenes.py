@@ -100,8 +100,14 @@ def end_process(pid):
         pass
 
 
+def look_outs(pid):
+    """The processes that look and open in the launcher's place."""
+    return [child for child in children_of(pid) if text_at(f"/proc/{child}/cmdline").startswith("jobd-look-out")]
+
+
 def descriptors(pid):
-    return len(os.listdir(f"/proc/{pid}/fd"))
+    """As many as are open, but for those of the launcher's look-outs: one each."""
+    return len(os.listdir(f"/proc/{pid}/fd")) - len(look_outs(pid))
 
 
 def first_free(pid):

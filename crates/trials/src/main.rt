@@ -165,6 +165,10 @@ impl Programs for OneFile {
     fn jobscope<L: Wait>(&self, host: &HostRuntime, waits: &L, words: &[String]) -> u8 {
         jobscope(host, waits, host.alloc(), words)
     }
+
+    fn look_out(&self, host: &HostRuntime) -> u8 {
+        look_out::by_input(host)
+    }
 }
 
 fn main(rt: HostRuntime) -> ExitCode {

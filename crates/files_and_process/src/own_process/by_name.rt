@@ -1,4 +1,4 @@
-//! Which of the three programs runs: they are one file, which acts by the name that it was started under.
+//! Which of the programs runs: they are one file, which acts by the name that it was started under.
 
 use super::program::{Program, program_of};
 use super::words::{own_program, own_words};
@@ -14,6 +14,9 @@ pub trait Programs {
     fn jobctl(&self, host: &HostRuntime, words: &[String]) -> u8;
 
     fn jobscope<L: Wait>(&self, host: &HostRuntime, waits: &L, words: &[String]) -> u8;
+
+    /// What a launcher starts to look and open in its place: it answers what comes at its standard input, a socket, until its end.
+    fn look_out(&self, host: &HostRuntime) -> u8;
 }
 
 /// Does as the program that the name of this process means, by the words that it was started with, and gives the exit status. Words
@@ -24,6 +27,7 @@ pub fn run_by_name<L: Wait, P: Programs>(host: &HostRuntime, waits: &L, programs
             Program::Jobd => programs.jobd(host, waits, words.as_slice()),
             Program::Jobctl => programs.jobctl(host, words.as_slice()),
             Program::Jobscope => programs.jobscope(host, waits, words.as_slice()),
+            Program::LookOut => programs.look_out(host),
         },
         Err(fault) => refuse(host, &fault),
     }
@@ -38,6 +42,7 @@ fn refuse(host: &HostRuntime, fault: &io::Error) -> u8 {
         Ok(Program::Jobd) => eprintln!(host; "jobd: a word is not UTF-8"),
         Ok(Program::Jobctl) => eprintln!(host; "jobctl: {fault}"),
         Ok(Program::Jobscope) => eprintln!(host; "jobscope: {fault}"),
+        Ok(Program::LookOut) => return USAGE,
         Err(_) => return NO_MEMORY,
     };
     USAGE

@@ -105,6 +105,8 @@ impl SocketEdge for HandedEdge {
 }
 
 impl PathEdge for HandedEdge {
+    ghost Looks = { λ path answer old new. Unit {0} };
+
     fn look(&mut self, path: &str) -> Result<Obs, EdgeFault> {
         Ok(sight_at(path, self.sights))
     }

@@ -1,0 +1,93 @@
+//! A helper process: this program's own file, under a name that nobody else gives it, with one end of a socket as its input.
+
+use std::alloc::{AllocError, Global};
+use std::io;
+use std::io::ErrorKind;
+use std::net::Net;
+use std::os::fd::OwnedFd;
+use std::os::unix::net::UnixStream;
+use std::os::unix::process::CommandExt;
+use std::process::{Child, Command, OpenProcess, Processes, Stdio};
+use std::time::Duration;
+
+/// The name under which this program is a look-out.
+pub const NAME: &str = "jobd-look-out";
+
+/// This program's own file, also if another is at its path by now.
+const OWN_FILE: &str = "/proc/self/exe";
+
+/// As many milliseconds a question may take to be taken.
+const PATIENCE: u64 = 500;
+
+#[derive(Drop)]
+pub(crate) struct Helper<P: OpenProcess + Drop> {
+    pub(crate) child: Child<P>,
+    pub(crate) socket: UnixStream,
+}
+
+/// Starts a helper. One that nobody waits for has a socket that makes nobody wait.
+pub(crate) fn start<R: Net + Processes>(
+    rt: &R,
+    alloc: Global,
+    is_waited_for: bool,
+) -> io::Result<Helper<R::Started>> {
+    let (socket, far) = match UnixStream::pair(rt) {
+        Ok(pair) => pair,
+        Err(error) => return Err(error),
+    };
+    let answer = match set_up(&socket, is_waited_for) {
+        Ok(()) => start_at(rt, alloc, far),
+        Err(error) => {
+            drop(far);
+            Err(error)
+        }
+    };
+    match answer {
+        Ok(child) => Ok(Helper { child, socket }),
+        Err(error) => {
+            drop(socket);
+            Err(error)
+        }
+    }
+}
+
+fn set_up(socket: &UnixStream, is_waited_for: bool) -> io::Result<()> {
+    if is_waited_for {
+        socket.set_write_timeout(Some(Duration::from_millis(PATIENCE)))
+    } else {
+        socket.set_nonblocking(true)
+    }
+}
+
+// The far end is the look-out's input.
+fn start_at<R: Processes>(rt: &R, alloc: Global, far: UnixStream) -> io::Result<Child<R::Started>> {
+    let input = Stdio::from(OwnedFd::from(far));
+    match command_of(alloc, input) {
+        Ok(command) => {
+            let mut command = command;
+            let child = command.spawn(rt);
+            drop(command);
+            child
+        }
+        Err(error) => Err(io::Error::from(error)),
+    }
+}
+
+// It has the launcher's variables, output, errors and folder: a path may be relative or name one of the streams, and a program's name is
+// looked for in the launcher's search path.
+fn command_of(alloc: Global, input: Stdio) -> Result<Command, AllocError> {
+    let mut command = Command::new(alloc, OWN_FILE)?;
+    command.stdin(input);
+    let is_named = command.arg0(NAME).is_ok();
+    if is_named {
+        Ok(command)
+    } else {
+        drop(command);
+        Err(AllocError)
+    }
+}
+
+/// What is told of a path that gave no answer.
+pub fn no_answer() -> io::Error {
+    io::Error::new(ErrorKind::TimedOut, "no answer")
+}

@@ -1,0 +1,174 @@
+//! Opens, and what a start needs beside its streams: its folder and its program.
+//!
+//! An open of anything but a plain file, a terminal or a device of the system's memory may wait for ever, as that of a FIFO without
+//! a peer does. So each path is looked at first, and what was opened is looked at again. What still waits, as a file that is put
+//! there in between, a lease of another process or a file system of the network, is what the launcher's patience is for.
+
+use crate::answer::Answer;
+use crate::looking::{INVALID, refused};
+use std::alloc::Global;
+use std::fs::{File, Files, Metadata, OpenOptions};
+use std::io::{ErrorKind, Read};
+use std::os::fd::AsRawFd;
+use std::os::unix::fs::{FileTypeExt, MetadataExt};
+use std::rt::Env;
+use std::{env, fs, io};
+
+/// As many bytes of a program are read: the system reads as many to see what kind it is.
+const HEAD: usize = 256;
+
+/// Opens the path, and holds it: from its beginning, or to be appended to.
+pub(crate) fn open<R: Files<File = File>>(
+    rt: &R,
+    path: &str,
+    is_read: bool,
+    held: &mut Vec<File>,
+) -> Answer {
+    match fs::metadata(rt, path) {
+        Ok(data) => {
+            if let Some(unfit) = unfit(&data) {
+                return unfit;
+            }
+        }
+        Err(error) if is_read || error.kind() != ErrorKind::NotFound => return refused(&error),
+        Err(_) => {}
+    }
+    let mut how = OpenOptions::new();
+    how.read(is_read);
+    how.append(!is_read);
+    how.create(!is_read);
+    match how.open(rt, path) {
+        Ok(file) => hold_if_fit(file, held),
+        Err(error) => refused(&error),
+    }
+}
+
+fn hold_if_fit(file: File, held: &mut Vec<File>) -> Answer {
+    let unfit = match file.metadata() {
+        Ok(data) => unfit(&data),
+        Err(error) => Some(refused(&error)),
+    };
+    match unfit {
+        None => hold(file, held),
+        Some(answer) => {
+            drop(file);
+            answer
+        }
+    }
+}
+
+fn hold(file: File, held: &mut Vec<File>) -> Answer {
+    let number = u64::from(file.as_raw_fd().unsigned_abs());
+    match held.push(file) {
+        Ok(()) => Answer::Held { number },
+        Err(_) => Answer::Refused { error: INVALID },
+    }
+}
+
+// What is said of a file whose open may wait.
+fn unfit(data: &Metadata) -> Option<Answer> {
+    let kind = data.file_type();
+    if data.is_file() || (kind.is_char_device() && opens_at_once(data.rdev())) {
+        None
+    } else if kind.is_fifo() {
+        Some(Answer::Fifo)
+    } else if kind.is_socket() {
+        Some(Answer::Socket)
+    } else if kind.is_dir() {
+        Some(Answer::Folder)
+    } else {
+        Some(Answer::Device)
+    }
+}
+
+// Of the devices by number (Linux, admin-guide/devices.txt): those of the memory as /dev/null, the virtual terminals, /dev/tty,
+// /dev/console, and pseudo-terminals. A serial line waits for its carrier, a tape for its drive.
+fn opens_at_once(device: u64) -> bool {
+    let major = ((device >> 8) & 0xfff) | ((device >> 32) & 0xffff_f000);
+    let minor = (device & 0xff) | ((device >> 12) & 0xffff_ff00);
+    match major {
+        1 | 136..=143 => true,
+        4 | 5 => minor < 64,
+        _ => false,
+    }
+}
+
+/// Holds the folder, if it may be read; an error if it may not be entered.
+pub(crate) fn enter<R: Files<File = File>>(
+    rt: &R,
+    alloc: Global,
+    path: &str,
+    held: &mut Vec<File>,
+) -> Answer {
+    let inside = match format!(in alloc; "{path}/.") {
+        Ok(inside) => inside,
+        Err(error) => return refused(&io::Error::from(error)),
+    };
+    let data = fs::metadata(rt, inside.as_str());
+    let answer = match data {
+        Ok(_) => match File::open(rt, inside.as_str()) {
+            Ok(file) => hold(file, held),
+            Err(_) => Answer::There { stamp: 0 },
+        },
+        Err(error) => refused(&error),
+    };
+    drop(inside);
+    answer
+}
+
+/// Whether the program is there. Its first bytes are read if they may be, since what is remembered of a file says nothing of who
+/// keeps it.
+pub(crate) fn program<R: Files<File = File>>(rt: &R, path: &str) -> Answer {
+    match fs::metadata(rt, path) {
+        Ok(data) => {
+            if data.is_file() {
+                read_head(rt, path);
+            }
+            Answer::There { stamp: 0 }
+        }
+        Err(error) => refused(&error),
+    }
+}
+
+fn read_head<R: Files<File = File>>(rt: &R, path: &str) {
+    if let Ok(file) = File::open(rt, path) {
+        let mut file = file;
+        let mut head = [0u8; HEAD];
+        let _read = file.read(&mut head);
+        drop(file);
+    }
+}
+
+/// Looks for the name in these folders, or in those of this process's own search path, up to the first that has it.
+pub(crate) fn search<R: AllocGlobal + Env + Files<File = File>>(rt: &R, text: &str) -> Answer {
+    match text.split_once('/') {
+        Some((name, folders)) => search_in(rt, rt.alloc(), name, folders),
+        None => match env::var(rt, "PATH") {
+            Ok(folders) => {
+                let answer = search_in(rt, rt.alloc(), text, folders.as_str());
+                drop(folders);
+                answer
+            }
+            Err(_) => search_in(rt, rt.alloc(), text, "/bin:/usr/bin"),
+        },
+    }
+}
+
+// A folder that is named relative to the child's own is left out.
+fn search_in<R: Files<File = File>>(rt: &R, alloc: Global, name: &str, folders: &str) -> Answer {
+    for folder in folders.split(':') {
+        if folder.starts_with('/') {
+            match format!(in alloc; "{folder}/{name}") {
+                Ok(path) => {
+                    let answer = program(rt, path.as_str());
+                    drop(path);
+                    if answer == (Answer::There { stamp: 0 }) {
+                        return answer;
+                    }
+                }
+                Err(error) => return refused(&io::Error::from(error)),
+            }
+        }
+    }
+    Answer::Absent
+}

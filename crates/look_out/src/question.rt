@@ -1,0 +1,49 @@
+//! What a look-out is asked: a letter, a space, a text, and a NUL that ends it.
+
+/// As many bytes has the text of a question at most: no path that the system takes is longer, and a search path seldom is.
+pub const LONGEST: usize = 32_768;
+
+/// What is asked about a path.
+#[derive(Clone, Copy, PartialEq, Eq)]
+pub enum Asks {
+    /// What is there.
+    Look,
+    /// It is to be opened, from its beginning, and held.
+    Read,
+    /// It is to be opened to be appended to, made if it is not there, and held.
+    Append,
+    /// A folder: it is to be held, if it may be read.
+    Enter,
+    /// A program: whether it is there, and its first bytes can be read.
+    Program,
+    /// A program without a slash in its name, in the folders of the text behind the first slash, or else in those of the
+    /// look-out's own search path.
+    Search,
+    /// What was opened is closed. No path belongs to it.
+    Forget,
+}
+
+#[derive(Clone, Copy)]
+pub struct Question<'a> {
+    pub asks: Asks,
+    pub path: &'a str,
+}
+
+impl Asks {
+    pub(crate) fn letter(self) -> &'static str {
+        match self {
+            Asks::Look => "l ",
+            Asks::Read => "r ",
+            Asks::Append => "a ",
+            Asks::Enter => "d ",
+            Asks::Program => "p ",
+            Asks::Search => "s ",
+            Asks::Forget => "f ",
+        }
+    }
+}
+
+/// Whether the text can be asked about: a NUL in it would be taken for its end.
+pub(crate) fn can_be_asked(text: &str) -> bool {
+    text.len() < LONGEST && !text.as_bytes().contains(&0)
+}

@@ -1,0 +1,465 @@
+#!/usr/bin/env python3
+"""A launcher whose jobs' paths hang: it goes on, refuses what hangs, and tells it by name.
+
+    tests/hung_file_system.py [--jobd PROGRAM] [--jobctl PROGRAM] [--at-once N] [TRIAL..]
+
+It is run by hand as root, after `make build`; PROGRAM is build/jobd. Each trial has a launcher and a folder of its own. The file system is a FUSE
+server of this script's own, mounted in the folder, that is stopped (SIGSTOP, its requests lie unread) or reads and does not answer.
+
+    watched_paths      WatchPaths, QueueDirectories and PathState on it, 64 of each: each is told once, and `list` is answered meanwhile
+    streams            20 jobs with their logs on it, inputs too
+    a_program          Program on it
+    a_folder           WorkingDirectory on it
+    a_socket           SockPathName on it
+    unanswered         the same of paths and logs, with a server that reads and does not answer (look-outs stay in state D)
+    exchanges          another user exchanges log and FIFO without end (renameat2)
+    leases             another user holds a write lease on a log
+    a_terminal         standard error is a terminal that nobody reads
+    figures            the 99th of 100 parts of 1,000 `list` with 64 hung paths and 20 hung logs; the time of a start; memory of an idle launcher
+
+Each prints `ok NAME` or `FAILED NAME: why`; the last line counts, and the status is 1 if one failed.
+"""
+import ctypes
+import fcntl
+import json
+import os
+import pty
+import shutil
+import signal
+import struct
+import subprocess
+import sys
+import tempfile
+import threading
+import time
+
+sys.dont_write_bytecode = True
+HERE = os.path.dirname(os.path.abspath(__file__))
+sys.path.insert(0, os.path.join(HERE, "..", "crates", "trials", "data"))
+from edge_scenes import (  # noqa: E402
+    Fault, Stage, adopt_orphans, check, chosen, comes, end_children, look_outs, program_words, shell_job, text_at, wait_for,
+)
+
+LIBC = ctypes.CDLL(None, use_errno=True)
+NOBODY = 65534
+# In seconds: a `list` that is answered later was held up. One wait of half a second is allowed for a place, and no more.
+PROMPT, ONE_WAIT = 0.05, 0.9
+
+
+# ---- the file system
+
+def attributes(node):
+    """Node 1 is the folder; names that begin with `d` are folders, all others plain files that may run."""
+    folder = node == 1 or node % 2 == 1
+    mode = 0o040777 if folder else 0o100777
+    now = int(time.time())
+    return struct.pack("<QQQQQQIIIIIIIIII", node, 20, 1, now, 1_700_000_000, now, 0, 0, 0, mode, 2 if folder else 1, 0, 0, 0, 4096, 0)
+
+
+def answer_to(opcode, node, body, names):
+    """The answer's bytes, or the number of the error; None: it wants no answer."""
+    if opcode == 26:  # INIT
+        return struct.pack("<IIIIHHIIHHI7I", 7, 31, 65536, 0, 12, 10, 65536, 1, 16, 0, 0, *[0] * 7)
+    if opcode in (2, 42):  # FORGET, BATCH_FORGET
+        return None
+    if opcode == 1:  # LOOKUP
+        name = body.split(b"\0")[0]
+        if name.startswith(b"s"):
+            return -2
+        found = names.setdefault(name, 2 * len(names) + (11 if name.startswith(b"d") else 10))
+        return struct.pack("<QQQQII", found, 0, 0, 0, 0, 0) + attributes(found)
+    if opcode in (3, 4):  # GETATTR, SETATTR
+        return struct.pack("<QII", 0, 0, 0) + attributes(node)
+    if opcode in (14, 27):  # OPEN, OPENDIR
+        return struct.pack("<QII", node, 1 if opcode == 14 else 0, 0)
+    if opcode == 15:  # READ
+        offset = struct.unpack_from("<Q", body, 8)[0]
+        return b"#!/bin/sh\nexit 0\n\n\n\n"[offset:]
+    if opcode == 28:  # READDIR
+        offset = struct.unpack_from("<Q", body, 8)[0]
+        return b"" if offset else struct.pack("<QQII", 99, 1, 5, 8) + b"entry\0\0\0"
+    if opcode == 16:  # WRITE
+        return struct.pack("<II", struct.unpack_from("<I", body, 16)[0], 0)
+    if opcode == 17:  # STATFS
+        return struct.pack("<QQQQQIIII6I", 1, 1, 1, 1, 1, 4096, 255, 4096, 0, *[0] * 6)
+    if opcode in (18, 20, 25, 29, 34, 36, 38):  # RELEASE, FSYNC, FLUSH, RELEASEDIR, ACCESS, INTERRUPT, DESTROY
+        return b""
+    return -38
+
+
+def serve_requests(device, mute):
+    """Answers each request, until the file system is unmounted. Once the file `mute` is there it reads and does not answer."""
+    names = {}
+    while True:
+        try:
+            request = os.read(device, 1 << 17)
+        except OSError as error:
+            if error.errno in (2, 4):
+                continue
+            os._exit(0)
+        _, opcode, unique, node = struct.unpack_from("<IIQQ", request)
+        while os.path.exists(mute):
+            time.sleep(0.02)
+        answer = answer_to(opcode, node, request[40:], names)
+        if answer is None:
+            continue
+        error, body = (answer, b"") if isinstance(answer, int) else (0, answer)
+        try:
+            os.write(device, struct.pack("<IiQ", 16 + len(body), error, unique) + body)
+        except OSError:
+            pass
+
+
+class FileSystem:
+    def __init__(self, stage, name):
+        self.at, self.mute = stage.at(name), stage.at(f"{name}.mute")
+        os.mkdir(self.at)
+        device = os.open("/dev/fuse", os.O_RDWR)
+        options = f"fd={device},rootmode=40000,user_id=0,group_id=0,allow_other"
+        if LIBC.mount(b"hung", self.at.encode(), b"fuse", 0, options.encode()):
+            raise Fault(f"no FUSE here: {os.strerror(ctypes.get_errno())}")
+        self.server = os.fork()
+        if self.server == 0:
+            serve_requests(device, self.mute)
+        os.close(device)
+        check(comes(lambda: os.path.isdir(self.at)), "the file system does not come")
+
+    def path(self, name):
+        return os.path.join(self.at, name)
+
+    def stop(self):
+        os.kill(self.server, signal.SIGSTOP)
+
+    def go_on(self):
+        os.kill(self.server, signal.SIGCONT)
+        if os.path.exists(self.mute):
+            os.remove(self.mute)
+
+    def end(self):
+        self.go_on()
+        LIBC.umount2(self.at.encode(), 2)
+        os.kill(self.server, signal.SIGKILL)
+        os.waitpid(self.server, 0)
+
+
+# ---- an honest client
+
+class Honest:
+    """Asks for a list again and again, and keeps how long each took."""
+
+    def __init__(self, launcher):
+        self.launcher, self.times, self.is_over = launcher, [], False
+        self.thread = threading.Thread(target=self.go)
+        self.thread.start()
+
+    def go(self):
+        while not self.is_over:
+            begun = time.monotonic()
+            try:
+                self.launcher.ask({"req": "list"}, 20)
+            except Fault:
+                self.times.append(20.0)
+                return
+            self.times.append(time.monotonic() - begun)
+            time.sleep(0.005)
+
+    def end(self):
+        self.is_over = True
+        self.thread.join()
+        return sorted(self.times)
+
+
+def late(times):
+    return times[int(len(times) * 0.99)], times[-1]
+
+
+def is_prompt(honest, waits=3):
+    """All but some waits of half a second were prompt."""
+    times = honest.end()
+    part, most = late(times)
+    held = [took for took in times if took > PROMPT]
+    check(most < ONE_WAIT, f"a list took {most:.2f} s")
+    check(len(held) <= waits + len(times) // 100, f"{len(held)} of {len(times)} lists took more than {PROMPT} s")
+    return part
+
+
+def goes_on(launcher, stage, label):
+    """Another job starts, ends, and is told so."""
+    mark = stage.at(f"{label}.mark")
+    launcher.load(shell_job(label, f"echo run > {mark}", RunAtLoad=True))
+    check(comes(lambda: text_at(mark) == "run\n"), f"the job {label} does not start: {launcher.said()[-300:]!r}")
+
+
+def told(launcher, part, count=1):
+    wait_for(lambda: len(launcher.lines(part)) >= count, f"{part!r} is told {len(launcher.lines(part))} times, not {count}")
+
+
+# ---- trials
+
+def hang(hung, is_mute):
+    if is_mute:
+        open(hung.mute, "w").close()
+        time.sleep(0.1)
+    else:
+        hung.stop()
+
+
+def paths_and_logs(stage, is_mute):
+    hung = FileSystem(stage, "hung")
+    try:
+        launcher = stage.serve()
+        for key, label in (("WatchPaths", "w"), ("QueueDirectories", "q")):
+            launcher.load(shell_job(label, "exit 0", **{key: [hung.path(f"{label}{at}") for at in range(64)]}))
+        launcher.load(shell_job("s", "exit 0", KeepAlive={"PathState": {hung.path(f"p{at}"): False for at in range(64)}}))
+        for at in range(20):
+            launcher.load(shell_job(f"log{at}", "echo x", StandardOutPath=hung.path(f"log{at}"), ThrottleInterval=0))
+        time.sleep(2)
+        hang(hung, is_mute)
+        honest = Honest(launcher)
+        told(launcher, "no answer")
+        for at in range(20):
+            launcher.ask({"req": "start", "job": f"log{at}"})
+        told(launcher, "for its output: no answer", 20)
+        time.sleep(12)
+        goes_on(launcher, stage, "good")
+        is_prompt(honest, waits=3)
+        check(len(look_outs(launcher.pid)) <= 5, f"look-outs are left: {look_outs(launcher.pid)}")
+        hung.go_on()
+        launcher.load(shell_job("again", "echo x", StandardOutPath=hung.path("again"), RunAtLoad=True, KeepAlive=True))
+        wait_for(lambda: "last exit" in launcher.print("again"), "no answer about the job", 30)
+        launcher.shut_down(30)
+    finally:
+        hung.end()
+
+
+def watched_paths(stage):
+    paths_and_logs(stage, False)
+
+
+def unanswered(stage):
+    paths_and_logs(stage, True)
+
+
+def one_part(stage, part, **keys):
+    hung = FileSystem(stage, "hung")
+    try:
+        launcher = stage.serve()
+        made = {key: value(hung) if callable(value) else value for key, value in keys.items()}
+        job = {"Label": "job", "ProgramArguments": ["/bin/sh", "-c", "exit 0"], "ThrottleInterval": 0, **made}
+        launcher.load(job)
+        launcher.ask({"req": "start", "job": "job"})
+        wait_for(lambda: "runs = 0" not in launcher.print("job"), "the job does not start")
+        time.sleep(0.5)
+        hung.stop()
+        honest = Honest(launcher)
+        launcher.ask({"req": "start", "job": "job"})
+        told(launcher, part)
+        goes_on(launcher, stage, "good")
+        time.sleep(1)
+        is_prompt(honest)
+        hung.go_on()
+        launcher.shut_down(30)
+    finally:
+        hung.end()
+
+
+def streams(stage):
+    one_part(stage, "for its output: no answer", StandardOutPath=lambda hung: hung.path("out"))
+
+
+def an_input(stage):
+    one_part(stage, "for its input: no answer", StandardInPath=lambda hung: hung.path("in"))
+
+
+def a_program(stage):
+    one_part(stage, "no answer", ProgramArguments=lambda hung: [hung.path("prog")])
+
+
+def a_folder(stage):
+    one_part(stage, "cannot enter the folder", WorkingDirectory=lambda hung: hung.path("dir"))
+
+
+def a_socket(stage):
+    hung = FileSystem(stage, "hung")
+    try:
+        launcher = stage.serve()
+        hung.stop()
+        honest = Honest(launcher)
+        job = shell_job("job", "exit 0", inetdCompatibility={"Wait": False}, Sockets={"s": {"SockPathName": hung.path("socket")}})
+        reply = launcher.ask({"req": "load", "def": json.dumps(job)})
+        check(reply["code"] != 0, f"the load got {reply}")
+        told(launcher, "no answer")
+        goes_on(launcher, stage, "good")
+        time.sleep(1)
+        is_prompt(honest)
+        hung.go_on()
+        launcher.shut_down(30)
+    finally:
+        hung.end()
+
+
+def as_nobody(work):
+    pid = os.fork()
+    if pid == 0:
+        try:
+            os.setgid(NOBODY)
+            os.setuid(NOBODY)
+            work()
+        finally:
+            os._exit(0)
+    return pid
+
+
+def exchanges(stage):
+    os.chmod(stage.folder, 0o755)
+    place = stage.at("nobody")
+    os.mkdir(place)
+    os.chown(place, NOBODY, NOBODY)
+
+    def exchange():
+        log, fifo = os.path.join(place, "log").encode(), os.path.join(place, "fifo").encode()
+        open(log, "w").close()
+        os.mkfifo(fifo)
+        while True:
+            LIBC.renameat2(-100, log, -100, fifo, 2)
+
+    exchanger = as_nobody(exchange)
+    try:
+        launcher = stage.serve()
+        launcher.load(shell_job("job", "echo x", StandardOutPath=os.path.join(place, "log"), ThrottleInterval=0))
+        honest = Honest(launcher)
+        for _ in range(60):
+            launcher.ask({"req": "start", "job": "job"}, 20)
+            time.sleep(0.05)
+        goes_on(launcher, stage, "good")
+        times = honest.end()
+        check(times[-1] < ONE_WAIT, f"a list took {times[-1]:.2f} s")
+        launcher.shut_down()
+    finally:
+        os.kill(exchanger, signal.SIGKILL)
+        os.waitpid(exchanger, 0)
+
+
+def leases(stage):
+    os.chmod(stage.folder, 0o755)
+    place = stage.at("nobody")
+    os.mkdir(place)
+    os.chown(place, NOBODY, NOBODY)
+
+    def lease():
+        signal.signal(signal.SIGIO, signal.SIG_IGN)
+        file = os.open(os.path.join(place, "log"), os.O_RDWR | os.O_CREAT)
+        while True:
+            try:
+                fcntl.fcntl(file, fcntl.F_SETLEASE, fcntl.F_WRLCK)
+            except OSError:
+                pass
+            time.sleep(0.01)
+
+    holder = as_nobody(lease)
+    try:
+        launcher = stage.serve()
+        time.sleep(0.5)
+        launcher.load(shell_job("job", "echo x", StandardOutPath=os.path.join(place, "log"), ThrottleInterval=0))
+        honest = Honest(launcher)
+        launcher.ask({"req": "start", "job": "job"}, 20)
+        told(launcher, "for its output: no answer")
+        for _ in range(10):
+            launcher.ask({"req": "start", "job": "job"}, 20)
+            time.sleep(0.1)
+        goes_on(launcher, stage, "good")
+        is_prompt(honest)
+        launcher.shut_down()
+    finally:
+        os.kill(holder, signal.SIGKILL)
+        os.waitpid(holder, 0)
+
+
+def a_terminal(stage):
+    near, far = pty.openpty()
+    places = ["--socket", stage.at("socket"), "--store", stage.at("store"), "--spool", stage.at("spool")]
+    process = subprocess.Popen([*stage.given.jobd, "serve", *places], cwd=stage.folder, stdin=subprocess.DEVNULL, stdout=subprocess.PIPE, stderr=far)
+    os.close(far)
+    try:
+        check(process.stdout.readline() == b"jobd: ready\n", "it is not ready")
+        from edge_scenes import Launcher
+        launcher = Launcher(process, stage.at("none"), stage.at("socket"))
+        for at in range(400):
+            launcher.load({"Label": f"{at}{'x' * 240}", "Program": "/none" + "y" * 900, "RunAtLoad": True})
+        launcher.answers("with a terminal that nobody reads")
+        goes_on(launcher, stage, "good")
+    finally:
+        process.kill()
+        process.wait()
+        os.close(near)
+
+
+def figures(stage):
+    hung = FileSystem(stage, "hung")
+    try:
+        launcher = stage.serve()
+        time.sleep(1)
+        idle = memory_of(launcher.pid)
+        launcher.load(shell_job("w", "exit 0", WatchPaths=[hung.path(f"w{at}") for at in range(64)]))
+        for at in range(20):
+            launcher.load(shell_job(f"log{at}", "echo x", StandardOutPath=hung.path(f"log{at}"), ThrottleInterval=1, KeepAlive=True))
+        time.sleep(2)
+        hung.stop()
+        time.sleep(1)
+        times = []
+        for _ in range(1000):
+            begun = time.monotonic()
+            launcher.ask({"req": "list"}, 20)
+            times.append(time.monotonic() - begun)
+        part, most = late(sorted(times))
+        helpers = sum(memory_of(pid) for pid in look_outs(launcher.pid))
+        print(f"  list: 99 of 100 within {part * 1000:.1f} ms, at most {most * 1000:.1f}; an idle launcher {idle} kB, its look-outs {helpers} kB")
+        check(part < PROMPT, f"99 of 100 lists took {part * 1000:.0f} ms")
+        hung.go_on()
+        launcher.shut_down(30)
+    finally:
+        hung.end()
+
+
+def memory_of(pid):
+    lines = text_at(f"/proc/{pid}/smaps_rollup").splitlines()
+    return sum(int(line.split()[1]) for line in lines if line.startswith("Pss:"))
+
+
+TRIALS = [watched_paths, streams, an_input, a_program, a_folder, a_socket, unanswered, exchanges, leases, a_terminal, figures]
+
+
+def play(given, folder, trial):
+    own = os.path.join(folder, trial.__name__)
+    os.mkdir(own)
+    stage = Stage(given, own)
+    try:
+        trial(stage)
+        return f"ok {trial.__name__}"
+    except Fault as fault:
+        return f"FAILED {trial.__name__}: {fault}"
+    finally:
+        stage.clear()
+
+
+def main():
+    words = program_words(usage="see the head of this script")
+    given = words.parse_args()
+    trials = chosen(words, given, TRIALS)
+    adopt_orphans()
+    folder, failed = tempfile.mkdtemp(prefix="hung."), 0
+    os.chmod(folder, 0o755)
+    try:
+        for trial in trials:
+            line = play(given, folder, trial)
+            failed += line.startswith("FAILED")
+            print(line, flush=True)
+    finally:
+        end_children()
+        shutil.rmtree(folder, ignore_errors=True)
+    print(f"{len(trials)} trials, {failed} failed")
+    return 1 if failed else 0
+
+
+if __name__ == "__main__":
+    sys.exit(main())
