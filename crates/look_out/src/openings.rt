@@ -343,7 +343,9 @@ fn first_shut<P: OpenProcess + Drop, R: AllocGlobal + Files>(
 fn patience_for<P: OpenProcess + Drop>(hung: &Hung<P>, questions: &[Question<'_>]) -> u64 {
     let mut patience = PATIENCE;
     for question in questions {
-        patience = patience.min(hung.patience(question.path));
+        if question.asks != Asks::Forget {
+            patience = patience.min(hung.patience(question.path));
+        }
     }
     patience
 }
