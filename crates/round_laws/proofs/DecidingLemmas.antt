@@ -19,6 +19,9 @@ use Rattle.round_laws.specs.Marks.{snapshot}
 use Rattle.round_laws.specs.Hearing.{HeardReadings, Decides}
 use Rattle.round_laws.specs.RoundMarks.{launcher, marks_of}
 use Rattle.round_laws.proofs.HearingLemmas.{decided, lines-heard, new-good}
+use Rattle.std.specs.Prelude.{Result}
+use Rattle.history_model.specs.declared.Obs.{Obs}
+use Rattle.child_edge.specs.declared.plain.EdgeFault.{EdgeFault}
 use Rattle.round_laws.proofs.QuietLemmas.{not-refused}
 use Rattle.round_laws.proofs.RoundQuietLemmas.{rounds_keep}
 
@@ -26,18 +29,18 @@ in-range : (at : Reading) → nat_le at.up MAX_UP ≡ true → nat_le at.wall MA
 in-range at up wall = not-refused at at (grind (arith, nat_tests)) (grind (arith, nat_tests, up)) (grind (arith, nat_tests, wall))
 
 module _ {T E W : Type 0} (calls : E → Option (List ToldCall)) (stores : T → Option (List StoreCall))
-    (holds : T → List Setting → Type 0) (stamped : T → List Stamp → Type 0) (Finds : ℕ → Option (ℕ × ℕ) → E → E → Type 0) where
+    (holds : T → List Setting → Type 0) (stamped : T → List Stamp → Type 0) (Finds : ℕ → Option (ℕ × ℕ) → E → E → Type 0) (Looks : List ℕ → Result Obs EdgeFault → E → E → Type 0) where
   pub decides : (header : Header) (told : Option (List ToldCall)) (stored : Option (List StoreCall)) (journal : JournalState) (before : T) (first last : Left (RoundLauncher T E W)) →
       (new : IsNew header told stored journal (stands calls stores first.host.host) (holds before) (holds first.host.host.store)) → first.host.at ≡ first.host.host.table.reading →
-      (rounds : AreRounds (launcher calls stores holds stamped Finds) first last) → HeardReadings (marks_of calls stores holds stamped Finds rounds) →
-      Decides new.machine (marks_of calls stores holds stamped Finds rounds)
+      (rounds : AreRounds (launcher calls stores holds stamped Finds Looks) first last) → HeardReadings (marks_of calls stores holds stamped Finds Looks rounds) →
+      Decides new.machine (marks_of calls stores holds stamped Finds Looks rounds)
   decides header told stored journal before first last new at rounds had =
       let s = new.machine in
-      let marks = marks_of calls stores holds stamped Finds rounds in
+      let marks = marks_of calls stores holds stamped Finds Looks rounds in
       let is : s.reading ≡ header.reading = ap (λ (t : State). t.reading) new.opens.state in
       let allowed : is_clock_refused s.reading s.reading ≡ false =
       subst (λ (r : Reading). is_clock_refused r r ≡ false) (sym is) (in-range header.reading new.writable.is.up new.writable.is.wall) in
-      let spans = rounds_keep calls stores holds stamped Finds rounds s s.reading had (record { keeps = new.kept; led = new.led; at = at ∙ new.kept.reading; allowed = allowed }) in
+      let spans = rounds_keep calls stores holds stamped Finds Looks rounds s s.reading had (record { keeps = new.kept; led = new.led; at = at ∙ new.kept.reading; allowed = allowed }) in
       record {
         parts = spans.parts;
         are_parts = spans.are_parts;

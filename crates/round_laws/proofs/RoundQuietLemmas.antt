@@ -375,18 +375,28 @@ module _ {T E W : Type 0} (calls : E → Option (List ToldCall)) (stores : T →
     };
   }
 
-  sight : (path : List ℕ) (seen : Option Obs) (old : RoundLauncher T E W) (known : looks.Known) (new : RoundLauncher T E W) (known' : looks.Known)
-      (t : looks.TakesIf (DoesPath calls stores holds stamped) path seen old known new known') → Keeps (of_sight calls stores holds stamped path seen old known new known' t) old new
-  sight path None old known new known' none = same none.0
-  sight path (Some obs) old known new known' (inl is) = spared_sight path obs old new is.1
-  sight path (Some obs) old known new known' (inr differs) = tells (Some (happened (journaled.Saw path obs))) (no-clock (Some (happened (journaled.Saw path obs))) refl) differs.1.0 old new differs.1.1
+  sight : (Looks : List ℕ → Result Obs EdgeFault → E → E → Type 0) (path : List ℕ) (seen : Option Obs) (old : RoundLauncher T E W) (known : looks.Known) (new : RoundLauncher T E W) (known' : looks.Known)
+      (t : looks.TakesIf (DoesPath calls stores holds stamped Looks) path seen old known new known') → Keeps (of_sight calls stores holds stamped Looks path seen old known new known' t) old new
+  sight Looks path None old known new known' none = same none.0
+  sight Looks path (Some obs) old known new known' (inl is) = spared_sight path obs old new is.1
+  sight Looks path (Some obs) old known new known' (inr differs) = tells (Some (happened (journaled.Saw path obs))) (no-clock (Some (happened (journaled.Saw path obs))) refl) differs.1.0 old new differs.1.1
 
-  walk : {first : RoundLauncher T E W} {known : looks.Known} {n : ℕ} {path : List ℕ} {new : RoundLauncher T E W} {known' : looks.Known}
-      (w : looks.Walks ListsNext (DoesPath calls stores holds stamped) first known n path new known') → Keeps (of_walk calls stores holds stamped w) first new
-  walk {first = first} looks.no_look = nothing first
-  walk (looks.one_more {next = next} {mid = mid} {new = new} {before = before} {after = after} more is it) =
-      then_ (walk more) (then_ {xs = []} (subst (λ (r : RoundLauncher T E W). Keeps [] mid r) (sym it.looked.4) (lent_on it.looked.1 mid))
-      (sight next it.seen it.mid before new after it.taken))
+  -- a question about paths
+  put : (edge : E) (old new : RoundLauncher T E W) → new ≡ lent edge old → Keeps [] old new
+  put edge old new is = subst (λ (r : RoundLauncher T E W). Keeps [] old r) (sym is) (lent_on edge old)
+
+  questions : (Looks : List ℕ → Result Obs EdgeFault → E → E → Type 0) {first new : RoundLauncher T E W} → looks.Questions ListsNext (DoesPath calls stores holds stamped Looks) first new → Keeps [] first new
+  questions Looks {first = first} looks.no_question = nothing first
+  questions Looks (looks.ahead {mid = mid} {new = new} more put_in) = then_ {xs = []} {ys = []} (questions Looks more) (put put_in.0 mid new put_in.1)
+  questions Looks (looks.awaits {mid = mid} {new = new} more put_in) = then_ {xs = []} {ys = []} (questions Looks more) (put put_in.0 mid new put_in.1)
+
+  walk : (Looks : List ℕ → Result Obs EdgeFault → E → E → Type 0) {first : RoundLauncher T E W} {known : looks.Known} {from : List ℕ} {n : ℕ} {path : List ℕ} {new : RoundLauncher T E W} {known' : looks.Known}
+      (w : looks.Walks ListsNext (DoesPath calls stores holds stamped Looks) first known from n path new known') → Keeps (of_walk calls stores holds stamped Looks w) first new
+  walk Looks {first = first} looks.no_look = nothing first
+  walk Looks {first = first} (looks.asked {new = new} more asked_on) = subst (λ ms. Keeps ms first new) (append-nil (of_walk calls stores holds stamped Looks more)) (then_ {ys = []} (walk Looks more) (questions Looks asked_on))
+  walk Looks (looks.one_more {next = next} {mid = mid} {seen = seen} {new = new} {before = before} {after = after} more is waits it) =
+      then_ (walk Looks more) (then_ {xs = []} (put waits.0 mid seen waits.1) (then_ {xs = []} (put it.looked.1 seen it.mid it.looked.5)
+      (sight Looks next it.seen it.mid before new after it.taken)))
 
   -- what comes behind changes neither the table nor the reading
   end_same : {marks : List (Mark T)} {a : RoundLauncher T E W} (b c : RoundLauncher T E W) → c.host.table ≡ b.host.table → c.at ≡ b.at → Keeps marks a b → Keeps marks a c
@@ -417,22 +427,27 @@ module _ {T E W : Type 0} (calls : E → Option (List ToldCall)) (stores : T →
   ended : {marks : List (Mark T)} {a : RoundLauncher T E W} (b c d : RoundLauncher T E W) → Keeps marks a b → rounds.Asks AsksEdge b c → rounds.Asks AsksEdge c d → Keeps marks a d
   ended {marks} {a} b c d goes first second = subst (λ ms. Keeps ms a d) (append-nil marks) (then_ {ys = []} goes (then_ {xs = []} {ys = []} (asks first) (asks second)))
 
-  module _ (Finds : ℕ → Option (ℕ × ℕ) → E → E → Type 0) where
-    looks_all : (old : RoundLauncher T E W) (look : ℕ) (known : looks.Known) (new : RoundLauncher T E W) (look' : ℕ) (known' : looks.Known) (s : rounds.Sees (launcher calls stores holds stamped Finds) old look known new look' known') →
-        Keeps (of_looks calls stores holds stamped Finds old look known new look' known' s) old new
-    looks_all old look known new look' known' (inl early) = same early.1
-    looks_all old look known new look' known' (inr due) = let all = due.2 in
-        then_ {xs = []} (moved old all.first (ap (λ (r : RoundLauncher T E W). r.host.table) all.asked.1) (ap (λ (r : RoundLauncher T E W). r.at) all.asked.1)) (walk all.walks.walk)
+  module _ (Finds : ℕ → Option (ℕ × ℕ) → E → E → Type 0) (Looks : List ℕ → Result Obs EdgeFault → E → E → Type 0) where
+    looks_begin : (at : Option (List ℕ)) (old : RoundLauncher T E W) (known : looks.Known) (from : List ℕ) (first : RoundLauncher T E W) (begun : looks.Known) →
+        looks.Begins ListsNext (DoesPath calls stores holds stamped Looks) at old known from first begun → Keeps [] old first
+    looks_begin (Some path) old known from first begun b = same b.1
+    looks_begin None old known from first begun b = moved old first (ap (λ (r : RoundLauncher T E W). r.host.table) b.2.2) (ap (λ (r : RoundLauncher T E W). r.at) b.2.2)
 
-    round : (old new : rounds.Left (RoundLauncher T E W)) (r : rounds.IsRound (launcher calls stores holds stamped Finds) old new) → Keeps (of_round calls stores holds stamped Finds old new r) old.host new.host
+    looks_all : (polled : RoundLauncher T E W) (old : rounds.Left (RoundLauncher T E W)) (looked : RoundLauncher T E W) (new : rounds.Left (RoundLauncher T E W)) (s : rounds.Sees (launcher calls stores holds stamped Finds Looks) polled old looked new) →
+        Keeps (of_looks calls stores holds stamped Finds Looks polled old looked new s) polled looked
+    looks_all polled old looked new (inl early) = same early.1
+    looks_all polled old looked new (inr due) = let all = due.3 in
+        then_ {xs = []} (looks_begin old.walk polled old.known all.from all.first all.begun all.begins) (then_ {xs = []} (questions Looks all.asks) (walk Looks all.walks.walk))
+
+    round : (old new : rounds.Left (RoundLauncher T E W)) (r : rounds.IsRound (launcher calls stores holds stamped Finds Looks) old new) → Keeps (of_round calls stores holds stamped Finds Looks old new r) old.host new.host
     round old new r =
         then_ {xs = []} {b = r.waited} (asks r.waits)
         (then_ {b = r.begun} (begins r.waited r.begun r.begins)
         (then_ {b = r.polled} (polls_all Finds r.polls)
-        (then_ {b = r.looked} (looks_all r.polled old.look old.known r.looked new.look new.known r.looks)
+        (then_ {b = r.looked} (looks_all r.polled old r.looked new r.looks)
         (then_ {b = r.serves.first} (serves r.serves.serves)
         (then_ {b = r.serves.mid} (clients r.serves.gathers) (ended r.serves.last r.served new.host (serves r.serves.again) r.serves.asks r.tells))))))
 
-    pub rounds_keep : {first last : rounds.Left (RoundLauncher T E W)} (rs : rounds.AreRounds (launcher calls stores holds stamped Finds) first last) → Keeps (marks_of calls stores holds stamped Finds rs) first.host last.host
+    pub rounds_keep : {first last : rounds.Left (RoundLauncher T E W)} (rs : rounds.AreRounds (launcher calls stores holds stamped Finds Looks) first last) → Keeps (marks_of calls stores holds stamped Finds Looks rs) first.host last.host
     rounds_keep {first = first} rounds.no_round = nothing first.host
     rounds_keep (rounds.one_round {mid = mid} {new = new} more r) = then_ (rounds_keep more) (round mid new r)

@@ -23,13 +23,14 @@ use Rattle.round_laws.specs.Marks.{Mark, Spared, turned}
 
 module _ {T E W : Type 0} (calls : E → Option (List ToldCall)) (stores : T → Option (List StoreCall))
     (holds : T → List Setting → Type 0) (stamped : T → List Stamp → Type 0)
-    (Finds : ℕ → Option (ℕ × ℕ) → E → E → Type 0) where
+    (Finds : ℕ → Option (ℕ × ℕ) → E → E → Type 0)
+    (Looks : List ℕ → Result Obs EdgeFault → E → E → Type 0) where
   -- what a round asks of the launcher of `jobd`, and hands in to it
   abbrev pub launcher : rounds.Launcher (RoundLauncher T E W)
   launcher = record {
     round_up = λ round. round.at.up;
     IsNext = ListsNext;
-    Did = DoesPath calls stores holds stamped;
+    Did = DoesPath calls stores holds stamped Looks;
     Answered = AnswersLine calls stores holds stamped;
     Begun = Begins calls stores holds stamped;
     Polled = PollsFrom calls stores holds stamped Finds;
@@ -99,18 +100,20 @@ module _ {T E W : Type 0} (calls : E → Option (List ToldCall)) (stores : T →
   -- ---- paths
 
   -- a sight that is what was handed in last is spared
-  abbrev pub of_sight : (path : List ℕ) (seen : Option Obs) (old : RoundLauncher T E W) (known : looks.Known) (new : RoundLauncher T E W) (known' : looks.Known) →
-      looks.TakesIf (DoesPath calls stores holds stamped) path seen old known new known' → List (Mark T)
-  of_sight path None old known new known' none = []
-  of_sight path (Some obs) old known new known' (inl same) = Spared (journaled.Saw path obs) ∷ []
-  of_sight path (Some obs) old known new known' (inr differs) =
+  abbrev pub of_sight : (Looks : List ℕ → Result Obs EdgeFault → E → E → Type 0) (path : List ℕ) (seen : Option Obs) (old : RoundLauncher T E W) (known : looks.Known) (new : RoundLauncher T E W) (known' : looks.Known) →
+      looks.TakesIf (DoesPath calls stores holds stamped Looks) path seen old known new known' → List (Mark T)
+  of_sight Looks path None old known new known' none = []
+  of_sight Looks path (Some obs) old known new known' (inl same) = Spared (journaled.Saw path obs) ∷ []
+  of_sight Looks path (Some obs) old known new known' (inr differs) =
       of_tells (Some (happened (journaled.Saw path obs))) differs.1.0 old new differs.1.1
 
-  abbrev pub of_walk : {first : RoundLauncher T E W} {known : looks.Known} {n : ℕ} {path : List ℕ} {new : RoundLauncher T E W} {known' : looks.Known} →
-      looks.Walks ListsNext (DoesPath calls stores holds stamped) first known n path new known' → List (Mark T)
-  of_walk looks.no_look = []
-  of_walk (looks.one_more {next = next} {new = new} {before = before} {after = after} walk is it) =
-      of_walk walk ++ of_sight next it.seen it.mid before new after it.taken
+  -- questions about paths hand nothing in
+  abbrev pub of_walk : (Looks : List ℕ → Result Obs EdgeFault → E → E → Type 0) {first : RoundLauncher T E W} {known : looks.Known} {from : List ℕ} {n : ℕ} {path : List ℕ} {new : RoundLauncher T E W} {known' : looks.Known} →
+      looks.Walks ListsNext (DoesPath calls stores holds stamped Looks) first known from n path new known' → List (Mark T)
+  of_walk Looks looks.no_look = []
+  of_walk Looks (looks.asked walk questions) = of_walk Looks walk
+  of_walk Looks (looks.one_more {next = next} {new = new} {before = before} {after = after} walk is waits it) =
+      of_walk Looks walk ++ of_sight Looks next it.seen it.mid before new after it.taken
 
   -- ---- clients
 
@@ -135,21 +138,21 @@ module _ {T E W : Type 0} (calls : E → Option (List ToldCall)) (stores : T →
 
   -- ---- whole rounds
 
-  module _ (Finds : ℕ → Option (ℕ × ℕ) → E → E → Type 0) where
-    abbrev pub of_looks : (old : RoundLauncher T E W) (look : ℕ) (known : looks.Known) (new : RoundLauncher T E W) (look' : ℕ) (known' : looks.Known) →
-        rounds.Sees (launcher calls stores holds stamped Finds) old look known new look' known' → List (Mark T)
-    of_looks old look known new look' known' (inl early) = []
-    of_looks old look known new look' known' (inr due) = of_walk due.2.walks.walk
+  module _ (Finds : ℕ → Option (ℕ × ℕ) → E → E → Type 0) (Looks : List ℕ → Result Obs EdgeFault → E → E → Type 0) where
+    abbrev pub of_looks : (polled : RoundLauncher T E W) (old : rounds.Left (RoundLauncher T E W)) (looked : RoundLauncher T E W) (new : rounds.Left (RoundLauncher T E W)) →
+        rounds.Sees (launcher calls stores holds stamped Finds Looks) polled old looked new → List (Mark T)
+    of_looks polled old looked new (inl early) = []
+    of_looks polled old looked new (inr due) = of_walk Looks due.3.walks.walk
 
     abbrev pub of_round : (old new : rounds.Left (RoundLauncher T E W)) →
-        rounds.IsRound (launcher calls stores holds stamped Finds) old new → List (Mark T)
+        rounds.IsRound (launcher calls stores holds stamped Finds Looks) old new → List (Mark T)
     of_round old new round = of_begins round.waited round.begun round.begins
         ++ (of_polls Finds round.polls.over
-        ++ (of_looks round.polled old.look old.known round.looked new.look new.known round.looks
+        ++ (of_looks round.polled old round.looked new round.looks
         ++ (of_serves round.serves.serves ++ (of_clients round.serves.gathers ++ of_serves round.serves.again))))
 
     -- all that they hand in, round after round
     abbrev pub marks_of : {first last : rounds.Left (RoundLauncher T E W)} →
-        rounds.AreRounds (launcher calls stores holds stamped Finds) first last → List (Mark T)
+        rounds.AreRounds (launcher calls stores holds stamped Finds Looks) first last → List (Mark T)
     marks_of rounds.no_round = []
     marks_of (rounds.one_round {mid = mid} {new = new} more round) = marks_of more ++ of_round mid new round
