@@ -52,7 +52,7 @@ rm -rf "$root/root/try"
 mkdir -p "$root/root/try/tests" "$root/root/try/contrib"
 cp "$package" "$root/root/jobd.deb"
 cp README.md "$root/root/try"
-cp tests/readme_job.sh tests/jobd_run.py "$root/root/try/tests"
+cp tests/readme_job.sh tests/typed_page.py tests/jobd_run.py "$root/root/try/tests"
 # systemd-analyze leaves a file of its own, which is no part of the package.
 inside systemd-analyze verify --man=no /lib/systemd/system/basic.target >/dev/null 2>&1 || true
 files >"$root/root/before"

@@ -1,6 +1,7 @@
 #!/usr/bin/env bash
 # Types what README.md shows first, beside a launcher, and then its first job, line by line, and compares what comes with what the page shows. Process ids,
-# dates and times may differ. It is run by hand, after `make build`. The folder of the programs is the first word, or build.
+# dates and times may differ. It is run by hand, after `make build`. The folder of the programs is the first word, or build. With the kit on the PATH and
+# the second word `make`, what `make run` prints is compared too.
 set -euo pipefail
 
 cd "$(dirname "$0")/.."
@@ -37,3 +38,9 @@ if "jobd.sock" in left or os.listdir(f"{folder}/job/spool"):
     sys.exit(1)
 print(f"readme_job: {count + first} lines were typed, and what came is what the page shows")
 END
+if [ "${2:-}" = make ]; then
+    sed -n '/^`make run` prints$/,/^Job /p' README.md | sed -n 's/^    //p' > "$folder/wanted"
+    make -s run 2> "$folder/log" > "$folder/came" || { cat "$folder/log" >&2; exit 1; }
+    diff "$folder/wanted" "$folder/came" >&2
+    echo "readme_job: make run prints what the page shows"
+fi
