@@ -25,3 +25,6 @@ loop-preserved g c = record {
     conn = c.next_notice.ensures.kept.conn ∙ c.loop.invariant.kept.conn;
   };
 }
+
+pub returns-then-not-go_on-clause-asks : goal.returns-then-not-go_on-clause-asks
+returns-then-not-go_on-clause-asks g c = nothing
