@@ -36,7 +36,7 @@ use Rattle.ctl_protocol.specs.declared.request.Request.{Request}
 use Rattle.ctl_protocol.specs.declared.request.Request.TheVariants as requests
 use Rattle.ctl_protocol.specs.declared.request.Outside.{Outside}
 use Rattle.ctl_protocol.specs.Requests.{event_with}
-use Rattle.launcher.specs.Inputs.{Incoming, asked, asked_by, event_if_label, event_of, happened}
+use Rattle.launcher.specs.Inputs.{Incoming, asked as asks_for, asked_by, event_if_label, event_of, happened}
 use Rattle.launcher_laws.specs.TurnRuns.{Turn, Part, AreParts, IsPartOf, answer_told, events_in, outcomes_in}
 use Rattle.control_socket.specs.Serving.{Serves, nobody, one_more}
 use Rattle.live_loop.specs.declared.loop_host.HandedIn.{HandedIn as Became}
@@ -73,9 +73,9 @@ no-clock-if : (b : Bool) (x : Incoming) → is_clock x ≡ false → NoClock (if
 no-clock-if true x apart = no-clock (Some x) apart
 no-clock-if false x apart = no-clock None refl
 
-no-clock-asked : (o : Option Request) → NoClock (option_map asked o)
+no-clock-asked : (o : Option Request) → NoClock (option_map asks_for o)
 no-clock-asked None = no-clock None refl
-no-clock-asked (Some request) = no-clock (Some (asked request)) refl
+no-clock-asked (Some request) = no-clock (Some (asks_for request)) refl
 
 plain-asked : (out : Outside) (request : Request) → is_tick (machine_event (event_with out request)) ≡ false
 plain-asked out (requests.Load load) = refl
@@ -87,7 +87,7 @@ plain-asked out (requests.Print job) = refl
 plain-asked out requests.Shutdown = refl
 
 plain-answered : (out : Outside) (x : Incoming) → is_clock x ≡ false → is_tick (machine_event (event_of out x)) ≡ false
-plain-answered out (asked request) apart = plain-asked out request
+plain-answered out (asks_for request) apart = plain-asked out request
 plain-answered out (happened (journaled.Load def w f b st)) apart = refl
 plain-answered out (happened (journaled.Unload job w st)) apart = refl
 plain-answered out (happened (journaled.Set job d st)) apart = refl
@@ -337,8 +337,8 @@ module _ {T E W : Type 0} (calls : E → Option (List ToldCall)) (stores : T →
   end : (label : List ℕ) (run : ℕ) (answer : Result (Option Ended) EdgeFault) (old new : RoundLauncher T E W) (t : TellsEnd calls stores holds stamped label run answer old new) →
       Keeps (of_end calls stores holds stamped label run answer old new t) old new
   end label run (Ok None) old new is = same is
-  end label run (Ok (Some how)) old new t = tells (event_if_label label (journaled.OfJob label (happens.Ended run how))) (no-clock-if (is_label label) (journaled.OfJob label (happens.Ended run how)) refl) t.0 old new t.1
-  end label run (Err fault) old new t = tells (event_if_label label (journaled.OfJob label (happens.WaitRefused run))) (no-clock-if (is_label label) (journaled.OfJob label (happens.WaitRefused run)) refl) t.0 old new t.1
+  end label run (Ok (Some how)) old new t = tells (event_if_label label (journaled.OfJob label (happens.Ended run how))) (no-clock-if (is_label label) (happened (journaled.OfJob label (happens.Ended run how))) refl) t.0 old new t.1
+  end label run (Err fault) old new t = tells (event_if_label label (journaled.OfJob label (happens.WaitRefused run))) (no-clock-if (is_label label) (happened (journaled.OfJob label (happens.WaitRefused run))) refl) t.0 old new t.1
 
   poll : (Finds : ℕ → Option (ℕ × ℕ) → E → E → Type 0) (first : ℕ) (job : Option ℕ) (old new : RoundLauncher T E W) (p : PollsFrom calls stores holds stamped Finds first job old new) →
       Keeps (of_poll calls stores holds stamped Finds first job old new p) old new
@@ -411,9 +411,9 @@ module _ {T E W : Type 0} (calls : E → Option (List ToldCall)) (stores : T →
   client : (label : List ℕ) (job conn : ℕ) (answer : Became) (old new : RoundLauncher T E W) (t : TellsCame calls stores holds stamped label job conn answer old new) →
       Keeps (of_client calls stores holds stamped label job conn answer old new t) old new
   client label job conn handed.Dropped old new is = same is
-  client label job conn handed.Heard old new t = tells (event_if_label label (journaled.OfJob label (happens.Came conn))) (no-clock-if (is_label label) (journaled.OfJob label (happens.Came conn)) refl) None old new t
+  client label job conn handed.Heard old new t = tells (event_if_label label (journaled.OfJob label (happens.Came conn))) (no-clock-if (is_label label) (happened (journaled.OfJob label (happens.Came conn))) refl) None old new t
   client label job conn (handed.Refused refusal) old new came =
-      let heard = tells (event_if_label label (journaled.OfJob label (happens.Came conn))) (no-clock-if (is_label label) (journaled.OfJob label (happens.Came conn)) refl) (Some refusal) old came.0 came.2 in
+      let heard = tells (event_if_label label (journaled.OfJob label (happens.Came conn))) (no-clock-if (is_label label) (happened (journaled.OfJob label (happens.Came conn))) refl) (Some refusal) old came.0 came.2 in
       subst (λ (r : RoundLauncher T E W). Keeps (of_tells calls stores holds stamped (event_if_label label (journaled.OfJob label (happens.Came conn))) (Some refusal) old came.0 came.2) old r) (sym came.4)
       (subst (λ ms. Keeps ms old (lent came.1 came.0)) (append-nil (of_tells calls stores holds stamped (event_if_label label (journaled.OfJob label (happens.Came conn))) (Some refusal) old came.0 came.2))
       (then_ {ys = []} heard (lent_on came.1 came.0)))
@@ -431,7 +431,7 @@ module _ {T E W : Type 0} (calls : E → Option (List ToldCall)) (stores : T →
     looks_begin : (at : Option (List ℕ)) (old : RoundLauncher T E W) (known : looks.Known) (from : List ℕ) (first : RoundLauncher T E W) (begun : looks.Known) →
         looks.Begins ListsNext (DoesPath calls stores holds stamped Looks) at old known from first begun → Keeps [] old first
     looks_begin (Some path) old known from first begun b = same b.1
-    looks_begin None old known from first begun b = moved old first (ap (λ (r : RoundLauncher T E W). r.host.table) b.2.2) (ap (λ (r : RoundLauncher T E W). r.at) b.2.2)
+    looks_begin None old known from first begun b = moved old first (ap (λ (r : RoundLauncher T E W). r.host.table) b.1.1.2) (ap (λ (r : RoundLauncher T E W). r.at) b.1.1.2)
 
     looks_all : (polled : RoundLauncher T E W) (old : rounds.Left (RoundLauncher T E W)) (looked : RoundLauncher T E W) (new : rounds.Left (RoundLauncher T E W)) (s : rounds.Sees (launcher calls stores holds stamped Finds Looks) polled old looked new) →
         Keeps (of_looks calls stores holds stamped Finds Looks polled old looked new s) polled looked

@@ -209,7 +209,7 @@ module _ {T E W : Type 0} (calls : E → Option (List ToldCall)) (stores : T →
     looks_begin : (at : Option (List ℕ)) (old : RoundLauncher T E W) (known : looks.Known) (from : List ℕ) (first : RoundLauncher T E W) (begun : looks.Known) →
         looks.Begins ListsNext (DoesPath calls stores holds stamped Looks) at old known from first begun → Goes [] old first
     looks_begin (Some path) old known from first begun b = same b.1
-    looks_begin None old known from first begun b = subst (λ (r : RoundLauncher T E W). Goes [] old r) (sym b.2.2) (record { are = record { table = refl; store = refl; journal = inl refl } })
+    looks_begin None old known from first begun b = subst (λ (r : RoundLauncher T E W). Goes [] old r) (sym b.1.1.2) (record { are = record { table = refl; store = refl; journal = inl refl } })
 
     looks_all : (polled : RoundLauncher T E W) (old : rounds.Left (RoundLauncher T E W)) (looked : RoundLauncher T E W) (new : rounds.Left (RoundLauncher T E W)) (s : rounds.Sees (launcher calls stores holds stamped Finds Looks) polled old looked new) →
         Goes (of_looks calls stores holds stamped Finds Looks polled old looked new s) polled looked
