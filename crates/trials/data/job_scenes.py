@@ -310,12 +310,12 @@ def sights_and_the_clock(stage):
 
 
 def sights_that_are_refused(stage):
-    """A look that the system refuses is told once; of many lines at once 64 are told, and of further ones the number. What was not told
-    is at the next look."""
+    """A look that the system refuses is told once, also of many: none is lost, and none is told twice. Of many lines at once 64 are told, and of
+    further ones the number; what was not told is at the next look. How many come at once is the look-out's affair."""
     launcher = stage.serve()
     launcher.load(shell_job("first", ":", WatchPaths=[NO_NAME]))
     comes_to_say(launcher, f"cannot look at {NO_NAME}: {TOO_LONG}")
-    paths = ["/" * number + "n" * 1000 for number in range(2, 8)] + ["/" + "m" * 900 + str(number) for number in range(70)]
+    paths = ["/" * number + "n" * 1000 for number in range(2, 8)] + ["/" + "m" * 254 + str(number) for number in range(10, 80)]
     many = [shell_job(f"many{at}", ":", WatchPaths=paths[at : at + 38]) for at in (0, 38)]
     with connect(launcher.path) as client:
         client.sendall(b"".join(json.dumps({"req": "load", "def": json.dumps(job)}).encode() + b"\n" for job in many))
@@ -323,12 +323,12 @@ def sights_that_are_refused(stage):
         while got.count(b"\n") < 2:
             got += client.recv(65536)
     check(got.count(b'"code":0') == 2, f"the loads got {got!r}")
-    comes_to_say(launcher, "12 more lines were dropped")
-    first = launcher.said().partition("jobd: 12 more lines")[0].count("jobd: cannot look at ")
-    check(first == 65, f"{first} looks are told before the number of the others")
     looks = lambda: launcher.lines("jobd: cannot look at ")
     wait_for(lambda: len(looks()) >= 77, lambda: f"of 77 looks {len(looks())} are told")
     check(len(looks()) == len(set(looks())) == 77, f"{len(looks())} looks are told, of them {len(set(looks()))} different ones")
+    told = launcher.said().partition(" more lines were dropped")
+    first = told[0].count("jobd: cannot look at ")
+    check(not told[1] or first >= 64, f"{first} looks are told before lines are dropped")
     launcher.shut_down()
 
 
