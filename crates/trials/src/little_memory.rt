@@ -4,7 +4,6 @@
 mod feeding;
 mod growing;
 mod hoard;
-mod looping;
 mod plain_calls;
 mod replaying;
 mod storing;
@@ -23,11 +22,9 @@ pub fn try_all(rt: &HostRuntime) -> Result<()> {
     let opening = storing::try_all(rt, &mut hoard, OwnFile { rt }, storing::OPENING);
     let storing = storing::try_all(rt, &mut hoard, InMemory {}, storing::CALLS);
     let turning = turning::try_all::<Stage>(rt, &mut hoard);
-    let looping = looping::try_making(rt, &mut hoard);
     drop(hoard);
     plain?;
     opening?;
     storing?;
-    turning?;
-    looping
+    turning
 }
