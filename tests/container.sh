@@ -185,7 +185,8 @@ done
 kill -TERM "$machine_first"
 sleep 2
 is_alive || fail "jobd alone takes TERM as a first process, and the page says that it does not"
-inside jobctl --socket /run/alone.sock shutdown
+# The end of the first process may end jobctl too, before it has printed its reply.
+inside jobctl --socket /run/alone.sock shutdown || [ $? -eq 137 ]
 ended 0
 words=("${entry[@]}")
 

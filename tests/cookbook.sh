@@ -11,6 +11,7 @@ done
 folder=$(mktemp -d)
 end() {
     "$programs/jobctl" --socket "$folder/jobd.sock" shutdown > /dev/null 2>&1 || true
+    wait
     rm -rf "$folder" /tmp/kivgrond-*.log /tmp/kivgrond-backup.tar
 }
 trap end EXIT

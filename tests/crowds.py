@@ -77,6 +77,21 @@ def silent(path, count, text=b""):
     again(step, 0.02)
 
 
+def dripping(path, count, pause):
+    """So many clients that send a byte each so many seconds, each of them replaced as it is let go."""
+    held = [connect(path) for _ in range(count)]
+
+    def step():
+        for at, client in enumerate(held):
+            if is_held(client):
+                send(client, b"x")
+            else:
+                client.close()
+                held[at] = connect(path)
+
+    again(step, pause / 2)
+
+
 def vanishing(path, text, half_closes=False):
     """Clients that send this and leave."""
 

@@ -25,6 +25,9 @@ second after TERM (it may be late by half a second):
 
     replies_unread    130 clients of a job half-close and never read
     silent_callers    64 clients of a job send nothing: others are served, and after five seconds a further one of this job
+    slow_callers      64 clients of a job send a byte each 3 s: others are served, and a further one of this job once the first is 5 s old
+    slow_at_four      256 of four jobs do so: clients of a fifth are served, none is closed
+    forty_crowds      1,000 of forty jobs send nothing, and come again as they are let go: those of a further job are served, none is closed
     settings_at_once  a client sends 7,200 settings at once, and again and again
     silent_control    64 silent clients of the control socket and eight with half a request, replaced as they are let go
     a_still_minute    a caller that sends nothing, and one that does not read, are let go after a minute
@@ -43,7 +46,7 @@ import threading
 import time
 
 from crowds import (
-    LIST, Beside, Crowd, Deaf, Descriptors, asks, calls, is_held, never_reading, pipelining, resident, settles, silent, vanishing,
+    LIST, Beside, Crowd, Deaf, Descriptors, asks, calls, dripping, is_held, never_reading, pipelining, resident, settles, silent, vanishing,
 )
 from edge_scenes import Fault, Stage, begin, call, check, chosen, connect, descriptors, program_words, shell_job, socket_job, wait_for
 
@@ -226,6 +229,60 @@ def silent_callers(stage, launcher):
     return beside(stage, launcher, crowds, honest, lambda: wait_for(serves, "no further client of the job is served", 15))
 
 
+def slow_callers(stage, launcher):
+    serves = lambda: call(stage.at("cat"), b"hello") == b"hello"
+    crowds = [(dripping, stage.at("cat"), 64, 3)]
+    honest = {"list": (asks(launcher.path), 0.02), "call of another job": (calls(stage.at("other")), 0.05)}
+
+    def further():
+        """Ten further clients of the job, one after the other: each within 15 seconds."""
+        for _ in range(10):
+            wait_for(serves, "no further client of the job is served", 15 * stage.given.slack)
+            time.sleep(1)
+
+    return beside(stage, launcher, crowds, honest, further)
+
+
+def calls_one_by_one(stage, launcher, label, crowds, count, most):
+    """So many clients of the job beside crowds, each of which has its reply in as many seconds at most. The figures."""
+    took = []
+
+    def honest_calls():
+        time.sleep(2)
+        for _ in range(count):
+            start = time.monotonic()
+            got = call(stage.at(label), b"hello", 60)
+            took.append(time.monotonic() - start)
+            check(got == b"hello", f"after {len(took) - 1} of {count} a client got {got!r} in {took[-1]:.1f} s")
+
+    told = beside(stage, launcher, crowds, {"list": (asks(launcher.path), 0.02)}, honest_calls)
+    took.sort()
+    check(took[-1] <= most * stage.given.slack, f"a client waited for {took[-1]:.1f} s")
+    return f"{told}; {count} clients served, median {took[count // 2]:.2f} s, most {took[-1]:.2f} s"
+
+
+def slow_at_four(stage, launcher):
+    labels = [f"slow{number}" for number in range(4)]
+    for label in labels:
+        launcher.load(socket_job(stage, label, ["/bin/cat"]))
+    crowds = [(dripping, stage.at(label), 64, 3) for label in labels]
+    told = calls_one_by_one(stage, launcher, "other", crowds, 30, 6)
+    for label in labels:
+        launcher.ask({"req": "unload", "job": label})
+    return told
+
+
+def forty_crowds(stage, launcher):
+    labels = [f"crowd{number}" for number in range(40)]
+    for label in labels:
+        launcher.load(socket_job(stage, label, ["/bin/cat"]))
+    crowds = [(silent, stage.at(label), 25) for label in labels]
+    told = calls_one_by_one(stage, launcher, "other", crowds, 30, 6)
+    for label in labels:
+        launcher.ask({"req": "unload", "job": label})
+    return told
+
+
 def settings_at_once(stage, launcher):
     crowds = [(pipelining, launcher.path, b'{"req":"disable","job":"x"}\n' * 7200)]
     honest = {"list": (asks(launcher.path), 0.02), "print": (asks(launcher.path, b'{"req":"print","job":"cat"}\n'), 0.02)}
@@ -312,7 +369,7 @@ def soak(stage, launcher):
 
 TRIALS = [
     half_a_line, byte_by_byte, long_line, full_line, hundred, never_reads, random_bytes, long_request, leaves_early,
-    replies_unread, silent_callers, settings_at_once, silent_control, a_still_minute,
+    replies_unread, silent_callers, slow_callers, slow_at_four, forty_crowds, settings_at_once, silent_control, a_still_minute,
 ]
 CROWDED = TRIALS[9:]
 

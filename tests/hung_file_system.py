@@ -403,7 +403,8 @@ def figures(stage):
         launcher.load(shell_job("w", "exit 0", WatchPaths=[hung.path(f"w{at}") for at in range(64)]))
         for at in range(20):
             launcher.load(shell_job(f"log{at}", "echo x", StandardOutPath=hung.path(f"log{at}"), ThrottleInterval=1, KeepAlive=True))
-        time.sleep(2)
+        # Between two starts: one that has begun when the file system stops holds the launcher (the window that SECURITY tells).
+        time.sleep(2.5)
         hung.stop()
         time.sleep(1)
         times = []

@@ -335,6 +335,92 @@ def deaf_job(place):
     place.check_nothing_left()
 
 
+# ---- how long what was left has
+
+
+def fast_clock(place, factor):
+    """A PATH by which the script's clock goes so many times faster: it asks `date` how late it is."""
+    folder = f"{place.folder}/bin"
+    os.mkdir(folder)
+    with open(f"{folder}/date", "w") as it:
+        begin, date = int(time.time()), shutil.which("date")
+        it.write(f"#!/bin/sh\necho $(({begin} + ($({date} +%s%3N) - {begin}000) * {factor} / 1000))\n")
+    os.chmod(f"{folder}/date", 0o755)
+    return f"{folder}:{os.environ['PATH']}"
+
+
+def define_deaf(place, label, **keys):
+    place.define(label, f"trap '' TERM; : >{place.folder}/{label}.minds; exec sleep 1000", **keys)
+
+
+def left_by_both(place, seconds, factor, told=None):
+    """Script and launcher are killed, and the job of `a` is deaf: the next script gives it KILL after so many seconds."""
+    path = fast_clock(place, factor)
+    keeper = place.start(PATH=path)
+    child, launcher = place.running("a"), place.launchers()[0]
+    wait_for(lambda: os.path.exists(f"{place.folder}/a.minds"), "the job is deaf")
+    wait_for(lambda: "jobs loaded" in place.told(), "that all are loaded")
+    if told:
+        place.check_told(told)
+    keeper.kill()
+    keeper.wait()
+    os.kill(launcher, signal.SIGKILL)
+    begin = time.time()
+    keeper = place.start(PATH=path)
+    wait_for(lambda: gone(child), f"the job is ended; told: {place.told()}", 40)
+    spent = time.time() - begin
+    # It looks each tenth of a second, and counts whole seconds.
+    check(seconds / factor - 0.2 <= spent <= seconds / factor + 12, f"{spent} s, which are {spent * factor} of its clock")
+    place.check_told(f"{child} (sleep) did not end in {seconds} seconds: it gets KILL")
+    check(place.running("a") != child, "no new run")
+    place.check_once()
+    # An end in order would wait for the deaf job.
+    keeper.kill()
+    keeper.wait()
+    kill(place.launchers()[0])
+
+
+@scene
+def patience_outlasts_the_script(place):
+    define_deaf(place, "a", ExitTimeOut=60)
+    left_by_both(place, 60, 10)
+
+
+@scene
+def patience_is_at_most_120_seconds(place):
+    define_deaf(place, "a", ExitTimeOut=86400)
+    left_by_both(place, 120, 20, f"{place.jobs}/a.json: ExitTimeOut is 86400 seconds: if its launcher is killed, what it leaves gets KILL 120 seconds after TERM")
+
+
+@scene
+def patience_of_what_is_not_loaded_counts_for_nothing(place):
+    """A number that is none to a shell, a definition that is refused, one that others may write, one alone in its folder's rest."""
+    define_deaf(place, "a")
+    place.define("b", ExitTimeOut=100)
+    os.chmod(f"{place.jobs}/b.json", 0o646)
+    for name, text in (("c", '"Label":"c","Program":"/bin/true","ExitTimeOut":99999999999999999999'), ("d", '"ExitTimeOut":100')):
+        with open(f"{place.jobs}/{name}.json", "w") as it:
+            it.write("{" + text + "}")
+    left_by_both(place, 20, 5)
+    check(open(f"{place.state}/patience").read() == "20\n", "it counts")
+
+
+@scene
+def fifo_among_the_definitions_stops_nothing(place):
+    place.define("a")
+    keeper = place.start()
+    child, launcher = place.running("a"), place.launchers()[0]
+    keeper.kill()
+    keeper.wait()
+    os.kill(launcher, signal.SIGKILL)
+    os.mkfifo(f"{place.folder}/fifo")
+    os.symlink(f"{place.folder}/fifo", f"{place.jobs}/f.json")
+    place.start()
+    wait_for(lambda: gone(child), f"what was left is ended; told: {place.told()}", 15)
+    check(place.running("a") != child, "no new run")
+    place.check_once()
+
+
 @scene
 def job_without_its_variables(place):
     """A job that has lost the variable is found by its session; so is one of another user, if root tries it."""

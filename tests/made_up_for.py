@@ -4,7 +4,7 @@ clock, and a restart of the launcher.
 
     made_up_for.py [FOLDER]     FOLDER holds jobd (build/ if absent)
 
-A sleep that the launcher's clock counts, and one that it does not, are two readings: `up` with the wall, and the wall alone. A restart is
+A sleep is a reading of `up` and the wall; while a job waits for its KILL it is one of the wall alone, and one of `up` behind it. A restart is
 a new journal, whose header is later. It is run by hand, after `make build`.
 """
 import json
@@ -76,14 +76,14 @@ def row(name, launcher, wanted):
 
 nightly = {"StartCalendarInterval": {"Hour": 3, "Minute": 30}}
 row("a calendar, slept over three nights", Launcher(BEGIN, **nightly).read(1, 1).read(3 * DAY, 3 * DAY), [0, 1])
-row("a calendar, slept, by a clock that stood still", Launcher(BEGIN, **nightly).read(1, 1).read(1, 3 * DAY), [0, 1])
+row("a calendar, slept beside a job that waits for its KILL", Launcher(BEGIN, **nightly).read(1, 1).read(1, 3 * DAY), [0, 1])
 row("a calendar, slept for 390 days", Launcher(BEGIN, StartCalendarInterval={"Day": 20, "Month": 11, "Hour": 3}).read(1, 1)
     .read(1, 390 * DAY), [0, 1])
 row("a calendar, set forward", Launcher(BEGIN, **nightly).read(1, DAY), [1])
 row("a calendar, set back over its minute", Launcher(BEGIN, **nightly).read(1, 4 * HOUR).read(1, -HOUR).read(HOUR, HOUR), [1, 0, 1])
 row("a calendar, restarted after its minute", Launcher(BEGIN + 4 * HOUR, **nightly).read(1, 1), [0, 0])
-row("an interval, slept by a clock that stood still", Launcher(BEGIN, StartInterval=HOUR).read(1, DAY).read(HOUR - 2, HOUR).read(1, 1), [0, 0, 1])
-row("an interval, slept by a clock that went on", Launcher(BEGIN, StartInterval=HOUR).read(1, 1).read(DAY, DAY), [0, 1])
+row("an interval, slept beside a job that waits for its KILL", Launcher(BEGIN, StartInterval=HOUR).read(1, DAY).read(19, 19).read(DAY, 0), [0, 0, 1])
+row("an interval, slept", Launcher(BEGIN, StartInterval=HOUR).read(1, 1).read(DAY, DAY), [0, 1])
 row("an interval, set forward and back", Launcher(BEGIN, StartInterval=HOUR).read(1, DAY).read(1, -DAY), [0, 0])
 row("an interval, restarted", Launcher(BEGIN + DAY, StartInterval=HOUR).read(HOUR - 1, HOUR - 1).read(1, 1), [0, 0, 1])
 row("RunAtLoad, restarted", Launcher(BEGIN, RunAtLoad=True), [1])
@@ -94,6 +94,7 @@ row("a crash's KeepAlive, restarted", Launcher(BEGIN, KeepAlive={"Crashed": True
 row("a watched path, changed while no launcher ran", Launcher(BEGIN, WatchPaths=["/p"]).saw(2), [0, 0])
 row("a watched path, changed while a launcher ran", Launcher(BEGIN, WatchPaths=["/p"]).saw(2).saw(3), [0, 0, 1])
 row("a queue with an entry, restarted", Launcher(BEGIN, QueueDirectories=["/p"]).saw(2, True).saw(3, False), [0, 4, 0])
+row("a throttle, slept", Launcher(BEGIN, KeepAlive=True, ThrottleInterval=HOUR).read(1, 1).read(DAY, DAY), [1, 0, 1])
 for fault in faults:
     print(f"made_up_for: {fault}", file=sys.stderr)
 if faults:

@@ -12,6 +12,7 @@ done
 folder=$(mktemp -d)
 end() {
     for it in shown job; do "$programs/jobctl" --socket "$folder/$it/jobd.sock" shutdown > /dev/null 2>&1 || true; done
+    wait
     rm -rf "$folder"
 }
 trap end EXIT

@@ -16,6 +16,7 @@ if [ ! -x "$programs/jobd" ] || [ ! -x "$programs/jobctl" ]; then
     exit 1
 fi
 
+page=$(cd "$(dirname "$0")/../docs" && pwd)/USING.md
 folder=$(mktemp -d)
 launcher=
 trap '[ -z "$launcher" ] || kill "$launcher"; rm -rf "$folder"' EXIT
@@ -75,5 +76,26 @@ set_all first.db enable a
 want "a setting is written" "a${tab}enabled
 b${tab}enabled" "$(listed first.db | cut -f 1,2)"
 want "the shell reads what was moved" "$(listed first.db)" "$(rows first.db)"
+
+# a store with a damaged page: the block of USING, as it stands there, saves the settings of all others
+block=$(sed -n '/^    sqlite3 damaged\/overrides.db/,/^$/s/^    //p' "$page")
+[ "$(printf '%s\n' "$block" | wc -l)" = 3 ] || want "the block of the page" "three lines" "$block"
+words=
+for number in $(seq 1000 1599); do words="$words disable org.example.$number"; done
+# shellcheck disable=SC2086
+set_all overrides.db $words
+"$shell" overrides.db 'PRAGMA wal_checkpoint(TRUNCATE)' >/dev/null
+pages=$("$shell" overrides.db 'PRAGMA page_count')
+[ "$pages" -gt 8 ] || want "a store of some pages" "more than 8" "$pages"
+mkdir damaged
+mv overrides.db damaged/
+[ ! -e overrides.db-wal ] || mv overrides.db-wal damaged/
+dd if=/dev/zero of=damaged/overrides.db bs=4096 seek=6 count=1 conv=notrunc 2>/dev/null
+PATH=$programs:$PATH sh -c "$block" >saved 2>said
+count=$(wc -l <saved)
+[ "$count" -ge 300 ] && [ "$count" -lt 600 ] || want "settings that the block saves of 600" "most of them" "$count: $(cat said)"
+want "a saved setting" "org.example.1599${tab}disabled" "$(cut -f 1,2 saved | tail -n 1)"
+set_all mended.db enable org.example.1000
+want "a launcher writes in what was saved" "org.example.1000${tab}enabled" "$(listed mended.db | cut -f 1,2 | head -n 1)"
 
 echo "store_shell: passed"

@@ -9,5 +9,5 @@ for program in jobd jobctl jobscope; do
     [ -x "$programs/$program" ] || { echo "tutorial: no program at $programs/$program (make build)" >&2; exit 1; }
 done
 folder=$(mktemp -d)
-trap '"$programs/jobctl" --socket "$folder/jobd.sock" shutdown > /dev/null 2>&1 || true; rm -rf "$folder"' EXIT
+trap '"$programs/jobctl" --socket "$folder/jobd.sock" shutdown > /dev/null 2>&1 || true; wait; rm -rf "$folder"' EXIT
 python3 tests/typed_page.py docs/TUTORIAL.md typed "$programs:$PWD/contrib" "$folder"

@@ -41,7 +41,7 @@ neither true b e = cc
 neither false b e = (refl, e)
 
 -- no entry matches a minute of an idle day
-idle-minute : (entries : List Entry) (day minute : CivilMinute) → list_any (λ entry. is_on_day entry day) entries ≡ false → is_same_day day minute ≡ true
+pub idle-minute : (entries : List Entry) (day minute : CivilMinute) → list_any (λ entry. is_on_day entry day) entries ≡ false → is_same_day day minute ≡ true
     → list_any (λ entry. matches entry minute) entries ≡ false
 idle-minute [] day minute none same = refl
 idle-minute (entry ∷ entries) day minute none same =

@@ -1,5 +1,5 @@
 -- The next minute at which a calendar is due (launchd.plist(5), StartCalendarInterval).
-use Rattle.std.specs.Prelude.{◌≡◌, ℕ, ◌%◌, ◌<◌, ◌≤◌, Bool, true, List, Option, Some, None}
+use Rattle.std.specs.Prelude.{◌≡◌, ℕ, ◌%◌, ◌/◌, ◌<◌, ◌≤◌, Bool, true, List, Option, Some, None}
 use Rattle.std.specs.List.{list_any}
 use Rattle.history_model.specs.declared.Entry.{Entry}
 use Rattle.history_model.specs.Calendar.{Zone, matches}
@@ -18,3 +18,11 @@ abbrev pub IsFirstDue : Zone → List Entry → ℕ → ℕ → Option ℕ → T
 IsFirstDue zone entries after until None = (n : ℕ) → ¬ IsDueIn zone entries after until n
 IsFirstDue zone entries after until (Some m) =
     IsDueIn zone entries after until m × ((n : ℕ) → IsDueIn zone entries after until n → m ≤ n)
+
+-- the least such minute of a day, of those that are counted from 1970; none if there is none
+abbrev pub IsFirstDueOn : Zone → List Entry → ℕ → ℕ → ℕ → Option ℕ → Type 0
+IsFirstDueOn zone entries day after until None =
+    (n : ℕ) → IsDueIn zone entries after until n → ¬ (n / 86_400 ≡ day)
+IsFirstDueOn zone entries day after until (Some m) =
+    IsDueIn zone entries after until m × (m / 86_400 ≡ day)
+    × ((n : ℕ) → IsDueIn zone entries after until n → n / 86_400 ≡ day → m ≤ n)

@@ -1,15 +1,19 @@
 //! Which entries of a calendar match a civil minute.
-ghost use Rattle.std.specs.Prelude.{◌≡◌, ◌≤◌, ◌+◌, ℕ, map};
+ghost use Rattle.std.specs.Prelude.{◌≡◌, ◌≤◌, ◌+◌, ◌/◌, ℕ, map};
 ghost use Rattle.std.specs.List.{list_any};
 ghost use Rattle.history_model.specs.Calendar.{Zone as Minutes, matches as entry_matches, allows, is_weekday, allows_day, crossed, calendar_fires};
 ghost use Rattle.history_model.specs.NextMomentByFacts.{has_come};
 ghost use Rattle.history_model.specs.declared.TheConstants.{CALENDAR_REACH};
 ghost use Rattle.calendar_due.specs.ZoneRules.{minute_at};
-ghost use Rattle.calendar_due.specs.Next.{is_matched, IsFirstDue};
-ghost use Rattle.calendar_due.specs.Days.{is_on_day, is_same_day, is_of_day};
+ghost use Rattle.calendar_due.specs.Next.{is_matched, IsFirstDue, IsFirstDueOn};
+ghost use Rattle.calendar_due.specs.Days.{is_on_day, is_same_day, is_of_day, AreIdle};
+ghost use Rattle.calendar_due.specs.declared.calendar.TheConstants.{DAY};
 
 use crate::Zone;
 use history_model::{CALENDAR_REACH, CivilMinute, Entry, MAX_WALL};
+
+// A day, in seconds.
+const DAY: u64 = 86_400;
 
 /// The calendar of a job: its entries, of which one suffices (launchd.plist(5), StartCalendarInterval).
 pub struct Calendar;
@@ -37,7 +41,7 @@ impl Calendar {
     /// The least whole minute of Unix time after `after` and not after `until`, both in seconds, whose civil minute some entry
     /// matches; none if no such minute is matched. It is the minute from which on a reading fires the calendar, if the clock
     /// goes on from `after` by at most 400 days. The caller's condition: `until` is at most 250,000,000,000. Takes no
-    /// memory. It looks at each minute in turn, so the caller bounds the time by `until`.
+    /// memory. It looks at each day in turn, and at the minutes of the days about which an entry is: `until` bounds the time.
     pub fn next(entries: &[Entry], zone: &Zone, after: u64, until: u64) -> Option<u64>
         requires { until ≤ MAX_WALL }
         ensures least { IsFirstDue (minute_at zone.now) entries.now after until result }
@@ -48,8 +52,64 @@ impl Calendar {
     }
 }
 
-// That minute. The minutes are counted from 1970.
+// That minute. Days are those of UTC, counted from 1970. No clock is 26 hours from UTC, so on a day of UTC it shows no other days than
+// that one, the two before it and the two after it. If no entry is on any of these five, the minutes of the day are passed over.
+// This asks nothing of the zone: it may change its clock whenever it likes.
 fn first_due(entries: &[Entry], zone: &Zone, after: u64, until: u64) -> Option<u64>
+    requires { until ≤ MAX_WALL }
+    ensures { IsFirstDue (minute_at zone.now) entries.now after until result }
+{
+    let last = until / DAY;
+    let mut next = 0;
+    for day in after / DAY..last + 1 {
+        if next <= day + 2 {
+            next = next_day_on(entries, day.saturating_sub(2), last + 3);
+        }
+        if 2 <= day && day + 2 < next {
+            continue;
+        }
+        let found = first_due_on(entries, zone, day, after, until);
+        if found.is_some() {
+            return found;
+        }
+    }
+    None
+}
+
+// The first day, from the one on, that some entry is on. If there is none before the end, and before the last day that a reading may come
+// to, then the day up to which no entry is on any.
+fn next_day_on(entries: &[Entry], from: u64, end: u64) -> u64
+    ensures { AreIdle entries.now from result }
+{
+    let Ok(utc) = Zone::fixed(0) else {
+        unreachable!()
+    };
+    let end = end.min(MAX_WALL / DAY);
+    for day in from..end {
+        if is_any_on_day(entries, &utc.civil_minute(day * DAY)) {
+            return day;
+        }
+    }
+    end
+}
+
+// The least such minute of the day.
+fn first_due_on(entries: &[Entry], zone: &Zone, day: u64, after: u64, until: u64) -> Option<u64>
+    requires until { until ≤ MAX_WALL }
+    requires day { day ≤ until / DAY }
+    ensures { IsFirstDueOn (minute_at zone.now) entries.now day after until result }
+{
+    let before = (day * DAY).saturating_sub(1);
+    first_minute(
+        entries,
+        zone,
+        after.max(before),
+        until.min(day * DAY + (DAY - 1)),
+    )
+}
+
+// The least such minute of all. The minutes are counted from 1970, and each is looked at in turn.
+fn first_minute(entries: &[Entry], zone: &Zone, after: u64, until: u64) -> Option<u64>
     requires { until ≤ MAX_WALL }
     ensures { IsFirstDue (minute_at zone.now) entries.now after until result }
 {

@@ -176,7 +176,6 @@ fn start_at<R: Processes>(
     match shell_of(alloc, SCRIPT, input, output) {
         Ok(command) => {
             let mut command = command;
-            command.env_clear();
             let child = command.spawn(rt);
             drop(command);
             child.ok()
@@ -207,6 +206,7 @@ fn run_shell<R: Processes>(rt: &R, alloc: Global, pid: u32) -> io::Result<bool> 
     }
 }
 
+// It gets nothing of the launcher's environment, where a function could stand for `kill`.
 fn shell_of(
     alloc: Global,
     script: &str,
@@ -214,6 +214,7 @@ fn shell_of(
     output: Stdio,
 ) -> Result<Command, AllocError> {
     let mut command = Command::new(alloc, "/bin/sh")?;
+    command.env_clear();
     command.stdin(input);
     command.stdout(output);
     command.stderr(Stdio::null());

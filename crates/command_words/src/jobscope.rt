@@ -29,24 +29,32 @@ fn command_in(
     zone: ZoneWords,
 ) -> Result<ScopeCommand, AllocError> {
     let words = words_in(alloc, task, found);
+    let from = match task {
+        Task::Check => number_of(found, "now"),
+        _ => number_of(found, "from"),
+    };
     let journal = value_of(alloc, found, "journal");
-    match (words, journal) {
-        (Ok(words), Ok(journal)) => Ok(ScopeCommand {
+    let into = value_of(alloc, found, "into");
+    match (words, journal, into) {
+        (Ok(words), Ok(journal), Ok(into)) => Ok(ScopeCommand {
             task,
             is_strict: is_set(found, "strict"),
             follows: is_set(found, "follow"),
             is_page: is_set(found, "html"),
+            has_user: is_set(found, "system"),
             is_utc: is_set(found, "utc"),
             count: number_of(found, "count"),
-            from: number_of(found, "from"),
+            from,
             since: number_of(found, "since"),
             zone,
             journal,
+            into,
             words,
         }),
-        (words, journal) => {
+        (words, journal, into) => {
             drop(words);
             drop(journal);
+            drop(into);
             drop(zone);
             Err(AllocError)
         }
@@ -55,7 +63,7 @@ fn command_in(
 
 fn words_in(alloc: Global, task: Task, found: &ArgMatches<'_>) -> Result<Paths, AllocError> {
     let id = match task {
-        Task::Check | Task::Next => "paths",
+        Task::Check | Task::Next | Task::Plist => "paths",
         Task::Cron => "lines",
         Task::Why | Task::Log | Task::Runs | Task::Picture => "labels",
     };

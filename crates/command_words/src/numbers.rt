@@ -10,6 +10,7 @@ const SECOND: &str = "a second of Unix time up to 250000000000";
 const NUMBERS: &[(&str, &str, u64, &str)] = &[
     ("count", "-n", 10_000, "a number up to 10000"),
     ("from", "--from", MAX_WALL, SECOND),
+    ("now", "--now", MAX_WALL, SECOND),
     ("since", "--since", MAX_WALL, SECOND),
 ];
 

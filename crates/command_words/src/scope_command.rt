@@ -20,6 +20,8 @@ pub enum Task {
     Picture,
     /// Write a definition for each line of a crontab. The one line `-` stands for those of standard input.
     Cron,
+    /// Write property lists in XML as definitions in JSON.
+    Plist,
 }
 
 /// The names of the subcommands, in the order of the help.
@@ -31,6 +33,7 @@ pub(crate) const TASKS: &[(&str, Task)] = &[
     ("runs", Task::Runs),
     ("picture", Task::Picture),
     ("cron", Task::Cron),
+    ("plist", Task::Plist),
 ];
 
 /// A subcommand's words. What the subcommand does not take is absent.
@@ -43,11 +46,13 @@ pub struct ScopeCommand {
     pub follows: bool,
     /// The picture is a page that stands alone.
     pub is_page: bool,
-    /// Times are shown in UTC, and not in the journal's zone.
+    /// The lines of a crontab have a user's field.
+    pub has_user: bool,
+    /// Times are shown in UTC, and not in the journal's zone; of definitions, if no zone is named: in UTC, and not in the machine's.
     pub is_utc: bool,
     /// How many starts are shown.
     pub count: Option<u64>,
-    /// The second of Unix time after which starts are shown.
+    /// The second of Unix time after which starts are shown, or from which on the clock is looked at.
     pub from: Option<u64>,
     /// The second of Unix time from which on events are told.
     pub since: Option<u64>,
@@ -55,6 +60,8 @@ pub struct ScopeCommand {
     pub zone: ZoneWords,
     /// The journal's path.
     pub journal: Option<Text>,
+    /// The folder in which each definition becomes a file.
+    pub into: Option<Text>,
     /// The paths of definitions, the labels of the jobs that are shown (of none, all are), or the lines of a crontab.
     pub words: Paths,
 }

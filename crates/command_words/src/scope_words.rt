@@ -10,7 +10,10 @@ const NEXT_EXIT: &str =
     "Exit status: 0 done; 1 no memory; 64 these words are no command; 65 a file can't be read, or is no definition, or the zone is none.";
 
 const CRON_EXIT: &str =
-    "Exit status: 0 each line has its definition; 1 one is refused, or no memory; 64 these words are no command; 65 standard input can't be read.";
+    "Exit status: 0 each line has its definition; 1 one is refused, or no memory; 64 these words are no command; 65 standard input can't be read, or a file can't be written.";
+
+const PLIST_EXIT: &str =
+    "Exit status: 0 each list is written; 1 one is refused, or no memory; 64 these words are no command; 65 a file can't be read or written.";
 
 const JOURNAL_EXIT: &str =
     "Exit status: 0 done; 1 no memory; 64 these words are no command; 65 the journal can't be read, or is none.";
@@ -19,7 +22,7 @@ const ZONE: Argument = Argument {
     id: "zone",
     form: Form::Value { required: false },
     value: "TEXT",
-    help: "The zone of calendar entries as a POSIX rule; UTC0 where absent",
+    help: "The zone of calendar entries as a POSIX rule; where absent, that of /etc/localtime",
 };
 
 const ZONE_FILE: Argument = Argument {
@@ -33,7 +36,7 @@ const PATHS: Argument = Argument {
     id: "paths",
     form: Form::Words,
     value: "PATH",
-    help: "A definition, or a folder of definitions (*.plist, *.json)",
+    help: "A definition, or a folder of definitions (*.plist, *.json); - for the definition on standard input",
 };
 
 const JOURNAL: Argument = Argument {
@@ -57,6 +60,13 @@ const UTC: Argument = Argument {
     help: "Show times in UTC, and not in the journal's zone",
 };
 
+const ZONE_UTC: Argument = Argument {
+    id: "utc",
+    form: Form::Switch,
+    value: "",
+    help: "Take UTC, and not the zone of /etc/localtime",
+};
+
 const CHECK: &[Argument] = &[
     Argument {
         id: "strict",
@@ -64,8 +74,15 @@ const CHECK: &[Argument] = &[
         value: "",
         help: "Fail at a warning too",
     },
+    Argument {
+        id: "now",
+        form: Form::Value { required: false },
+        value: "SECOND",
+        help: "Look at the twelve months from this second of Unix time on; from now on where absent",
+    },
     ZONE,
     ZONE_FILE,
+    ZONE_UTC,
     PATHS,
 ];
 
@@ -84,6 +101,7 @@ const NEXT: &[Argument] = &[
     },
     ZONE,
     ZONE_FILE,
+    ZONE_UTC,
     PATHS,
 ];
 
@@ -121,12 +139,38 @@ const PICTURE: &[Argument] = &[
     },
 ];
 
-const CRON: &[Argument] = &[Argument {
-    id: "lines",
-    form: Form::Words,
-    value: "LINE",
-    help: "A line as in crontab(5), as one word, with no field for a user; - for the lines of standard input",
-}];
+const INTO: Argument = Argument {
+    id: "into",
+    form: Form::Value { required: false },
+    value: "FOLDER",
+    help: "Write a file for each definition in this folder, never over one; to standard output where absent",
+};
+
+const CRON: &[Argument] = &[
+    Argument {
+        id: "system",
+        form: Form::Switch,
+        value: "",
+        help: "The lines have a user's field before the command, as /etc/crontab and /etc/cron.d",
+    },
+    INTO,
+    Argument {
+        id: "lines",
+        form: Form::Words,
+        value: "LINE",
+        help: "A line as in crontab(5), as one word; - for the lines of standard input",
+    },
+];
+
+const PLIST: &[Argument] = &[
+    INTO,
+    Argument {
+        id: "paths",
+        form: Form::Words,
+        value: "FILE",
+        help: "A property list in XML",
+    },
+];
 
 // In the order of the help.
 const SUBCOMMANDS: &[Subcommand] = &[
@@ -171,6 +215,12 @@ const SUBCOMMANDS: &[Subcommand] = &[
         about: "Write a definition for each line of a crontab",
         after: CRON_EXIT,
         arguments: CRON,
+    },
+    Subcommand {
+        name: "plist",
+        about: "Write property lists in XML as definitions in JSON",
+        after: PLIST_EXIT,
+        arguments: PLIST,
     },
 ];
 

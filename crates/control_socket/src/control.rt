@@ -1,6 +1,6 @@
 //! The control socket with its clients.
 
-ghost use Rattle.std.specs.Prelude.{◌≡◌};
+ghost use Rattle.std.specs.Prelude.{◌≡◌, max, min};
 ghost use Rattle.control_socket.specs.Serving.{Serves};
 ghost use Rattle.control_socket.specs.Clients.{MovesOn, StaysOrGoes};
 
@@ -20,7 +20,7 @@ use std::io::{Error, ErrorKind, Read, Write};
 use std::net::Net;
 use std::{io, mem};
 
-/// As many clients are served at a time.
+/// As many clients are served at a time, if no lower number is set.
 pub const CLIENTS: usize = 64;
 
 /// As many bytes are read at once.
@@ -41,6 +41,8 @@ pub struct ControlSocket {
     lock: LockFile,
     token: Token,
     clients: Slab<Client>,
+    // As many are served at a time.
+    most: usize,
     room: Vec<u8>,
     notices: Notices,
     // A descriptor that is kept for an accept which finds none free. None, as long as the system gives none.
@@ -65,6 +67,7 @@ impl Drop for ControlSocket {
             lock: _,
             token: _,
             clients: _,
+            most: _,
             room: _,
             notices: _,
             spare: _,
@@ -125,6 +128,7 @@ impl ControlSocket {
             lock,
             token: Token(0),
             clients,
+            most: CLIENTS,
             room,
             notices: Notices::new(),
             spare: spare_descriptor(rt),
@@ -139,6 +143,14 @@ impl ControlSocket {
     pub fn register(&mut self, registry: &Registry, token: Token) -> io::Result<()> {
         self.token = token;
         registry.register(&mut self.listener, token, Interest::READABLE)
+    }
+
+    /// From now on as many clients are served at a time, one at least and [`CLIENTS`] at most. None is let go by this.
+    pub fn set_room(&mut self, clients: usize)
+        ensures most { self.new.most ≡ min 64 (max 1 clients) }
+        ensures clients { self.new.clients ≡ self.old.clients }
+    {
+        self.most = clients.max(1).min(CLIENTS);
     }
 
     /// Which file the socket is.
@@ -236,8 +248,8 @@ impl ControlSocket {
         }
     }
 
-    /// Takes the clients that wait, after a `serve`, which lets go of the clients that are done. Where [`CLIENTS`] are there
-    /// already, the one is let go that has been silent for longest: the last `serve` found nothing new of it, no whole line to
+    /// Takes the clients that wait, after a `serve`, which lets go of the clients that are done. Where as many are there already as
+    /// may be ([`set_room`](ControlSocket::set_room)), the one is let go that has been silent for longest: the last `serve` found nothing new of it, no whole line to
     /// answer and nothing to send. If none is silent, one that has taken nothing of its reply for longest, and for a second at
     /// least. If there is none of these too, the new client waits until a `serve` has looked at every client; if that one was
     /// the last, it gets the reply `too many clients` of code 2, and is closed.
@@ -351,7 +363,7 @@ impl ControlSocket {
     }
 
     fn place(&self) -> Place {
-        if self.clients.len() < CLIENTS {
+        if self.clients.len() < self.most {
             return Place::Free;
         }
         if let Some(key) = self.longest(Still::Silent) {

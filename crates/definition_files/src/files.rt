@@ -9,6 +9,7 @@ use files_and_process::path_files::{Found, Kind, read_file};
 use run_times::telling::{tell_error, tell_of};
 use std::alloc::{AllocError, Global};
 use std::io;
+use std::io::Read;
 
 /// As of when definitions are looked at, and how.
 #[derive(Clone, Copy)]
@@ -17,6 +18,8 @@ pub struct Asked<'a> {
     pub longest: usize,
     /// The zone of the entries of calendars.
     pub zone: &'a Zone,
+    /// The line that names the zone, where something is told in it; empty, if it need not be named.
+    pub zone_line: &'a str,
     /// The second of Unix time from which on the clock is looked at.
     pub from: u64,
 }
@@ -43,7 +46,7 @@ pub trait DefinitionSource {
             ((string_bytes file.now.path, contents) ∷ []) (Self.told self.new)) };
 }
 
-/// The files of the system. They don't tell what was read of them.
+/// The files of the system; `-` is standard input. They don't tell what was read of them.
 #[derive(Clone, Copy)]
 pub struct HostFiles<'a> {
     pub host: &'a HostRuntime,
@@ -62,7 +65,22 @@ impl DefinitionSource for HostFiles<'_> {
     }
 }
 
-/// What the file comes to.
+//// The path that stands for standard input.
+const INPUT: &str = "-";
+
+// The bytes of standard input; none if they are more than `longest`.
+fn read_input(host: &HostRuntime, alloc: Global, longest: usize) -> io::Result<Option<Vec<u8>>> {
+    let mut bytes = Vec::new(alloc);
+    let most = (longest as u64).saturating_add(1);
+    let _count = host.stdin().take(most).read_to_end(&mut bytes)?;
+    Ok(if bytes.len() <= longest {
+        Some(bytes)
+    } else {
+        None
+    })
+}
+
+// What the file comes to.
 fn contents_of(
     host: &HostRuntime,
     alloc: Global,
@@ -80,6 +98,7 @@ fn contents_of(
             return Ok(Contents::Nothing);
         }
         Kind::Unlisted(kind) => Err(io::Error::from(kind)),
+        Kind::File if path == INPUT => read_input(host, alloc, longest),
         Kind::File => read_file(host, alloc, path, longest),
     };
     match read {

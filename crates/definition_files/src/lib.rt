@@ -5,6 +5,8 @@ pub mod check;
 mod coming;
 pub mod cron;
 mod files;
+mod folder;
+pub mod lists;
 mod starts;
 mod verdict;
 

@@ -39,7 +39,7 @@ pub fn coming_starts<S: DefinitionSource>(
 {
     let mut jobs = Vec::new(alloc);
     let added = add_jobs(host, alloc, source, files, of, &mut jobs);
-    let text = starts_text(alloc, count, of.from, of.zone, &mut jobs);
+    let text = starts_text(alloc, count, of, &mut jobs);
     drop(jobs);
     match (added, text) {
         (Ok(verdicts), Ok(text)) => Ok(Outcome {
@@ -152,15 +152,15 @@ fn never_words(def: &Def) -> &'static str {
 fn starts_text(
     alloc: Global,
     count: u64,
-    from: u64,
-    zone: &Zone,
+    of: &Asked<'_>,
     jobs: &mut Vec<Job>,
 ) -> Result<String, AllocError> {
     let mut ink = Ink::new(alloc);
+    ink.put(of.zone_line);
     for _ in 0..count {
         let index = soonest(jobs.as_slice());
         match jobs.get_mut(index) {
-            Some(job) => add_start(alloc, from, zone, job, &mut ink),
+            Some(job) => add_start(alloc, of.from, of.zone, job, &mut ink),
             None => break,
         }
     }
@@ -195,7 +195,7 @@ fn add_start(alloc: Global, from: u64, zone: &Zone, job: &mut Job, ink: &mut Ink
     let second = second_of(job);
     ink.put_moment(alloc, zone, second);
     ink.put("  ");
-    ink.put(job.def.label());
+    ink.put_plain(job.def.label());
     ink.put("  in ");
     ink.put_span(second.saturating_sub(from).saturating_mul(1000), false);
     if job.by_interval == Some(second) {

@@ -41,6 +41,8 @@ pub struct Caller {
     pub origin: Origin,
     pub client: Client,
     pub exchange: Exchange,
+    // The `up` at which it came.
+    pub came: u64,
     // The `up` at which bytes came last, or the client itself.
     pub heard_at: u64,
     // Something may be there to be read.

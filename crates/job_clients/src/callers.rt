@@ -2,12 +2,13 @@
 
 use crate::caller::{Caller, Origin};
 use crate::losses::Loss;
-use crate::silence::{CallerRoom, Heard, Place, place_for};
+use crate::places::{CallerRoom, Heard, Place, jobs_among, place_for, share_of};
 use child_edge::Client;
 use mio::{Registry, Token};
 use slab::Slab;
 use socket_demand::Exchange;
 use std::alloc::{AllocError, Global};
+use std::mem;
 
 /// As many clients are heard at a time, if no lower number is set.
 pub const CALLERS: usize = 256;
@@ -24,6 +25,11 @@ pub struct Callers {
     held: Slab<Caller>,
     // Those of `held`, when a further one comes.
     heard: Vec<Heard>,
+    // The binds of those that had no place in this pass and in the last one, though their job had fewer than its share.
+    waits: Vec<u64>,
+    waited: Vec<u64>,
+    // The binds of all of them, to count the jobs.
+    binds: Vec<u64>,
     room: CallerRoom,
 }
 
@@ -33,6 +39,7 @@ fn room_of(in_all: usize) -> CallerRoom {
     CallerRoom {
         of_a_job: (in_all / 3).max(1).min(CALLERS_OF_A_JOB),
         in_all,
+        share: in_all,
     }
 }
 
@@ -40,10 +47,16 @@ impl Callers {
     pub fn new(alloc: Global) -> Result<Callers, AllocError> {
         let held = Slab::with_capacity(alloc, CALLERS)?;
         let heard = Vec::with_capacity(alloc, CALLERS)?;
+        let waits = Vec::with_capacity(alloc, CALLERS)?;
+        let waited = Vec::with_capacity(alloc, CALLERS)?;
+        let binds = Vec::with_capacity(alloc, 2 * CALLERS)?;
         Ok(Callers {
             alloc,
             held,
             heard,
+            waits,
+            waited,
+            binds,
             room: room_of(CALLERS),
         })
     }
@@ -75,6 +88,21 @@ impl Callers {
         }
     }
 
+    /// A pass over all sockets begins: those that had no place in the last one are those that wait. The share of a job is reckoned anew
+    /// from the jobs whose clients are heard or wait.
+    pub fn begin_pass(&mut self) {
+        mem::swap(&mut self.waits, &mut self.waited);
+        self.waits.clear();
+        self.binds.clear();
+        for (_, caller) in self.held.iter() {
+            let _listed = self.binds.push(caller.origin.bind);
+        }
+        for bind in self.waited.iter() {
+            let _listed = self.binds.push(*bind);
+        }
+        self.room.share = share_of(self.room.in_all, jobs_among(&self.binds));
+    }
+
     /// Where a client can be that comes at this `up`, by this bind.
     pub fn place(&mut self, bind: u64, up: u64) -> Place {
         self.heard.clear();
@@ -82,10 +110,14 @@ impl Callers {
             let _listed = self.heard.push(Heard {
                 key,
                 bind: caller.origin.bind,
-                at: caller.heard_at,
+                came: caller.came,
             });
         }
-        place_for(&self.heard, bind, self.room, up)
+        let place = place_for(&self.heard, &self.waited, bind, self.room, up);
+        if matches!(place, Place::Next) && self.waits.len() < CALLERS {
+            let _noted = self.waits.push(bind);
+        }
+        place
     }
 
     /// Whether one that came by this bind was not read yet.
@@ -113,6 +145,7 @@ impl Callers {
             origin,
             client,
             exchange,
+            came: up,
             heard_at: up,
             is_ready: true,
             is_new: true,

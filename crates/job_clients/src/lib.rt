@@ -5,9 +5,9 @@
 mod caller;
 mod callers;
 mod losses;
-mod silence;
+mod places;
 
 pub use caller::{Caller, Gathered, Origin};
 pub use callers::{CALLERS, Callers};
 pub use losses::{Loss, Losses};
-pub use silence::{CallerRoom, Heard, Place, place_for};
+pub use places::{CallerRoom, Heard, Place, jobs_among, place_for, share_of};

@@ -15,7 +15,7 @@ pub enum Loss {
     TooLong,
     /// Nothing came for a minute.
     Silent,
-    /// Nothing came for 5 seconds, and there was no room for another client.
+    /// It came first, 5 seconds ago or more, and there was no room for another client.
     Displaced,
     /// There is no room for it.
     Crowded,
@@ -54,7 +54,7 @@ impl Loss {
             ),
             Loss::System(error) => return format!(in alloc; "{error}"),
             Loss::Silent => "it sent nothing for a minute",
-            Loss::Displaced => "it sent nothing for 5 seconds, and another one came",
+            Loss::Displaced => "its request took 5 seconds, and another one came",
             Loss::Crowded => "too many clients send at a time",
             Loss::NoMemory => "no memory",
             Loss::QueueFull => "too many connections wait",

@@ -1,1 +1,2 @@
 pub mod NewsLemmas
+pub mod KillWaitsLemmas

@@ -1,6 +1,5 @@
 -- What the rounds of a live loop do to a launcher.
-use Rattle.std.specs.Prelude.{◌≡◌, ◌≢◌, ◌⊎◌, ◌≤◌, ℕ, Bool, true, false, ◌||◌, List, [], ◌∷◌, length, Option, Some, None, is_some, Result, Ok, Err}
-use Rattle.std.specs.Result.{result_unwrap_or}
+use Rattle.std.specs.Prelude.{◌≡◌, ◌≢◌, ◌⊎◌, ◌-◌, ◌≤◌, ℕ, Bool, true, false, ◌||◌, List, [], ◌∷◌, length, Option, Some, None, is_some, Result, Ok, Err}
 use Rattle.history_model.specs.declared.Ended.{Ended}
 use Rattle.history_model.specs.declared.Obs.{Obs}
 use Rattle.history_model.specs.declared.Reading.{Reading}
@@ -21,14 +20,16 @@ use Rattle.outside.specs.Stores.{Stamp, StoreCall}
 use Rattle.launcher.specs.declared.host.Host.{Host}
 use Rattle.launcher.specs.Hosts.{HostHears, HostStamps}
 use Rattle.launcher.specs.Inputs.{Incoming, asked_by, event_if_label, happened}
+use Rattle.launcher.specs.LoadTurns.{is_memory}
 use Rattle.launcher.specs.Journals.{reported}
 use Rattle.launcher.specs.Accepting.{is_accepted_load}
 use Rattle.launcher.specs.Writable.{WritesWhat}
-use Rattle.live_loop.specs.Looks.{PathCall, HasLoaded, AsksAt, Awaits, LookedAt, Sighted}
+use Rattle.live_loop.specs.Looks.{PathCall, BeginsLooks, HasLoaded, AsksAt, Awaits, LookedAt, Sighted}
 use Rattle.live_loop.specs.declared.loop_host.HandedIn.{HandedIn}
 use Rattle.live_loop.specs.declared.loop_host.HandedIn.TheVariants as handed
 use Rattle.history_model.specs.News.{may_change}
 use Rattle.history_model.specs.LeftOut.{last_read}
+use Rattle.jobd.specs.KillWaits.{IsHanded, with_sleep}
 use Rattle.jobd.specs.declared.round_launcher.RoundLauncher.{RoundLauncher}
 
 -- the launcher, once its outside was asked something between turns
@@ -55,6 +56,14 @@ abbrev pub ListsNext : {T E W : Type 0} → RoundLauncher T E W → List ℕ →
 ListsNext round text next =
     (s : State) → KeepsState round.host.table s → IsNearestOf text (listed_paths s.jobs) next
 
+-- What the clocks show, by this answer of one that stands still in sleeps and this much sleep so far: the answer with the sleep that is handed in; or, if
+-- they can't be read, what they showed before.
+abbrev pub Shows : {T E W : Type 0} → Result Reading EdgeFault → ℕ → RoundLauncher T E W → ℕ → Reading → Type 0
+Shows (Ok awake) slept old handed shown =
+    IsHanded (with_sleep old.slept awake).up old.host.table old.slept (slept - old.before) handed
+    × (shown ≡ with_sleep handed awake)
+Shows (Err fault) slept old handed shown = (handed ≡ old.slept) × (shown ≡ old.at)
+
 module _ {T E W : Type 0} (calls : E → Option (List ToldCall)) (stores : T → Option (List StoreCall))
     (holds : T → List Setting → Type 0) (stamped : T → List Stamp → Type 0) where
   -- the launcher heard it, and answered so: all that a turn promises
@@ -71,6 +80,7 @@ module _ {T E W : Type 0} (calls : E → Option (List ToldCall)) (stores : T →
     pub words : List ℕ
     pub heard : Heard (Some (happened (journaled.Clock old.at))) refusal words old.host new.host
     pub at : new.at ≡ old.at
+    pub sleep : (new.before ≡ old.before) × (new.slept ≡ old.slept)
     pub loaded : new.has_loaded ≡ old.has_loaded
     pub refused : new.is_refused ≡ is_some refusal
 
@@ -86,6 +96,7 @@ module _ {T E W : Type 0} (calls : E → Option (List ToldCall)) (stores : T →
     pub reading : Reads old mid
     pub heard : Heard event refusal words mid.host new.host
     pub at : new.at ≡ mid.at
+    pub sleep : (new.before ≡ mid.before) × (new.slept ≡ mid.slept)
     pub loaded : new.has_loaded ≡ mid.has_loaded
     pub refused : new.is_refused ≡ mid.is_refused
 
@@ -102,13 +113,17 @@ module _ {T E W : Type 0} (calls : E → Option (List ToldCall)) (stores : T →
   ReadsIf true old new = Reads old new
   ReadsIf false old new = new ≡ old
 
-  -- The clocks are read once. The round is at this reading, if a launcher may hear it after the one that it has; else, and if the clocks can't be
-  -- read, it is at the reading of the one before.
+  -- The clocks are read once. The round is at what they show, if a launcher may hear it after the reading that it has; else it is at the reading of
+  -- the one before.
   pub record ReadsClock (old new : RoundLauncher T E W) : Type 0 where
     pub answer : Result Reading EdgeFault
+    pub slept : ℕ
     pub edge : E
     pub told : TellsOne (calls old.host.edge) (Clock, read_answer answer) (calls edge)
-    pub read : new ≡ record (lent edge old) { at = last_read old.at (Tick (result_unwrap_or answer old.at)) }
+    pub handed : ℕ
+    pub shown : Reading
+    pub shows : Shows answer slept old handed shown
+    pub read : new ≡ record (lent edge old) { at = last_read old.at (Tick shown); slept = handed }
 
   -- a reading is handed in by itself exactly if it may change something
   abbrev pub HeardIf : Bool → RoundLauncher T E W → RoundLauncher T E W → Type 0
@@ -159,19 +174,21 @@ module _ {T E W : Type 0} (calls : E → Option (List ToldCall)) (stores : T →
 
   -- ---- paths
 
-  -- What the looks at paths ask, and what they hand in: that path with that sight. A look of the edge is a look at that path.
+  -- What the looks at paths ask, and what they hand in: that path with that sight, for which no memory is wanted. A look of the edge is a
+  -- look at that path.
   abbrev pub DoesPath : (List ℕ → Result Obs EdgeFault → E → E → Type 0) → PathCall →
       RoundLauncher T E W → RoundLauncher T E W → Type 0
-  DoesPath Looks (HasLoaded loaded) old new = (edge : E)
-      × (loaded ≡ old.has_loaded) × (new ≡ record (lent edge old) { has_loaded = false })
+  DoesPath Looks BeginsLooks old new = (edge : E) × (new ≡ lent edge old)
+  DoesPath Looks (HasLoaded loaded) old new =
+      (loaded ≡ old.has_loaded) × (new ≡ record old { has_loaded = false })
   DoesPath Looks (AsksAt path answer) old new = (edge : E) × (new ≡ lent edge old)
   DoesPath Looks (Awaits path answer) old new = (edge : E) × (new ≡ lent edge old)
   DoesPath Looks (LookedAt path seen) old new = (answer : Result Obs EdgeFault) × (edge : E)
       × TellsOne (calls old.host.edge) (Look, look_answer answer) (calls edge)
       × Looks path answer old.host.edge edge
       × (seen ≡ seen_by answer) × (new ≡ lent edge old)
-  DoesPath Looks (Sighted path obs) old new =
-      (refusal : Option Refusal) × Tells (Some (happened (journaled.Saw path obs))) refusal old new
+  DoesPath Looks (Sighted path obs) old new = (refusal : Option Refusal)
+      × (is_memory refusal ≢ true) × Tells (Some (happened (journaled.Saw path obs))) refusal old new
 
   -- ---- clients
 

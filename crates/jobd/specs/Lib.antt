@@ -1,2 +1,3 @@
 pub mod Launches
 pub mod Found
+pub mod KillWaits

@@ -3,21 +3,24 @@
 //! the turns by `RoundLauncher`.
 #![tactic(auto)]
 
+mod kill_waits;
 mod news;
 mod round_edge;
 mod round_launcher;
 mod serving;
+mod sleep;
 mod words;
 
 use child_edge::OsEdge;
 use exit_status::NO_MEMORY;
+pub use kill_waits::is_kill_awaited;
 use launchctl_words::{DaemonCommand, WordFault, read_daemon_words};
 pub use launcher::{Host, HostFault, Input};
 pub use live_loop::{ServeFault, round, serve};
 pub use news::is_news;
 use replay::replay_input;
 pub use replay::{ReplayFault, replay, replay_within};
-pub use round_edge::RoundEdge;
+pub use round_edge::{RoundEdge, SleepEdge};
 pub use round_launcher::RoundLauncher;
 use startup::{Places, list_store};
 use std::alloc::Global;

@@ -3,13 +3,28 @@
 
 ghost use Rattle.std.specs.Prelude.{◌≡◌, ◌≤◌, ℕ, Option, Some};
 
+use crate::sleep::slept;
 use child_edge::{ChildEdge, Client, ClockEdge, Notice, OsEdge, PathEdge, SocketEdge, System};
 use history_model::JobNo;
 use live_loop::{Caller, Origin};
 use mio::{Registry, Token};
 
+/// An edge whose `up` stands still while the machine sleeps, and that tells how long it slept.
+pub trait SleepEdge: ClockEdge {
+    /// Milliseconds that the machine slept since a moment that stays the same. It is no call of the edge.
+    fn slept(&mut self) -> u64
+        ensures told { Self.told self.new ≡ Self.told self.old }
+        ensures success { Self.failures self.new ≡ Self.failures self.old };
+}
+
+impl<R: System> SleepEdge for OsEdge<R> {
+    fn slept(&mut self) -> u64 {
+        slept()
+    }
+}
+
 /// An edge as rounds ask it. Each call is that of `OsEdge`.
-pub trait RoundEdge: ChildEdge + ClockEdge + PathEdge + SocketEdge {
+pub trait RoundEdge: ChildEdge + SleepEdge + PathEdge + SocketEdge {
     /// To the question whose child is over, from this job on, this answer may lead from the one to the other: a job, and its run.
     ghost Finds: { ℕ → Option (ℕ × ℕ) → Self → Self → Type 0 };
 

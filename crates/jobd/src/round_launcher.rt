@@ -1,11 +1,13 @@
 //! What a round of the live loop finds, handed to the launcher one by one.
 
-ghost use Rattle.std.specs.Prelude.{◌≡◌, false};
-ghost use Rattle.launcher.specs.Inputs.{input_event};
+ghost use Rattle.std.specs.Prelude.{◌≡◌, true, false};
+ghost use Rattle.launcher.specs.Inputs.{input_event, wants_memory};
+ghost use Rattle.launcher.specs.LoadTurns.{is_memory};
 
+use crate::kill_waits::{counted, counting};
 use crate::news::{is_news, later_of};
-use crate::round_edge::RoundEdge;
-use child_edge::{ChildEdge, Client, ClockEdge, Notice, PathEdge, SocketEdge};
+use crate::round_edge::{RoundEdge, SleepEdge};
+use child_edge::{ChildEdge, Client, EdgeFault, Notice, PathEdge, SocketEdge};
 use control_socket::Answers;
 use history_model::{JobNo, Obs, Reading, Refusal, Reply};
 use launcher::{Host, Input};
@@ -16,11 +18,15 @@ use std::alloc::Global;
 use std::io::Write;
 
 /// A launcher at the reading of the present round. That reading is handed to it before any other input of the round, and
-/// else only if it may change something.
+/// else only if it may change something. Its `up` counts the time in which the machine slept too: each sleep from the first reading on at
+/// which no job waits for its KILL, so that none loses the time that it has to end.
 #[derive(Drop)]
 pub struct RoundLauncher<T: SettingStore, E: ChildEdge + SocketEdge, W: Write> {
     pub host: Host<T, E, W>,
     at: Reading,
+    // What the edge told of sleeps at the beginning; and how many milliseconds of sleep behind that the readings count.
+    before: u64,
+    slept: u64,
     // The launcher had no memory for the last reading that was handed in.
     is_refused: bool,
     // Something happened in this round that is an input.
@@ -30,18 +36,21 @@ pub struct RoundLauncher<T: SettingStore, E: ChildEdge + SocketEdge, W: Write> {
 }
 
 impl<T: SettingStore, E: ChildEdge + SocketEdge, W: Write> RoundLauncher<T, E, W> {
-    ghost use Rattle.jobd.specs.Launches.{Heard, HeardReading, Reads, ReadsIf, ReadsClock, HandsNews, Gives, Tells, Begins, PollsRun};
+    ghost use Rattle.jobd.specs.Launches.{Heard, HeardReading, Reads, ReadsIf, ReadsClock, HandsNews, Shows, Gives, Tells, Begins, PollsRun};
 
-    /// The launcher at its own last reading.
-    pub fn new(host: Host<T, E, W>) -> RoundLauncher<T, E, W>
+    /// The launcher at its own last reading, from which on sleeps count; `before` is what its edge told of sleeps then.
+    pub fn new(host: Host<T, E, W>, before: u64) -> RoundLauncher<T, E, W>
         ensures host { result.host ≡ host }
         ensures at { result.at ≡ host.table.reading }
+        ensures sleep { (result.before ≡ before) × (result.slept ≡ 0) }
         ensures heard { (result.is_refused ≡ false) × (result.has_loaded ≡ false) }
     {
         let at = host.table().reading();
         RoundLauncher {
             host,
             at,
+            before,
+            slept: 0,
             is_refused: false,
             is_active: false,
             has_loaded: false,
@@ -53,7 +62,7 @@ impl<T: SettingStore, E: ChildEdge + SocketEdge, W: Write> RoundLauncher<T, E, W
     /// no memory is handed in first.
     pub fn begin(&mut self, alloc: Global)
     where
-        E: ClockEdge,
+        E: SleepEdge,
         ensures { Begins E.told T.told T.holds T.stamped self.old self.new }
     {
         self.is_active = false;
@@ -74,11 +83,28 @@ impl<T: SettingStore, E: ChildEdge + SocketEdge, W: Write> RoundLauncher<T, E, W
     // Takes a reading, if a launcher may hear it after the one that it has.
     fn read(&mut self)
     where
-        E: ClockEdge,
+        E: SleepEdge,
         ensures { ReadsClock E.told T.told T.holds T.stamped self.old self.new }
     {
-        let at = self.host.edge().read().unwrap_or(self.at);
-        self.at = later_of(self.at, at);
+        let slept = self.host.edge().slept();
+        let answer = self.host.edge().read();
+        let shown = self.shown(answer, slept);
+        self.at = later_of(self.at, shown);
+    }
+
+    // What a clock shows that counts sleeps, by the answer of one that stands still in them; or what it showed before. Further sleeps are counted
+    // if no job waits for its KILL.
+    fn shown(&mut self, answer: Result<Reading, EdgeFault>, slept: u64) -> Reading
+        ensures shows { Shows answer slept self.old self.new.slept result }
+        ensures same { self.new ≡ record self.old { slept = self.new.slept } }
+    {
+        let Ok(awake) = answer else {
+            return self.at;
+        };
+        let slept = slept.saturating_sub(self.before);
+        let up = counting(awake, self.slept).up;
+        self.slept = counted(self.host.table(), up, self.slept, slept);
+        counting(awake, self.slept)
     }
 
     // Hands in the reading of the round, if it may change something.
@@ -114,8 +140,10 @@ impl<T: SettingStore, E: ChildEdge + SocketEdge, W: Write> RoundLauncher<T, E, W
     fn turn(&mut self, alloc: Global, input: Input<'_>) -> Reply
         ensures heard { Heard E.told T.told T.holds T.stamped (input_event input.entry) result.refusal result.text self.old.host self.new.host }
         ensures at { self.new.at ≡ self.old.at }
+        ensures sleep { (self.new.before ≡ self.old.before) × (self.new.slept ≡ self.old.slept) }
         ensures loaded { self.new.has_loaded ≡ self.old.has_loaded }
         ensures refused { self.new.is_refused ≡ self.old.is_refused }
+        ensures memory { is_memory result.refusal ≡ true → wants_memory input.entry ≡ true }
     {
         self.host.turn(alloc, input)
     }
@@ -123,7 +151,8 @@ impl<T: SettingStore, E: ChildEdge + SocketEdge, W: Write> RoundLauncher<T, E, W
     /// Hands in what happened, after the reading of the round. A refused wait is told each round, so it is no reason to wait
     /// less.
     pub fn give(&mut self, alloc: Global, input: Input<'_>) -> Reply
-        ensures { Gives E.told T.told T.holds T.stamped (input_event input.entry) result.refusal result.text self.old self.new }
+        ensures memory { is_memory result.refusal ≡ true → wants_memory input.entry ≡ true }
+        ensures gives { Gives E.told T.told T.holds T.stamped (input_event input.entry) result.refusal result.text self.old self.new }
     {
         let is_active = self.is_active || !matches!(input, Input::WaitRefused(_, _));
         self.hand_in_time(alloc);
@@ -133,7 +162,8 @@ impl<T: SettingStore, E: ChildEdge + SocketEdge, W: Write> RoundLauncher<T, E, W
 
     // Hands in what happened, and gives why it was refused.
     fn tell(&mut self, alloc: Global, input: Input<'_>) -> Option<Refusal>
-        ensures { Tells E.told T.told T.holds T.stamped (input_event input.entry) result self.old self.new }
+        ensures memory { is_memory result ≡ true → wants_memory input.entry ≡ true }
+        ensures tells { Tells E.told T.told T.holds T.stamped (input_event input.entry) result self.old self.new }
     {
         let reply = self.give(alloc, input);
         let refusal = reply.refusal;
@@ -186,8 +216,11 @@ impl<T: SettingStore, E: ChildEdge + SocketEdge + PathEdge, W: Write> PathHost
         self.at.up
     }
 
-    fn take_loaded(&mut self) -> bool {
+    fn begin_looks(&mut self) {
         self.host.edge().begin_looks();
+    }
+
+    fn take_loaded(&mut self) -> bool {
         let has_loaded = self.has_loaded;
         self.has_loaded = false;
         has_loaded
@@ -233,7 +266,7 @@ impl<T: SettingStore, E: RoundEdge, W: Write> LoopHost for RoundLauncher<T, E, W
 
     fn up_now(&mut self) -> u64 {
         match self.host.edge().read() {
-            Ok(now) => now.up,
+            Ok(awake) => counting(awake, self.slept).up,
             Err(_) => self.at.up,
         }
     }

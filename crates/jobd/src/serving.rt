@@ -82,7 +82,7 @@ fn serve_over<L: Wait, R: System + Print, E: RoundEdge + Drop>(
             return status;
         }
     };
-    let journal = match journal_at(rt, plan) {
+    let journal = match journal_at(rt, alloc, plan) {
         Ok(journal) => journal,
         Err(status) => {
             drop(zone);
@@ -102,8 +102,7 @@ fn serve_over<L: Wait, R: System + Print, E: RoundEdge + Drop>(
         control,
         journal,
     };
-    let path = plan.places.store.as_str();
-    match with_store(host, alloc, plan.wishes.level, path, serving) {
+    match with_store(host, alloc, plan, serving) {
         Ok(status) => status,
         Err((status, serving)) => serving.refused(status),
     }
@@ -183,6 +182,8 @@ impl<L: Wait, R: System + Print, E: RoundEdge + Drop> Serving<'_, L, R, E> {
             control,
             journal,
         } = self;
+        let mut edge = edge;
+        let slept = edge.slept();
         let header = Header {
             reading,
             zone,
@@ -191,7 +192,7 @@ impl<L: Wait, R: System + Print, E: RoundEdge + Drop> Serving<'_, L, R, E> {
         let status = match writer_of(rt, alloc, plan, &header, journal) {
             Ok(journal) => match Host::new(alloc, header, store, edge, journal) {
                 Ok(launcher) => {
-                    let launcher = RoundLauncher::new(launcher);
+                    let launcher = RoundLauncher::new(launcher, slept);
                     return serve_with(rt, waits, alloc, plan, launcher, control);
                 }
                 Err(fault) => report_host(rt, plan, fault),

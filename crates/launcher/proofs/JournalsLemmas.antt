@@ -1,5 +1,5 @@
 -- How a journal grows by one line after another.
-use Rattle.std.proofs.Common.{◌≡◌, ℕ, false, List, [], ◌++◌, Option, Some, None, refl, sym, ap, subst, ◌∙◌, append_assoc}
+use Rattle.std.proofs.Common.{◌≡◌, ℕ, false, List, [], ◌++◌, Option, Some, None, refl, sym, ap, subst, ◌∙◌, append_assoc, append-nil}
 use Rattle.std.specs.Io.KnownBytes.{Appends}
 use Rattle.std.specs.Prelude.{is_some}
 use Rattle.std.proofs.KnownBytes.{Appends-nil, Appends-trans}
@@ -81,6 +81,10 @@ grows_append a b c s t first second = record {
   grew = both_in a.phase b.phase c.phase a b c s t first.grew second.grew;
   cause = both_causes a.phase b.phase c.phase a b c s t first.has_writer first.grew second.grew first.cause second.cause;
 }
+
+-- what is handed on adds nothing
+pub grows_flushed : (a b c : JournalState) (s : List ℕ) → Grows a b s → Grows b c [] → Grows a c s
+grows_flushed a b c s first second = subst (Grows a c) (append-nil s) (grows_append a b c s [] first second)
 
 -- ---- a journal by its parts
 

@@ -59,7 +59,7 @@ impl<W: Write> Journal<W> {
     }
 
     /// A journal that begins with the header's line.
-    pub fn begin(alloc: Global, writer: W, header: &Header) -> Journal<W>
+    fn headed(alloc: Global, writer: W, header: &Header) -> Journal<W>
         ensures { Grows (fresh (W.contents writer) true) result (headers.header_line header.now) }
     {
         let mut journal = Journal {
@@ -70,6 +70,16 @@ impl<W: Write> Journal<W> {
             Ok(line) => journal.append(line.as_slice()),
             Err(want) => journal.close(want),
         }
+        journal
+    }
+
+    /// A journal that begins with the header's line. The writer hands it on at once: a launcher that is killed before its first event
+    /// leaves a journal that can be replayed.
+    pub fn begin(alloc: Global, writer: W, header: &Header) -> Journal<W>
+        ensures { Grows (fresh (W.contents writer) true) result (headers.header_line header.now) }
+    {
+        let mut journal = Journal::headed(alloc, writer, header);
+        journal.flush();
         journal
     }
 

@@ -4,7 +4,8 @@ use Rattle.history_model.specs.declared.Obs.{Obs}
 
 -- what is asked of a launcher, and handed in to it, of the paths that its jobs list
 pub data PathCall : Type 0 where
-  HasLoaded : Bool → PathCall  -- a round of looks begins; whether a load was accepted since the one before
+  BeginsLooks : PathCall  -- a round of looks begins
+  HasLoaded : Bool → PathCall  -- whether a load was accepted since that was asked before
   AsksAt : List ℕ → Bool → PathCall  -- it was asked what is at the path; false: that is to be asked later
   Awaits : List ℕ → Bool → PathCall  -- it was asked whether it is known what is at the path
   LookedAt : List ℕ → Option Obs → PathCall  -- what is at the path; None if the system refused to look
@@ -13,6 +14,10 @@ pub data PathCall : Type 0 where
 -- what was handed in last of each path, as far as it is remembered
 abbrev pub Known : Type 0
 Known = List ℕ → Option Obs
+
+-- no sight was handed in yet
+abbrev pub IsEmpty : Known → Type 0
+IsEmpty known = (path : List ℕ) → known path ≡ None
 
 -- the same is known of each path
 abbrev pub IsKept : Known → Known → Type 0
@@ -76,11 +81,18 @@ module _ {H : Type 0} (IsNext : H → List ℕ → Option (List ℕ) → Type 0)
     pub walk : Walks old known from looks last new known'
     pub rest : (to ≡ Some last) ⊎ ((to ≡ None) × IsLast IsNext new last)
 
-  -- A round of looks that goes on does so behind its last path; else one begins before all paths, after the question for loads.
-  abbrev pub Begins : Option (List ℕ) → H → Known → List ℕ → H → Known → Type 0
-  Begins (Some path) old known from first begun = (from ≡ path) × (first ≡ old) × IsKept known begun
-  Begins None old known from first begun = (from ≡ [])
-      × ((loaded : Bool) × Did (HasLoaded loaded) old first × IsKept (known_after loaded known) begun)
+  -- A round of looks that goes on does so behind its last path; else one begins before all paths.
+  abbrev pub Starts : Option (List ℕ) → H → List ℕ → H → Type 0
+  Starts (Some path) old from started = (from ≡ path) × (started ≡ old)
+  Starts None old from started = (from ≡ []) × Did BeginsLooks old started
+
+  -- Either way it is then asked whether a load was accepted meanwhile: after one each sight is handed in again.
+  pub record Begins (at : Option (List ℕ)) (old : H) (known : Known) (from : List ℕ) (first : H) (begun : Known) : Type 0 where
+    pub started : H
+    pub starts : Starts at old from started
+    pub loaded : Bool
+    pub asks : Did (HasLoaded loaded) started first
+    pub forgets : IsKept (known_after loaded known) begun
 
   -- A round of looks begins or goes on: paths are asked about, and then looked at.
   pub record LooksOn (at : Option (List ℕ)) (old : H) (known : Known) (at' : Option (List ℕ)) (new : H) (known' : Known) : Type 0 where

@@ -81,6 +81,7 @@ impl JobSockets {
         if !self.may_have_come {
             return;
         }
+        self.begin_pass();
         // A round that does not begin with the first job is followed by one that does.
         self.may_have_come = self.first_job > 0;
         let mut next = self.first_job;
@@ -98,15 +99,33 @@ impl JobSockets {
         }
     }
 
+    // A pass over all sockets begins with the first job.
+    fn begin_pass(&mut self)
+        ensures { self.new.conn ≡ self.old.conn }
+    {
+        if self.first_job == 0 {
+            self.callers.begin_pass();
+        }
+    }
+
+    // Whether a client with this place is left for a later round: there is none yet, or one of the job's came that was not read.
+    fn is_put_off(&self, place: Place, bind: u64) -> bool {
+        match place {
+            Place::Free => false,
+            Place::Next | Place::Later => true,
+            Place::Of(_) | Place::Nowhere => self.callers.has_new(bind),
+        }
+    }
+
     // Takes the clients of one job. If they are many, or there is no room for all before the first are read, the others are left
-    // for the next round. It says whether one came.
+    // for the next round; so are those that have to wait for a place, which the system holds. It says whether one came, or may wait.
     fn accept_for<H: LoopHost>(&mut self, registry: &Registry, host: &mut H, origin: Origin) -> bool
         ensures asks { Asks H.Asked host.old host.new }
         ensures conn { self.new.conn ≡ self.old.conn }
     {
         for count in 0..TAKEN {
             let place = self.callers.place(origin.bind, host.up());
-            if !matches!(place, Place::Free) && self.callers.has_new(origin.bind) {
+            if self.is_put_off(place, origin.bind) {
                 break;
             }
             let Some(client) = host.accept(origin.job) else {
@@ -136,7 +155,7 @@ impl JobSockets {
                 self.let_go(host, key, Some(Loss::Displaced));
                 self.take_in(registry, host, origin, client);
             }
-            Place::Nowhere => {
+            Place::Nowhere | Place::Next | Place::Later => {
                 drop(client);
                 self.tell(host, origin, Loss::Crowded);
             }

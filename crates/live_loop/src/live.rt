@@ -1,6 +1,9 @@
 //! The launcher with what its live loop waits on.
 
-ghost use Rattle.std.specs.Prelude.{◌≡◌};
+ghost use Rattle.std.specs.Prelude.{◌≡◌, IfOk};
+ghost use Rattle.live_loop.specs.Kept.{left_in};
+ghost use Rattle.live_loop.specs.Looks.{IsEmpty};
+ghost use Rattle.live_loop.specs.Sightings.{known_in};
 
 use crate::fault::ServeFault;
 use crate::job_sockets::JobSockets;
@@ -54,7 +57,9 @@ pub(crate) struct Rooms {
     pub(crate) voice: Voice,
 }
 
-fn make_rooms<R: System>(rt: &R, alloc: Global) -> Result<Rooms, AllocError> {
+fn make_rooms<R: System>(rt: &R, alloc: Global) -> Result<Rooms, AllocError>
+    ensures { IfOk result (λ rooms. IsEmpty (known_in rooms.sights)) }
+{
     let label = LabelRoom::new(alloc)?;
     let events = match Events::with_capacity(alloc, EVENTS) {
         Ok(events) => events,
@@ -85,7 +90,9 @@ fn make_rooms<R: System>(rt: &R, alloc: Global) -> Result<Rooms, AllocError> {
     }
 }
 
-fn senses(alloc: Global) -> Result<(Sights, JobSockets), AllocError> {
+fn senses(alloc: Global) -> Result<(Sights, JobSockets), AllocError>
+    ensures { IfOk result (λ both. IsEmpty (known_in both.0)) }
+{
     let sights = Sights::new(alloc)?;
     match JobSockets::new(alloc) {
         Ok(sockets) => Ok((sights, sockets)),
@@ -109,7 +116,7 @@ fn poll_with<R: System>(rt: &R, control: &mut ControlSocket) -> Result<Poll, Ser
 }
 
 impl<H: LoopHost + Drop> Live<H> {
-    /// A launcher that waits for its first round. NoMemory, or Poll, if the system refuses the poll or the control socket's
+    /// The launcher, which waits for its first round; no sight was handed in to it yet. NoMemory, or Poll, if the system refuses the poll or the control socket's
     /// registration. After an `Err` what was handed in is dropped: the control socket's lock is let go, and its file and the
     /// lock's are left. Who has the socket's mark can remove its file by that.
     pub fn new<R: System>(
@@ -117,7 +124,9 @@ impl<H: LoopHost + Drop> Live<H> {
         alloc: Global,
         host: H,
         control: ControlSocket,
-    ) -> Result<Live<H>, ServeFault> {
+    ) -> Result<Live<H>, ServeFault>
+        ensures { IfOk result (λ live. ((left_in live).host ≡ host) × IsEmpty (left_in live).known) }
+    {
         let mut control = control;
         // The poll first: no room is made if the system refuses it.
         let poll = match poll_with(rt, &mut control) {
@@ -181,8 +190,11 @@ impl<H> Live<H> {
     }
 
     /// From now on as many clients of jobs' sockets are heard at a time, at most 256 (which is the number if this was never
-    /// called), and a third of them, at most 64, of one job. Takes no memory.
-    pub fn set_room(&mut self, callers: usize) {
-        self.rooms.sockets.callers.set_room(callers);
+    /// called), and a third of them, at most 64, of one job. While clients of a job with fewer wait for a place, the others have no more
+    /// than their share: as many as each job would have if all had as many. As many clients of the control socket are served, at most
+    /// 64. Takes no memory.
+    pub fn set_room(&mut self, clients: usize) {
+        self.rooms.sockets.callers.set_room(clients);
+        self.control.set_room(clients);
     }
 }

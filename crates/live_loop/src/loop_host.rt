@@ -3,7 +3,7 @@
 
 ghost use Rattle.std.specs.Prelude.{◌≡◌, ◌≤◌, ℕ, List, Option, Some};
 ghost use Rattle.std.specs.Option.{option_map};
-ghost use Rattle.live_loop.specs.Looks.{PathCall, HasLoaded, AsksAt, Awaits, LookedAt, Sighted};
+ghost use Rattle.live_loop.specs.Looks.{PathCall, BeginsLooks, HasLoaded, AsksAt, Awaits, LookedAt, Sighted};
 
 use crate::label_room::LabelRoom;
 use child_edge::{Client, Notice};
@@ -28,7 +28,11 @@ pub trait PathHost {
     fn up(&self) -> u64
         ensures { result ≡ Self.round_up self.now };
 
-    /// Begins a round of looks, and says whether a load was accepted since the one before.
+    /// Begins a round of looks.
+    fn begin_looks(&mut self)
+        ensures { Self.Did BeginsLooks self.old self.new };
+
+    /// Whether a load was accepted since this was asked before.
     fn take_loaded(&mut self) -> bool
         ensures { Self.Did (HasLoaded result) self.old self.new };
 

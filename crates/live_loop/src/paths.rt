@@ -1,9 +1,9 @@
 //! The paths that jobs list, each looked at once a second. Nobody waits for what is there: paths are asked about, and looked at once that is
 //! known, in this round of the loop or in later ones.
 
-ghost use Rattle.std.specs.Prelude.{◌≡◌, ◌≤◌, ◌<◌, ◌+◌, ◌-◌, ◌^◌, min, ℕ, IsTrue, true, false, [], None, Some, MatchOption, Option, List};
+ghost use Rattle.std.specs.Prelude.{◌≡◌, ◌≤◌, ◌<◌, ◌+◌, ◌-◌, ◌^◌, min, ℕ, IsTrue, true, false, [], None, Some, MatchOption, IfOk, Option, List};
 ghost use Rattle.std.specs.String.{string_capacity};
-ghost use Rattle.live_loop.specs.Looks.{Looks, LooksOn, WalksOn, Begins, Questions, IsLast, IsNoted, IsKept, known_after};
+ghost use Rattle.live_loop.specs.Looks.{Looks, LooksOn, WalksOn, Starts, Begins, Questions, IsEmpty, IsLast, IsNoted, IsKept, known_after};
 
 use crate::loop_host::PathHost;
 use history_model::{Obs, SECOND};
@@ -46,7 +46,10 @@ pub struct Sights {
 impl Sights {
     ghost use Rattle.live_loop.specs.Sightings.{known_in, path_in, room_in, walk_in, next_in, later_in, later_after, IsNextLook, IsStill};
 
-    pub fn new(alloc: Global) -> Result<Sights, AllocError> {
+    /// Nothing was handed in yet.
+    pub fn new(alloc: Global) -> Result<Sights, AllocError>
+        ensures { IfOk result (λ sights. IsEmpty (known_in sights)) }
+    {
         let path = String::with_capacity(alloc, LONGEST_PATH)?;
         let asked = String::with_capacity(alloc, LONGEST_PATH)?;
         let room = String::with_capacity(alloc, LONGEST_PATH)?;
@@ -97,30 +100,41 @@ impl Sights {
         begins
     }
 
-    // Begins a round of looks, if none goes on.
+    // Begins a round of looks, if none goes on. A load that was accepted while one went on is heeded too.
     fn start<H: PathHost>(&mut self, host: &mut H, up: u64)
         ensures begins { Begins H.IsNext H.Did (walk_in self.old) host.old (known_in self.old)
             (path_in self.new) host.new (known_in self.new) }
+        ensures later { later_in self.new ≡ later_after (walk_in self.old) up (later_in self.old) }
+    {
+        self.begin(host, up);
+        let has_loaded = host.take_loaded();
+        self.forget_if(has_loaded);
+    }
+
+    // A round of looks begins before all paths.
+    fn begin<H: PathHost>(&mut self, host: &mut H, up: u64)
+        ensures starts { Starts H.IsNext H.Did (walk_in self.old) host.old (path_in self.new) host.new }
+        ensures seen { self.new.seen ≡ self.old.seen }
         ensures later { later_in self.new ≡ later_after (walk_in self.old) up (later_in self.old) }
     {
         if self.is_walking {
             return;
         }
         self.later = up.saturating_add(BETWEEN);
-        self.begin(host.take_loaded());
+        self.path.clear();
+        self.asked.clear();
+        host.begin_looks();
     }
 
-    // After a load each sight is handed in again. The round of looks begins before all paths.
-    fn begin(&mut self, has_loaded: bool)
+    // After a load each sight is handed in again.
+    fn forget_if(&mut self, has_loaded: bool)
         ensures known { IsKept (known_after has_loaded (known_in self.old)) (known_in self.new) }
-        ensures path { path_in self.new ≡ [] }
+        ensures path { path_in self.new ≡ path_in self.old }
         ensures later { later_in self.new ≡ later_in self.old }
     {
         if has_loaded {
             self.seen.clear();
         }
-        self.path.clear();
-        self.asked.clear();
     }
 
     // Asks what is at the paths behind the one that was asked about last, as far as they may be asked about.

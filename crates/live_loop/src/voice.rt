@@ -1,9 +1,13 @@
 //! Standard error: a line at a time, and only while it takes lines without a wait. To a terminal, or another device, a line goes in pieces of
 //! 256 bytes: a terminal that says that it takes something takes as many.
 
+ghost use Rattle.std.specs.Prelude.{◌≡◌, ◌++◌, ◌∷◌, [], IfOk, string_bytes, chars, codes};
+ghost use Rattle.plain_text.specs.Plain.{plain_text};
+
 use child_edge::{Notice, NoticeKind};
 use mio::unix::SourceFd;
 use mio::{Events, Interest, Poll, Token};
+use plain_text::add_plain;
 use std::alloc::{AllocError, Global};
 use std::fs;
 use std::fs::Files;
@@ -112,15 +116,17 @@ impl Voice {
             NoticeKind::Refusal => "<4>",
             NoticeKind::Run => "<6>",
         };
-        if !self.is_device {
-            let _written = eprintln!(rt; "{level}jobd: {}", notice.text.as_str());
-            return true;
-        }
         // Without memory the line is not told.
-        if let Ok(line) = format!(in self.alloc; "{level}jobd: {}\n", notice.text.as_str()) {
-            self.rest = line;
-            self.from = 0;
+        self.from = 0;
+        match line_of(self.alloc, level, notice.text.as_str()) {
+            Ok(line) => self.rest = line,
+            Err(_) => return true,
+        }
+        if self.is_device {
             let _is_done = self.go_on(rt);
+        } else {
+            let _written = eprint!(rt; "{}", self.rest.as_str());
+            self.rest.clear();
         }
         true
     }
@@ -150,6 +156,24 @@ impl Voice {
             None => true,
             Some(watch) => watch.is_taking(),
         }
+    }
+}
+
+// The line that tells the text, which may be of others: level, name of the program, and the text as `plain_text` has it.
+fn line_of(alloc: Global, level: &str, text: &str) -> Result<String, AllocError>
+    ensures { IfOk result (λ line. string_bytes line
+        ≡ level.now ++ (codes "jobd: " ++ (plain_text (chars text.now) ++ 10 ∷ []))) }
+{
+    let mut line = String::new(alloc);
+    let is_begun = line.push_str(level).is_ok();
+    let is_named = line.push_str("jobd: ").is_ok();
+    let is_told = add_plain(&mut line, text).is_ok();
+    let is_ended = line.push('\n').is_ok();
+    if is_begun && is_named && is_told && is_ended {
+        Ok(line)
+    } else {
+        drop(line);
+        Err(AllocError)
     }
 }
 

@@ -60,7 +60,7 @@ module _ (hears : Described → Option Item) (reached : ℕ → Described → Bo
         (visits : VisitsTouched hears old.reading old.reading is_passed old.seats.items after old.orders.items new.orders.items new.index.timers new.visited new.gone)
         (seats : new.seats ≡ with_items old.seats after) (places : new.index.places ≡ old.index.places) (numbers : new.numbers ≡ old.numbers) (triggers : new.triggers ≡ old.triggers)
         (calendars : new.has_calendars ≡ old.has_calendars) (alike : IsAlike old new)
-        (empty : (place : ℕ) → has_place new.index.ready place ≡ false) (marks : place_room new.index.ready ≡ place_room old.index.ready)
+        (empty : (place : ℕ) → has_place new.index.marked place ≡ false) (marks : place_room new.index.marked ≡ place_room old.index.marked)
         (space : room new.index.timers ≡ room old.index.timers) (capacity : vec_capacity new.orders ≡ vec_capacity old.orders)
       where
         back : new.seats.items ≡ after

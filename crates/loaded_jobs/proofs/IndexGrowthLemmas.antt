@@ -42,7 +42,7 @@ indexed-of index up es is timed placed = record {
 
 -- ---- growth
 
-pub grown-index : (old new : Index) (up : ℕ) (es : List Seat) → KeepsMoments old.timers new.timers → KeepsPlaces old.ready new.ready → new.places ≡ old.places → IsIndexOf old up es → IsIndexOf new up es
+pub grown-index : (old new : Index) (up : ℕ) (es : List Seat) → KeepsMoments old.timers new.timers → KeepsPlaces old.marked new.marked → new.places ≡ old.places → IsIndexOf old up es → IsIndexOf new up es
 grown-index old new up es timers ready places is = record {
   timed = λ k e at. timers.moments e.number ∙ is.timed k e at;
   alone = λ number moment there. is.alone number moment (sym (timers.moments number) ∙ there);
@@ -218,7 +218,7 @@ placed-length new es zero = ap suc (length-map es name)
 placed-length new [] (suc k) = refl
 placed-length new (e ∷ es) (suc k) = ap suc (placed-length new es k)
 
-pub index-placed : (index : Index) (new : Seat) (es : List Seat) (k : ℕ) → new.number < room index.timers → new.number < length index.places.items → length es + 1 ≤ place_room index.ready →
+pub index-placed : (index : Index) (new : Seat) (es : List Seat) (k : ℕ) → new.number < room index.timers → new.number < length index.places.items → length es + 1 ≤ place_room index.marked →
     IsNamed index (map name es) → IsNamed index (map name (take k es ++ new ∷ drop k es))
 index-placed index new es k timed placed marks is = record {
   alone = λ number moment there. more-names new es k number (is.alone number moment there);
@@ -230,7 +230,7 @@ index-placed index new es k timed placed marks is = record {
 
 -- the index of which the places alone were made anew
 pub replaced : (old new : Index) (up : ℕ) (es : List Seat) → IsNamed old (map name es) → AreTimed old.timers up es → ArePlaced new.places.items es →
-    new.timers ≡ old.timers → new.ready ≡ old.ready → IsIndexOf new up es
+    new.timers ≡ old.timers → new.marked ≡ old.marked → IsIndexOf new up es
 replaced old new up es is timed placed timers ready = record {
   timed = λ k e at. ap (λ t. moment_in t e.number) timers ∙ timed k e at;
   alone = λ number moment there. is.alone number moment (sym (ap (λ t. moment_in t number) timers) ∙ there);

@@ -179,7 +179,7 @@ pub record IsTidied (old new : Jobs) : Type 0 where
   pub empty : new.orders.items ≡ []
   pub room : vec_capacity new.orders ≡ vec_capacity old.orders
   pub timers : new.index.timers ≡ old.index.timers
-  pub ready : new.index.ready ≡ old.index.ready
+  pub ready : new.index.marked ≡ old.index.marked
   pub placed : ArePlaced new.index.places.items new.seats.items
   pub calendars : new.has_calendars ≡ some_calendar (map name new.seats.items)
   pub listed : AreListed new.triggers.items (map name (filter seat_stays old.seats.items))

@@ -51,8 +51,8 @@ pub record IsNamed (index : Index) (names : List Name) : Type 0 where
   pub space : HaveRoom index.timers names
   pub fits : (number : ℕ) → is_some (definition_of_number names number) ≡ true →
       number < length index.places.items
-  pub empty : (place : ℕ) → has_place index.ready place ≡ false
-  pub marks : length names ≤ place_room index.ready
+  pub empty : (place : ℕ) → has_place index.marked place ≡ false
+  pub marks : length names ≤ place_room index.marked
 
 -- the index is that of these seats, at this moment, and has no mark
 pub record IsIndexOf (index : Index) (up : ℕ) (es : List Seat) : Type 0 where
@@ -60,8 +60,8 @@ pub record IsIndexOf (index : Index) (up : ℕ) (es : List Seat) : Type 0 where
   pub alone : AreAlone index.timers (map name es)
   pub space : HaveRoom index.timers (map name es)
   pub placed : ArePlaced index.places.items es
-  pub empty : (place : ℕ) → has_place index.ready place ≡ false
-  pub marks : length es ≤ place_room index.ready
+  pub empty : (place : ℕ) → has_place index.marked place ≡ false
+  pub marks : length es ≤ place_room index.marked
 
 -- the index beside the seats, as each event finds and leaves it
 abbrev pub IsIndexed : Jobs → Type 0

@@ -61,7 +61,7 @@ pub fn grow(
     ensures indexed { (up : ℕ) →
         IsIndexOf index.old up seats.now → IsIndexOf index.new up seats.now }
     ensures moments { OnOk result (number < room index.new.timers) }
-    ensures marks { OnOk result (length seats.now + 1 ≤ place_room index.new.ready) }
+    ensures marks { OnOk result (length seats.now + 1 ≤ place_room index.new.marked) }
     ensures numbered { OnOk result (number < length index.new.places.items) }
 {
     let Some(above) = number.checked_add(1) else {
@@ -70,7 +70,7 @@ pub fn grow(
     let Ok(()) = index.timers.reserve(alloc, above) else {
         return Err(AllocError);
     };
-    let Ok(()) = index.ready.reserve(seats.len() as u32 + 1) else {
+    let Ok(()) = index.marked.reserve(seats.len() as u32 + 1) else {
         return Err(AllocError);
     };
     if index.places.len() > number as usize {

@@ -80,7 +80,7 @@ pub struct Index {
     /// The next moment of each job, by its number.
     pub timers: TimerHeap,
     /// The places that the present event marked; empty between events.
-    pub ready: PlaceSet,
+    pub marked: PlaceSet,
     /// The place of each job, by its number.
     pub places: Vec<u32>,
 }
@@ -177,11 +177,11 @@ impl Jobs {
             touch,
             &self.triggers,
             &self.index.places,
-            &mut self.index.ready,
+            &mut self.index.marked,
         );
         let (visited, gone) = visit_ready(
             &mut self.seats,
-            &mut self.index.ready,
+            &mut self.index.marked,
             &mut self.index.timers,
             touch,
             self.reading,

@@ -163,7 +163,7 @@ impl Jobs {
         ensures numbers { OnOk result (HasRoomFor self.new.numbers 1) }
         ensures setting { OnOk result (vec_len self.new.settings < vec_capacity self.new.settings) }
         ensures moments { OnOk result (self.new.numbers.vacant_key < room self.new.index.timers) }
-        ensures marks { OnOk result (vec_len self.new.seats + 1 ≤ place_room self.new.index.ready) }
+        ensures marks { OnOk result (vec_len self.new.seats + 1 ≤ place_room self.new.index.marked) }
         ensures numbered { OnOk result (self.new.numbers.vacant_key
             < length self.new.index.places.items) }
         ensures triggers { OnOk result (vec_len self.new.triggers + triggers

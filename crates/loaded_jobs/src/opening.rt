@@ -54,7 +54,7 @@ impl Jobs {
             visited: 0,
             index: Index {
                 timers: heap(alloc),
-                ready: PlaceSet::new(alloc),
+                marked: PlaceSet::new(alloc),
                 places: Vec::new(alloc),
             },
             gone: Gone::Nobody,

@@ -46,18 +46,18 @@ impl Jobs {
         mark_due(
             &mut self.index.timers,
             &self.index.places,
-            &mut self.index.ready,
+            &mut self.index.marked,
             at.up,
         );
         mark_minutes(
             &self.triggers,
             minutes,
             &self.index.places,
-            &mut self.index.ready,
+            &mut self.index.marked,
         );
         let (visited, gone) = visit_ready(
             &mut self.seats,
-            &mut self.index.ready,
+            &mut self.index.marked,
             &mut self.index.timers,
             Touch::Reading(at, minutes),
             self.reading,

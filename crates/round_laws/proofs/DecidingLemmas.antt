@@ -1,5 +1,5 @@
 -- Rounds of a new launcher decide as one that hears all.
-use Rattle.std.proofs.Common.{◌≡◌, ℕ, true, false, List, Option, sym, ap, subst, ◌∙◌, arith}
+use Rattle.std.proofs.Common.{◌≡◌, ℕ, true, false, List, Option, Some, None, sym, ap, subst, ◌∙◌, arith}
 use Rattle.std.specs.Prelude.{nat_le}
 use Rattle.std.proofs.lemmas.Bool.Decides.{nat_tests}
 use Rattle.history_model.specs.declared.TheConstants.{MAX_UP, MAX_WALL}
@@ -13,6 +13,7 @@ use Rattle.ctl_protocol.specs.declared.header.Header.{Header}
 use Rattle.outside.specs.Stores.{Stamp, StoreCall}
 use Rattle.launcher.specs.Journals.{JournalState}
 use Rattle.launcher.specs.Hosts.{IsNew, stands}
+use Rattle.live_loop.specs.Looks.{IsEmpty}
 use Rattle.live_loop.specs.Rounds.{AreRounds, Left}
 use Rattle.jobd.specs.declared.round_launcher.RoundLauncher.{RoundLauncher}
 use Rattle.round_laws.specs.Marks.{snapshot}
@@ -31,10 +32,10 @@ in-range at up wall = not-refused at at (grind (arith, nat_tests)) (grind (arith
 module _ {T E W : Type 0} (calls : E → Option (List ToldCall)) (stores : T → Option (List StoreCall))
     (holds : T → List Setting → Type 0) (stamped : T → List Stamp → Type 0) (Finds : ℕ → Option (ℕ × ℕ) → E → E → Type 0) (Looks : List ℕ → Result Obs EdgeFault → E → E → Type 0) where
   pub decides : (header : Header) (told : Option (List ToldCall)) (stored : Option (List StoreCall)) (journal : JournalState) (before : T) (first last : Left (RoundLauncher T E W)) →
-      (new : IsNew header told stored journal (stands calls stores first.host.host) (holds before) (holds first.host.host.store)) → first.host.at ≡ first.host.host.table.reading →
+      (new : IsNew header told stored journal (stands calls stores first.host.host) (holds before) (holds first.host.host.store)) → first.host.at ≡ first.host.host.table.reading → IsEmpty first.known →
       (rounds : AreRounds (launcher calls stores holds stamped Finds Looks) first last) → HeardReadings (marks_of calls stores holds stamped Finds Looks rounds) →
       Decides new.machine (marks_of calls stores holds stamped Finds Looks rounds)
-  decides header told stored journal before first last new at rounds had =
+  decides header told stored journal before first last new at empty rounds had =
       let s = new.machine in
       let marks = marks_of calls stores holds stamped Finds Looks rounds in
       let is : s.reading ≡ header.reading = ap (λ (t : State). t.reading) new.opens.state in
@@ -44,6 +45,6 @@ module _ {T E W : Type 0} (calls : E → Option (List ToldCall)) (stores : T →
       record {
         parts = spans.parts;
         are_parts = spans.are_parts;
-        decide = λ seen. decided s (new-good holds header told stored journal before (snapshot calls stores first.host.host) new) marks spans.parts spans.are_parts
-            (spans.all ∙ ap (λ es. outcomes es s) (lines-heard marks spans.parts spans.are_parts)) (spans.may seen);
+        decide = decided s (new-good holds header told stored journal before (snapshot calls stores first.host.host) new) marks spans.parts spans.are_parts
+            (spans.all ∙ ap (λ es. outcomes es s) (lines-heard marks spans.parts spans.are_parts)) (spans.may (spans.had (λ none path obs there. let clash : None ≡ Some obs = sym (empty path) ∙ there in cc)));
       }

@@ -1,6 +1,6 @@
 -- What a round spares its launcher may be left out, and what it hands in comes in time.
 use Rattle.std.proofs.Common.{◌≡◌, inr, ◌≤◌, Bool, true, false, ◌||◌, List, [], ◌∷◌, ◌++◌, map, Option, Some, None, refl, sym, ap, subst, ◌∙◌, nat_lt, append_assoc, arith}
-use Rattle.std.specs.Prelude.{Ok, Err, if◌then◌else◌}
+use Rattle.std.specs.Prelude.{Ok, Err, if◌then◌else◌, ⊤}
 use Rattle.std.specs.List.{AllByRecursion}
 use Rattle.std.proofs.lemmas.Bool.Decides.{nat_tests}
 use Rattle.history_model.specs.declared.Reading.{Reading}
@@ -11,12 +11,12 @@ use Rattle.history_model.specs.Refusals.{is_clock_refused}
 use Rattle.history_model.specs.Machine.{State, Event, Unreadable, Load, UnloadJob, Set, ListJobs, PrintJob, ShutDown, Tick, Sight, OfJob}
 use Rattle.history_model.specs.Acceptance.{refused_if, refusal_in}
 use Rattle.history_model.specs.Step.{taken, step_by, step, run, outcome, outcomes}
-use Rattle.history_model.specs.LeftOut.{Line, HandedIn, LeftOut, all_of, handed_in, last_read, last_read_in, IsInTime, MayBeLeftOut}
+use Rattle.history_model.specs.LeftOut.{Line, HandedIn, LeftOut, HaveSeen, all_of, handed_in, last_read, last_read_in, IsInTime, MayBeLeftOut}
 use Rattle.job_table.specs.Taking.{machine_event}
 use Rattle.launcher_laws.specs.TurnRuns.{Part, AreParts}
 use Rattle.history_model.proofs.BooleanLemmas.{or-false}
 use Rattle.round_laws.specs.Marks.{Mark, Turned, Spared, turns_in}
-use Rattle.round_laws.specs.Hearing.{lines_of, HeardReadings, HadSeen}
+use Rattle.round_laws.specs.Hearing.{lines_of, HeardReadings}
 
 -- ---- lists of lines in two parts
 
@@ -46,6 +46,13 @@ may-both last s [] ys first second = second
 may-both last s (HandedIn e ∷ xs) ys first second = (first.0, may-both (last_read last e) (step s e) xs ys first.1 second)
 may-both last s (LeftOut e ∷ xs) ys first second = (first.0, may-both (last_read last e) s xs ys first.1 second)
 
+-- of each sight that the launcher was spared, each job which lists the path saw it so last
+abbrev pub HadSeen : State → List Line → Type 0
+HadSeen s [] = ⊤
+HadSeen s (HandedIn e ∷ lines) = HadSeen (step s e) lines
+HadSeen s (LeftOut (Sight path obs) ∷ lines) = HaveSeen path obs s.jobs × HadSeen s lines
+HadSeen s (LeftOut e ∷ lines) = HadSeen s lines
+
 -- the sights of both
 seen-left : (s : State) (e : Event) (xs ys : List Line) → (HadSeen s (xs ++ ys) → HadSeen s xs × HadSeen (run (handed_in xs) s) ys) →
     HadSeen s (LeftOut e ∷ (xs ++ ys)) → HadSeen s (LeftOut e ∷ xs) × HadSeen (run (handed_in xs) s) ys
@@ -64,6 +71,28 @@ pub seen-both : (s : State) (xs ys : List Line) → HadSeen s (xs ++ ys) → Had
 seen-both s [] ys seen = (tt, seen)
 seen-both s (HandedIn e ∷ xs) ys seen = seen-both (step s e) xs ys seen
 seen-both s (LeftOut e ∷ xs) ys seen = seen-left s e xs ys (seen-both s xs ys) seen
+
+join-left : (s : State) (e : Event) (xs ys : List Line) → (HadSeen s xs → HadSeen s (xs ++ ys)) → HadSeen s (LeftOut e ∷ xs) → HadSeen s (LeftOut e ∷ (xs ++ ys))
+join-left s (Sight path obs) xs ys more seen = (seen.0, more seen.1)
+join-left s Unreadable xs ys more seen = more seen
+join-left s (Load given w f b st) xs ys more seen = more seen
+join-left s (UnloadJob label w st) xs ys more seen = more seen
+join-left s (Set label d st) xs ys more seen = more seen
+join-left s ListJobs xs ys more seen = more seen
+join-left s (PrintJob label) xs ys more seen = more seen
+join-left s ShutDown xs ys more seen = more seen
+join-left s (Tick at) xs ys more seen = more seen
+join-left s (OfJob label item) xs ys more seen = more seen
+
+pub seen-join : (s : State) (xs ys : List Line) → HadSeen s xs → HadSeen (run (handed_in xs) s) ys → HadSeen s (xs ++ ys)
+seen-join s [] ys first second = second
+seen-join s (HandedIn e ∷ xs) ys first second = seen-join (step s e) xs ys first second
+seen-join s (LeftOut e ∷ xs) ys first second = join-left s e xs ys (λ seen. seen-join s xs ys seen second) first
+
+-- what is handed in is no sight that was spared
+pub seen-handed : (s : State) (es : List Event) → HadSeen s (map HandedIn es)
+seen-handed s [] = tt
+seen-handed s (e ∷ es) = seen-handed (step s e) es
 
 module _ {T : Type 0} where
   pub parts-both : (xs ys : List (Mark T)) (ps qs : List Part) → AreParts (turns_in xs) ps → AreParts (turns_in ys) qs → AreParts (turns_in (xs ++ ys)) (ps ++ qs)

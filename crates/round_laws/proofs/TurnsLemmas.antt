@@ -161,7 +161,7 @@ module _ {T E W : Type 0} (calls : E → Option (List ToldCall)) (stores : T →
       (t : looks.TakesIf (DoesPath calls stores holds stamped Looks) path seen old known new known') → Goes (of_sight calls stores holds stamped Looks path seen old known new known' t) old new
   sight Looks path None old known new known' none = same none.0
   sight Looks path (Some obs) old known new known' (inl is) = record { are = (same is.1).are }
-  sight Looks path (Some obs) old known new known' (inr differs) = tells (Some (happened (journaled.Saw path obs))) differs.1.0 old new differs.1.1
+  sight Looks path (Some obs) old known new known' (inr differs) = tells (Some (happened (journaled.Saw path obs))) differs.1.0 old new differs.1.2
 
   -- a question about paths
   put : (edge : E) (old new : RoundLauncher T E W) → new ≡ lent edge old → Goes [] old new
@@ -206,10 +206,15 @@ module _ {T E W : Type 0} (calls : E → Option (List ToldCall)) (stores : T →
   ended {marks} {a} b c d goes first second = subst (λ ms. Goes ms a d) (append-nil marks) (then_ {ys = []} goes (then_ {xs = []} {ys = []} (asks first) (asks second)))
 
   module _ (Finds : ℕ → Option (ℕ × ℕ) → E → E → Type 0) (Looks : List ℕ → Result Obs EdgeFault → E → E → Type 0) where
+    looks_start : (at : Option (List ℕ)) (old : RoundLauncher T E W) (from : List ℕ) (started : RoundLauncher T E W) → looks.Starts ListsNext (DoesPath calls stores holds stamped Looks) at old from started → Goes [] old started
+    looks_start (Some path) old from started b = same b.1
+    looks_start None old from started b = put b.1.0 old started b.1.1
+
     looks_begin : (at : Option (List ℕ)) (old : RoundLauncher T E W) (known : looks.Known) (from : List ℕ) (first : RoundLauncher T E W) (begun : looks.Known) →
         looks.Begins ListsNext (DoesPath calls stores holds stamped Looks) at old known from first begun → Goes [] old first
-    looks_begin (Some path) old known from first begun b = same b.1
-    looks_begin None old known from first begun b = subst (λ (r : RoundLauncher T E W). Goes [] old r) (sym b.1.1.2) (record { are = record { table = refl; store = refl; journal = inl refl } })
+    looks_begin at old known from first begun b =
+        then_ {xs = []} {ys = []} (looks_start at old from b.started b.starts)
+        (subst (λ (r : RoundLauncher T E W). Goes [] b.started r) (sym b.asks.1) (record { are = record { table = refl; store = refl; journal = inl refl } }))
 
     looks_all : (polled : RoundLauncher T E W) (old : rounds.Left (RoundLauncher T E W)) (looked : RoundLauncher T E W) (new : rounds.Left (RoundLauncher T E W)) (s : rounds.Sees (launcher calls stores holds stamped Finds Looks) polled old looked new) →
         Goes (of_looks calls stores holds stamped Finds Looks polled old looked new s) polled looked

@@ -3,9 +3,9 @@ use Rattle.std.specs.Prelude.{◌≡◌, false, ⊤, List, [], ◌∷◌, ◌++�
 use Rattle.std.specs.List.{AllByRecursion}
 use Rattle.history_model.specs.declared.Refusal.{Refusal}
 use Rattle.history_model.specs.declared.event.Event.TheVariants as journaled
-use Rattle.history_model.specs.Machine.{State, Sight}
-use Rattle.history_model.specs.Step.{Outcome, step}
-use Rattle.history_model.specs.LeftOut.{Line, HandedIn, LeftOut, HaveSeen, outcomes_handed, outcomes_left}
+use Rattle.history_model.specs.Machine.{State}
+use Rattle.history_model.specs.Step.{Outcome}
+use Rattle.history_model.specs.LeftOut.{Line, HandedIn, LeftOut, outcomes_handed, outcomes_left}
 use Rattle.job_table.specs.Taking.{machine_event}
 use Rattle.launcher.specs.Inputs.{Incoming, happened}
 use Rattle.launcher.specs.LoadTurns.{is_memory}
@@ -35,15 +35,8 @@ HeardReadings [] = ⊤
 HeardReadings (Turned turn ∷ marks) = HadMemory turn.incoming turn.refusal × HeardReadings marks
 HeardReadings (Spared event ∷ marks) = HeardReadings marks
 
--- of each sight that the launcher was spared, each job which lists the path saw it so last
-abbrev pub HadSeen : State → List Line → Type 0
-HadSeen s [] = ⊤
-HadSeen s (HandedIn e ∷ lines) = HadSeen (step s e) lines
-HadSeen s (LeftOut (Sight path obs) ∷ lines) = HaveSeen path obs s.jobs × HadSeen s lines
-HadSeen s (LeftOut e ∷ lines) = HadSeen s lines
-
--- The turns are these parts of a run of the machine, and decide as if it had heard all, if it had seen the sights that it was spared.
+-- The turns are these parts of a run of the machine, and decide as if it had heard all.
 pub record Decides {T : Type 0} (s : State) (marks : List (Mark T)) : Type 0 where
   pub parts : List Part
   pub are_parts : AreParts (turns_in marks) parts
-  pub decide : HadSeen s (lines_of marks parts) → DecideAsOne s marks parts
+  pub decide : DecideAsOne s marks parts

@@ -105,7 +105,7 @@ module _ {T E W : Type 0} (calls : E → Option (List ToldCall)) (stores : T →
   of_sight Looks path None old known new known' none = []
   of_sight Looks path (Some obs) old known new known' (inl same) = Spared (journaled.Saw path obs) ∷ []
   of_sight Looks path (Some obs) old known new known' (inr differs) =
-      of_tells (Some (happened (journaled.Saw path obs))) differs.1.0 old new differs.1.1
+      of_tells (Some (happened (journaled.Saw path obs))) differs.1.0 old new differs.1.2
 
   -- questions about paths hand nothing in
   abbrev pub of_walk : (Looks : List ℕ → Result Obs EdgeFault → E → E → Type 0) {first : RoundLauncher T E W} {known : looks.Known} {from : List ℕ} {n : ℕ} {path : List ℕ} {new : RoundLauncher T E W} {known' : looks.Known} →

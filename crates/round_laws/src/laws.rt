@@ -9,6 +9,7 @@ ghost use Rattle.launcher.specs.Hosts.{IsNew, stands};
 ghost use Rattle.launcher.specs.Journals.{JournalState};
 ghost use Rattle.launcher_laws.specs.Lasting.{Lasts};
 ghost use Rattle.launcher_laws.specs.TurnRuns.{AreTurns, Snapshot};
+ghost use Rattle.live_loop.specs.Looks.{IsEmpty};
 ghost use Rattle.live_loop.specs.Rounds.{AreRounds, Left};
 ghost use Rattle.outside.specs.Stores.{StoreCall};
 ghost use Rattle.jobd.specs.declared.round_launcher.RoundLauncher.{RoundLauncher as Launcher};
@@ -45,15 +46,15 @@ pub fn what_was_spared_changes_nothing<T: SettingStore>(store: &T)
     let _ = store;
 }
 
-/// Any rounds of a new launcher decide as if each reading and each sight had been handed in, in the order of the rounds: each reading that it
-/// was spared was no news, and all else was handed in at the last reading. Memory was not wanting at a reading. Of a sight that the
-/// launcher was spared, each job that lists the path saw it so last.
+/// Any rounds of a new launcher, to which no sight was handed in yet, decide as if each reading and each sight had been handed in, in the
+/// order of the rounds. Each reading that it was spared was no news; each sight that it was spared, each job that lists the path saw so
+/// last; and all else was handed in at the last reading. Memory was not wanting at a reading.
 pub fn rounds_decide_as_one<T: SettingStore, E: RoundEdge, W: Write>(round: &RoundLauncher<T, E, W>)
     ensures { (header : Header) (calls : Option (List ToldCall)) (stores : Option (List StoreCall))
         (journal : JournalState) (before : T) (first last : Left (Launcher T E W)) →
         (new : IsNew header calls stores journal (stands E.told T.told first.host.host)
         (T.holds before) (T.holds first.host.host.store)) →
-        first.host.at ≡ first.host.host.table.reading →
+        first.host.at ≡ first.host.host.table.reading → IsEmpty first.known →
         (rounds : AreRounds (launcher E.told T.told T.holds T.stamped E.Finds E.Looks) first last) →
         HeardReadings (marks_of E.told T.told T.holds T.stamped E.Finds E.Looks rounds) →
         Decides new.machine (marks_of E.told T.told T.holds T.stamped E.Finds E.Looks rounds) }

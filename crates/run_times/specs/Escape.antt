@@ -1,10 +1,11 @@
 -- Text within XML (Extensible Markup Language 1.0, sections 2.2 and 2.4), and so within HTML too.
-use Rattle.std.specs.Prelude.{ℕ, Bool, List, ◌||◌, ◌&&◌, ◌==◌, if◌then◌else◌, nat_lt, codes, encode_utf8}
+use Rattle.std.specs.Prelude.{ℕ, Bool, List, ◌||◌, ◌==◌, if◌then◌else◌, codes, encode_utf8}
 use Rattle.std.specs.List.{flat_map}
+use Rattle.plain_text.specs.Plain.{is_hidden}
 
--- whether the character may not stand in XML, or is a control character
+-- whether the character is hidden in a text of others, or may not stand in XML
 abbrev pub is_unwritable : ℕ → Bool
-is_unwritable c = nat_lt c 0x20 || (nat_lt 0x7E c && nat_lt c 0xA0) || c == 0xFFFE || c == 0xFFFF
+is_unwritable c = is_hidden c || c == 0xFFFE || c == 0xFFFF
 
 -- the bytes by which a character is written: the five characters of markup by their names, what is unwritable as U+FFFD
 abbrev pub escaped : ℕ → List ℕ

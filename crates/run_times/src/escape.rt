@@ -3,10 +3,11 @@
 ghost use Rattle.std.specs.Prelude.{◌≡◌, ◌++◌, ◌↔◌, true, IsTrue, OnOk, IfOk, string_bytes, chars};
 ghost use Rattle.run_times.specs.Escape.{is_unwritable, escaped, escaped_text};
 
+use plain_text::is_hidden;
 use std::alloc::{AllocError, Global};
 
 /// The text as it is written within XML or HTML, in an attribute or outside: `&`, `<`, `>`, `"` and `'` by their names, control
-/// characters and what XML can't hold as U+FFFD.
+/// characters, marks of direction and what XML can't hold as U+FFFD.
 pub fn escaped(alloc: Global, text: &str) -> Result<String, AllocError>
     ensures { IfOk result (λ written. string_bytes written ≡ escaped_text (chars text.now)) }
 {
@@ -31,9 +32,9 @@ fn add_char(written: &mut String, c: char) -> Result<(), AllocError>
     }
 }
 
-/// Whether the character may not stand in XML, or is a control character.
-pub fn is_unwritable(c: char) -> bool
+// Whether the character is hidden in a text of others, or may not stand in XML.
+fn is_unwritable(c: char) -> bool
     ensures { result ≡ is_unwritable c }
 {
-    c < '\u{20}' || (c > '\u{7E}' && c < '\u{A0}') || c == '\u{FFFE}' || c == '\u{FFFF}'
+    is_hidden(c) || c == '\u{FFFE}' || c == '\u{FFFF}'
 }

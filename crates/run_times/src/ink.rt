@@ -1,13 +1,15 @@
 //! A text that is written piece by piece.
 
-ghost use Rattle.std.specs.Prelude.{◌≡◌, ◌++◌, ◌↔◌, [], false, true, IfOk, IsOk, OnErr, string_bytes, encode_utf8};
+ghost use Rattle.std.specs.Prelude.{◌≡◌, ◌++◌, ◌↔◌, [], false, true, IfOk, IsOk, OnErr, string_bytes, chars, encode_utf8};
 ghost use Rattle.std.specs.Fmt.{decimal};
+ghost use Rattle.plain_text.specs.Plain.{plain_text};
 ghost use Rattle.run_times.specs.Written.{piece_text, pieces_text, Grows};
 
 use crate::moment::time_text;
 use crate::span::span_pieces;
 use calendar_due::Zone;
 use history_model::MAX_WALL;
+use plain_text::add_plain;
 use std::alloc::{AllocError, Global};
 use std::fmt::Write;
 
@@ -51,6 +53,15 @@ impl Ink {
         self.is_refused = self.is_refused || !is_put;
     }
 
+    /// Adds a text of others, if there is memory for it: control characters and marks of direction as U+FFFD, any other character as it is.
+    pub fn put_plain(&mut self, part: &str)
+        ensures added { self.new.is_refused ≡ false → string_bytes self.new.text ≡ string_bytes self.old.text ++ plain_text (chars part.now) }
+        ensures kept { self.new.is_refused ≡ false → self.old.is_refused ≡ false }
+    {
+        let is_put = add_plain(&mut self.text, part).is_ok();
+        self.is_refused = self.is_refused || !is_put;
+    }
+
     /// Adds the number in decimal digits, if there is memory for it.
     pub fn put_number(&mut self, number: u64)
         ensures added { self.new.is_refused ≡ false → string_bytes self.new.text ≡ string_bytes self.old.text ++ decimal number }
@@ -79,17 +90,26 @@ impl Ink {
         }
     }
 
-    /// Adds the form, in which each `$` stands for the next of the pieces. Pieces for which there is no `$` are left out.
+    /// Adds the form, in which each `$` stands for the next of the pieces, a text as by `put_plain`. Pieces for which there is no `$` are left
+    /// out.
     pub fn fill(&mut self, form: &str, pieces: &[Piece<'_>]) {
         let mut parts = form.split('$');
         self.put(parts.next().unwrap_or(""));
         let mut next: usize = 0;
         for part in parts {
             if let Some(piece) = pieces.get(next) {
-                self.put_piece(piece);
+                self.put_hole(piece);
             }
             self.put(part);
             next = next.saturating_add(1);
+        }
+    }
+
+    // What stands in a hole may be a text of others.
+    fn put_hole(&mut self, piece: &Piece<'_>) {
+        match *piece {
+            Piece::Text(part) => self.put_plain(part),
+            _ => self.put_piece(piece),
         }
     }
 

@@ -11,8 +11,8 @@ pub mod picture;
 mod span;
 pub mod telling;
 
-pub use escape::{escaped, is_unwritable};
+pub use escape::escaped;
 pub use ink::{Ink, Piece};
 pub use moment::{time_text, utc};
-pub use next::{coming_second, next_run};
+pub use next::{coming_second, needs_event, next_run};
 pub use page::{Filling, Page};

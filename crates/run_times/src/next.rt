@@ -18,7 +18,7 @@ use history_model::{CALENDAR_REACH, Entry, MAX_UP, MAX_WALL, Reading, Reasons, S
 /// most 400 days, and no further than a reading may go. None if there is no such number.
 ///
 /// `reasons` and `spawns_from` are what a job answers at the reading `now`, and `entries` those of its definition. Takes no
-/// memory. The calendar is looked through minute by minute, so the caller bounds the time by `within`.
+/// memory. The calendar is looked through by days, and by minutes about those that an entry is on: `within` bounds the time.
 pub fn next_run(
     reasons: &Reasons,
     spawns_from: Option<u64>,
@@ -153,7 +153,7 @@ fn by_calendar(
 }
 
 /// Whether a reason holds that no reading ends.
-fn needs_event(reasons: &Reasons) -> bool
+pub fn needs_event(reasons: &Reasons) -> bool
     ensures { result ≡ needs_event reasons.now }
 {
     reasons.is_removing

@@ -24,7 +24,7 @@ pub struct Page<'a> {
 /// What is put into a hole.
 #[derive(Clone, Copy)]
 pub enum Filling<'a> {
-    /// A text as it is.
+    /// A text, as by `Ink::put_plain`.
     Text(&'a str),
     /// A text as it is written within XML or HTML.
     Escaped(&'a str),
@@ -37,7 +37,7 @@ pub enum Filling<'a> {
     Time(u64),
     /// As `Time`, of a moment of `up` that comes, if both clocks go on alike.
     Coming(u64),
-    /// The date and the minute of a second of `wall`.
+    /// The date and the minute of a second of `wall`, with weekday and offset.
     Minute(u64),
     /// A span of milliseconds, by tenths of a second below a minute.
     Span(u64),
@@ -118,7 +118,7 @@ impl<'a> Page<'a> {
             return;
         };
         match *hole {
-            Filling::Text(part) => self.ink.put(part),
+            Filling::Text(part) => self.ink.put_plain(part),
             Filling::Escaped(part) => self.ink.put_made(escaped(self.alloc, part)),
             Filling::Number(number) => self.ink.put_number(number),
             Filling::Now => self.ink.put(self.moment.text.as_str()),
@@ -139,7 +139,7 @@ impl<'a> Page<'a> {
             Ok(text) => {
                 let moment = text.as_str();
                 let (date, from, until) = match look {
-                    MomentLook::Minute => (10, 14, 20),
+                    MomentLook::Minute => (20, 23, moment.len()),
                     MomentLook::Short if is_same_day(moment, self.moment.text.as_str()) => (
                         0, 15, 23,
                     ),

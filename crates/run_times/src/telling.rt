@@ -8,6 +8,7 @@ ghost use Rattle.std.specs.declared.io.ErrorKind.TheVariants.{OutOfMemory};
 ghost use Rattle.exit_status.specs.declared.TheConstants as statuses;
 ghost use Rattle.run_times.specs.Endings.{WantsMemory, status_of_end};
 
+use crate::ink::Ink;
 use exit_status::{BAD_OUTPUT, NO_MEMORY, READER_GONE};
 use std::alloc::{AllocError, Global};
 use std::fmt::Display;
@@ -77,9 +78,30 @@ pub fn put_outcome<W: Write>(writer: &mut W, made: Result<Outcome, AllocError>) 
     }
 }
 
-/// Tells a fault, or what is to be known, of the file in one line.
+/// Writes the text to the standard error, if memory was never refused.
+pub fn tell_line(host: &HostRuntime, line: Ink) {
+    if let Ok(text) = line.into_text() {
+        let _written = eprint!(host; "{text}");
+        drop(text);
+    }
+}
+
+/// Tells a fault, or what is to be known, of the file in one line. Without memory nothing is told.
 pub fn tell_of<D: Display>(host: &HostRuntime, path: &str, told: &D) {
-    let _written = eprintln!(host; "jobscope: {path}: {told}");
+    let alloc = host.alloc();
+    let mut line = Ink::new(alloc);
+    line.put("jobscope: ");
+    line.put_plain(path);
+    line.put(": ");
+    match told.to_string(alloc) {
+        Ok(told) => {
+            line.put_plain(told.as_str());
+            drop(told);
+        }
+        Err(_) => line.refuse(),
+    }
+    line.put("\n");
+    tell_line(host, line);
 }
 
 /// Tells what kept a file from being read. An error for want of memory, which is not told here.

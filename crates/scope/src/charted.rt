@@ -7,6 +7,7 @@ use crate::journal::job::JobRequest;
 use crate::journal::news::{News, What};
 use crate::journal::past::Past;
 use crate::journal::run::{JobRun, RunEnd};
+use crate::journal::waiting::Wait;
 use crate::texts::log::is_named;
 use history_model::Text;
 use run_times::picture::{Axis, Bar, Chart, End, MarkKind, PLACES, Row};
@@ -95,9 +96,10 @@ fn mark_of(what: &What) -> Option<MarkKind> {
         What::LoadRefused(_) | What::Declined(_, _) | What::NotBegun { .. } => {
             Some(MarkKind::Refusal)
         }
-        What::Ended { wait, .. } if wait.is_wanted && wait.throttled_until.is_some() => {
-            Some(MarkKind::Throttle)
-        }
+        What::Ended {
+            wait: Wait::Throttled(_),
+            ..
+        } => Some(MarkKind::Throttle),
         _ => None,
     }
 }

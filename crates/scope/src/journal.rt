@@ -4,6 +4,7 @@
 pub(crate) mod facts;
 pub(crate) mod fault;
 pub(crate) mod job;
+pub(crate) mod labels;
 pub(crate) mod lines;
 pub(crate) mod news;
 mod noting;
@@ -12,3 +13,4 @@ pub(crate) mod reader;
 pub(crate) mod run;
 pub(crate) mod source;
 pub(crate) mod telling;
+pub(crate) mod waiting;

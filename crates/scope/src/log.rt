@@ -24,8 +24,9 @@ pub(crate) fn follow<W: Wait, H: Hears>(
     hearer: &mut H,
 ) -> io::Result<u8> {
     let mut told: u64 = 0;
+    let mut open = None;
     for _ in waits.forever() {
-        match look(host, alloc, path, lines, hearer) {
+        match look(host, alloc, path, &mut open, lines, hearer) {
             Ok(()) => {}
             Err(fault) => return tell_fault(host, path, fault),
         }
@@ -38,18 +39,24 @@ pub(crate) fn follow<W: Wait, H: Hears>(
     unreachable!()
 }
 
-// Shows what is new.
+// Shows what is new: first of the file that is open, to its end, and then of the one that the path names now.
 fn look<H: Hears>(
     host: &HostRuntime,
     alloc: Global,
     path: &str,
+    open: &mut Option<File>,
     lines: &mut JournalLines,
     hearer: &mut H,
 ) -> Result<(), JournalFault> {
+    if let Some(file) = open {
+        if is_resumed(alloc, file, lines)? {
+            read_source(host, file, false, lines, hearer)?;
+        }
+    }
     match reopened(host, alloc, path, lines) {
         Ok(mut file) => {
             let shown = read_source(host, &mut file, false, lines, hearer);
-            drop(file);
+            drop(mem::replace(open, Some(file)));
             shown
         }
         Err(error) if error.kind() == ErrorKind::NotFound && lines.offset > 0 => Ok(()),
@@ -81,6 +88,21 @@ fn go_on(alloc: Global, file: &mut File, lines: &mut JournalLines) -> io::Result
     }
     file.seek(SeekFrom::Start(lines.offset))?;
     Ok(())
+}
+
+// Whether the file that is open is still the journal that was read up to here, and it goes on from there.
+fn is_resumed(alloc: Global, file: &mut File, lines: &JournalLines) -> Result<bool, JournalFault> {
+    match seen_again(alloc, file, lines) {
+        Ok(is_same) => Ok(is_same),
+        Err(error) => Err(JournalFault::Read(error)),
+    }
+}
+
+fn seen_again(alloc: Global, file: &mut File, lines: &JournalLines) -> io::Result<bool> {
+    file.seek(SeekFrom::Start(0))?;
+    let is_other = is_other(alloc, file, lines)?;
+    file.seek(SeekFrom::Start(lines.offset))?;
+    Ok(!is_other)
 }
 
 fn is_other(alloc: Global, file: &File, lines: &JournalLines) -> io::Result<bool> {

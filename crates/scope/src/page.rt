@@ -1,6 +1,7 @@
 //! The coming starts that stand on a page.
 
 use crate::journal::reader::OpenJournal;
+use crate::texts::by_facts::can_start_again;
 use definition_files::calendar_after;
 use history_model::Reading;
 use job_table::JobTable;
@@ -8,7 +9,8 @@ use run_times::coming_second;
 use run_times::picture::{Chart, Coming};
 use std::alloc::{AllocError, Global};
 
-/// The next start by the calendar and the next by the interval of each job of the chart that is loaded, in the order of time.
+/// The next start by the calendar and the next by the interval of each job of the chart that is loaded and can start again, in the order
+/// of time.
 pub(crate) fn coming_of(
     alloc: Global,
     journal: &OpenJournal,
@@ -18,8 +20,11 @@ pub(crate) fn coming_of(
     let mut coming = Vec::new(alloc);
     for row in &chart.rows {
         let label = row.label.as_str();
-        if let Some(job) = journal.past.jobs.get(label) {
-            if let Some(def) = &job.def {
+        if let (Some(job), Some(reasons)) = (
+            journal.past.jobs.get(label),
+            journal.table.reasons(label),
+        ) {
+            if let (Some(def), true) = (&job.def, can_start_again(&reasons)) {
                 let calendar = calendar_after(def.calendar(), &journal.zone, now.wall);
                 add(alloc, label, "StartCalendarInterval", calendar, &mut coming)?;
                 let interval = interval_end(&journal.table, label, now);

@@ -2,15 +2,15 @@
 
 use crate::clock::now;
 use crate::report::report;
-use crate::zone::zone_of;
-use calendar_due::Zone;
+use crate::zone::{Named, zone_of};
 use ctl_protocol::LINE_LIMIT;
 use definition_files::check::check_files;
-use definition_files::cron::crontab;
+use definition_files::cron::{HostLines, definitions_of, lines_of, surroundings_of};
+use definition_files::lists::lists_as_json;
 use definition_files::{Asked, HostFiles, coming_starts};
 use exit_status::{BAD_CLOCK, BAD_FILE, USAGE};
 use files_and_process::path_files::files_at;
-use history_model::MAX_WALL;
+use history_model::{MAX_WALL, Text};
 use launchctl_words::{Meaning, ScopeCommand, Task, WordFault, explain_scope, read_scope_words};
 use run_times::telling::{Outcome, put, put_outcome, tell_end, want_memory};
 use std::alloc::{AllocError, Global};
@@ -59,17 +59,60 @@ fn run<W: Wait>(
         Task::Check | Task::Next => {
             put_outcome(&mut host.stdout(), by_zone(host, alloc, command))
         }
-        Task::Cron => put_outcome(
-            &mut host.stdout(),
-            crontab(host, alloc, command.words.as_slice()),
-        ),
+        Task::Cron => put_outcome(&mut host.stdout(), by_lines(host, alloc, command)),
+        Task::Plist => put_outcome(&mut host.stdout(), of_lists(host, alloc, command)),
         _ => report(host, waits, alloc, command),
     }
 }
 
+// The definitions that are made of the lines which the words give; the one word `-` stands for those of standard input.
+fn by_lines(host: &HostRuntime, alloc: Global, of: &ScopeCommand) -> Result<Outcome, AllocError> {
+    match of.words.as_slice() {
+        [only] if only.as_str() == "-" => match lines_of(host, alloc)? {
+            Some(lines) => {
+                let made = of_lines(host, alloc, of, lines.as_slice());
+                drop(lines);
+                made
+            }
+            None => Ok(Outcome::failed(alloc, BAD_FILE)),
+        },
+        lines => of_lines(host, alloc, of, lines),
+    }
+}
+
+fn of_lines(
+    host: &HostRuntime,
+    alloc: Global,
+    of: &ScopeCommand,
+    lines: &[Text],
+) -> Result<Outcome, AllocError> {
+    let around = surroundings_of(host, alloc, of.has_user)?;
+    let mut keeper = HostLines {
+        host,
+        into: into_of(of),
+    };
+    let made = definitions_of(host, alloc, &mut keeper, lines, &around);
+    drop(around);
+    made
+}
+
+fn into_of(of: &ScopeCommand) -> Option<&str> {
+    match &of.into {
+        Some(folder) => Some(folder.as_str()),
+        None => None,
+    }
+}
+
+// The property lists that the words name, as JSON.
+fn of_lists(host: &HostRuntime, alloc: Global, of: &ScopeCommand) -> Result<Outcome, AllocError> {
+    let mut source = HostFiles { host };
+    let paths = of.words.as_slice();
+    lists_as_json(host, alloc, &mut source, paths, LINE_LIMIT, into_of(of))
+}
+
 // What is told of definitions in the zone that the words name, as of the second that they name, or of now.
 fn by_zone(host: &HostRuntime, alloc: Global, of: &ScopeCommand) -> Result<Outcome, AllocError> {
-    let Some(zone) = zone_of(host, alloc, &of.zone)? else {
+    let Some(named) = zone_of(host, alloc, &of.zone, of.is_utc)? else {
         return Ok(Outcome::failed(alloc, BAD_FILE));
     };
     let second = match of.from {
@@ -77,10 +120,10 @@ fn by_zone(host: &HostRuntime, alloc: Global, of: &ScopeCommand) -> Result<Outco
         None => now(host),
     };
     let made = match second {
-        Some(second) => made_of(host, alloc, of, &zone, second),
+        Some(second) => made_of(host, alloc, of, &named, second),
         None => Ok(Outcome::failed(alloc, BAD_CLOCK)),
     };
-    drop(zone);
+    drop(named);
     made
 }
 
@@ -88,12 +131,13 @@ fn made_of(
     host: &HostRuntime,
     alloc: Global,
     of: &ScopeCommand,
-    zone: &Zone,
+    named: &Named,
     from: u64,
 ) -> Result<Outcome, AllocError> {
     let asked = Asked {
         longest: LINE_LIMIT,
-        zone,
+        zone: &named.zone,
+        zone_line: named.line,
         from,
     };
     let files = files_at(host, of.words.as_slice())?;

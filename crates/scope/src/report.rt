@@ -2,7 +2,7 @@
 //! does, what its runs came to, and their picture.
 
 use crate::charted::{HeardMarks, chart_of};
-use crate::journal::fault::tell_fault;
+use crate::journal::fault::{JournalFault, tell_fault, tell_long};
 use crate::journal::lines::JournalLines;
 use crate::journal::reader::OpenJournal;
 use crate::journal::source::{INPUT, journal_path, read_journal, tell_bad};
@@ -10,8 +10,10 @@ use crate::listener::{JournalListener, zone_shown};
 use crate::log::follow;
 use crate::page::coming_of;
 use crate::texts::runs::runs_table;
-use crate::texts::why::why_text;
+use crate::texts::unknown::unknown_text;
+use crate::texts::why::{is_known, why_text};
 use calendar_due::Zone;
+use exit_status::BAD_FILE;
 use history_model::Text;
 use launchctl_words::{ScopeCommand, Task};
 use run_times::picture::{Beside, Chart, blocks_text, picture_piece};
@@ -25,8 +27,8 @@ use std::{env, io};
 const COLUMNS: u16 = 80;
 
 /// Writes what is told of the jobs of the journal, or of those that are named; of a log the events from the command's second on, each in a
-/// line. If the command follows, it goes on as the journal's file grows; only this may wait. 65 if the journal can't be read, or if a line
-/// is no event.
+/// line. If the command follows, it goes on as the journal's file grows; only this may wait. 65 if the journal can't be read, if a line is no
+/// event or too long, or if nothing has a label that `why` is asked of.
 pub(crate) fn report<W: Wait>(
     host: &HostRuntime,
     waits: &W,
@@ -64,37 +66,77 @@ fn report_by(
         Task::Log => false,
         _ => true,
     };
-    match read_journal(host, path, is_quiet, lines, listener) {
-        Ok(()) => {
-            let status = tell_bad(host, name, lines);
-            write_report(host, alloc, listener)?;
-            Ok(status)
-        }
-        Err(fault) => tell_fault(host, name, fault),
+    let read = match read_journal(host, path, is_quiet, lines, listener) {
+        Ok(()) => tell_bad(host, name, lines),
+        // What came before that line is told.
+        Err(JournalFault::LongLine(line)) => tell_long(host, name, line),
+        Err(fault) => return tell_fault(host, name, fault),
+    };
+    match write_report(host, alloc, name, listener) {
+        Ok(status) => Ok(status.max(read)),
+        Err(error) => Err(error),
     }
 }
 
-// What the journal's end says. A log was written as it was read.
+// What the journal's end says, and the exit status for it. A log was written as it was read.
 fn write_report(
     host: &HostRuntime,
     alloc: Global,
+    name: &str,
     listener: &JournalListener<'_>,
-) -> io::Result<()> {
+) -> io::Result<u8> {
     let Some(journal) = &listener.journal else {
-        return Ok(());
+        return Ok(0);
     };
     let of = listener.of;
     let zone = zone_shown(of, &listener.utc, &journal.zone);
     let labels = of.words.as_slice();
-    match of.task {
+    let written = match of.task {
         Task::Why => put_made(host, why_text(alloc, journal, zone, labels)),
-        Task::Runs => {
-            let now = journal.table.reading();
-            put_made(host, runs_table(alloc, &journal.past, now, labels))
-        }
+        Task::Runs => put_runs(host, alloc, name, journal, labels),
         Task::Picture => paint(host, alloc, journal, zone, &listener.heard, of),
         _ => Ok(()),
+    };
+    match (written, of.task) {
+        (Ok(()), Task::Why) => tell_unknown(host, alloc, name, journal, labels),
+        (Ok(()), _) => Ok(0),
+        (Err(error), _) => Err(error),
     }
+}
+
+fn put_runs(
+    host: &HostRuntime,
+    alloc: Global,
+    name: &str,
+    journal: &OpenJournal,
+    labels: &[Text],
+) -> io::Result<()> {
+    if journal.past.dropped > 0 {
+        tell_of(host, name, &"medians are over the last 131072 runs");
+    }
+    let now = journal.table.reading();
+    put_made(host, runs_table(alloc, &journal.past, now, labels))
+}
+
+// Tells each of the labels that nothing in the journal has. It answers the exit status, which is 65 then.
+fn tell_unknown(
+    host: &HostRuntime,
+    alloc: Global,
+    name: &str,
+    journal: &OpenJournal,
+    labels: &[Text],
+) -> io::Result<u8> {
+    let mut status = 0;
+    for label in labels {
+        let label = label.as_str();
+        if !is_known(journal, label) {
+            let told = unknown_text(alloc, journal, label)?;
+            tell_of(host, name, &told);
+            drop(told);
+            status = BAD_FILE;
+        }
+    }
+    Ok(status)
 }
 
 // A named label that the journal has no load of is told. This is no fault.

@@ -8,5 +8,6 @@ pub(crate) mod fronts;
 pub(crate) mod log;
 pub(crate) mod runs;
 pub(crate) mod told;
+pub(crate) mod unknown;
 pub(crate) mod why;
 pub(crate) mod words;

@@ -1,4 +1,4 @@
-//! The zone that words name.
+//! The zone that words name, or else that of the machine.
 
 use calendar_due::{LONGEST_FILE, Zone, ZoneFault};
 use files_and_process::path_files::read_file;
@@ -6,17 +6,63 @@ use launchctl_words::ZoneWords;
 use run_times::telling::{tell_error, tell_of};
 use run_times::utc;
 use std::alloc::{AllocError, Global};
+use std::fs::metadata;
 
-/// The zone that the words name; UTC if they name none. None: the rule or the file tells no zone, and this was told.
+/// Where the zone of this machine stands.
+const LOCAL: &str = "/etc/localtime";
+
+/// The zone in which calendar entries are looked at, and the line that names it; the line is empty if the words choose the zone.
+pub(crate) struct Named {
+    pub(crate) zone: Zone,
+    pub(crate) line: &'static str,
+}
+
+// for the proof: who lets it go calls this, in place of letting each part go
+impl Drop for Named {
+    fn drop(self) {
+        let Named { zone: _, line: _ } = self;
+    }
+}
+
+/// The zone that the words name; with `is_utc`, UTC if they name none, and else that of the machine. None: the rule or the file tells
+/// no zone, and this was told.
 pub(crate) fn zone_of(
     host: &HostRuntime,
     alloc: Global,
     zone: &ZoneWords,
-) -> Result<Option<Zone>, AllocError> {
-    match zone {
-        ZoneWords::Default => Ok(Some(utc())),
+    is_utc: bool,
+) -> Result<Option<Named>, AllocError> {
+    let named = match zone {
+        ZoneWords::Default if is_utc => Ok(Some(utc())),
+        ZoneWords::Default => return local(host, alloc),
         ZoneWords::Rule(rule) => zone_made(host, rule.as_str(), Zone::posix(rule.as_str())),
         ZoneWords::File(path) => zone_in(host, alloc, path.as_str()),
+    };
+    with_line(named, "")
+}
+
+fn with_line(
+    zone: Result<Option<Zone>, AllocError>,
+    line: &'static str,
+) -> Result<Option<Named>, AllocError> {
+    match zone {
+        Ok(Some(zone)) => Ok(Some(Named { zone, line })),
+        Ok(None) => Ok(None),
+        Err(error) => Err(error),
+    }
+}
+
+// The zone of the machine: that of its file, or UTC if it has none that can be read.
+fn local(host: &HostRuntime, alloc: Global) -> Result<Option<Named>, AllocError> {
+    match metadata(host, LOCAL) {
+        Ok(_) => with_line(
+            zone_in(host, alloc, LOCAL),
+            "The zone is that of /etc/localtime.\n",
+        ),
+        Err(_) => with_line(
+            Ok(Some(utc())),
+            "The zone is UTC: there is no /etc/localtime.\n",
+        ),
     }
 }
 

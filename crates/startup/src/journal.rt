@@ -1,5 +1,6 @@
 //! The journal's file: opened as it is, and emptied only once all else is known to be ours.
 
+use crate::one_file::{FileMark, taken_for_journal};
 use crate::plan::Plan;
 use crate::reporting::{refuse, report};
 use ctl_protocol::{Header, LINE_LIMIT, header_line};
@@ -9,18 +10,40 @@ use history_model::Text;
 use std::alloc::Global;
 use std::fs::{File, Files};
 use std::io;
-use std::io::BufWriter;
+use std::io::{BufWriter, Error, ErrorKind};
 
 /// The journal's file, made or as it is, and held by this launcher, if one is named. Status 8 if it can't be opened, is no plain
-/// file, or is held by another launcher.
-pub fn journal_at<R: Files<File = File> + Eprint>(rt: &R, plan: &Plan) -> Result<Option<File>, u8> {
-    match &plan.places.journal {
-        None => Ok(None),
-        Some(path) => match open_appended(rt, path.as_str()) {
-            Ok(file) => Ok(Some(file)),
-            Err(error) => Err(refuse_journal(rt, plan, path, &error)),
-        },
-    }
+/// file, is held by another launcher, or is another place of this one.
+pub fn journal_at<R: AllocGlobal + Files<File = File> + Eprint>(
+    rt: &R,
+    alloc: Global,
+    plan: &Plan,
+) -> Result<Option<File>, u8> {
+    let Some(path) = &plan.places.journal else {
+        return Ok(None);
+    };
+    let file = match open_appended(rt, path.as_str()) {
+        Ok(file) => file,
+        Err(error) => return Err(refuse_journal(rt, plan, path, &error)),
+    };
+    let why = match taken_for(rt, alloc, plan, path, &file) {
+        Ok(None) => return Ok(Some(file)),
+        Ok(Some(why)) => Error::new(ErrorKind::InvalidInput, why),
+        Err(error) => error,
+    };
+    drop(file);
+    Err(refuse_journal(rt, plan, path, &why))
+}
+
+fn taken_for<R: AllocGlobal + Files<File = File>>(
+    rt: &R,
+    alloc: Global,
+    plan: &Plan,
+    path: &Text,
+    file: &File,
+) -> io::Result<Option<&'static str>> {
+    let own = FileMark::of(&file.metadata()?);
+    taken_for_journal(rt, alloc, plan, path.as_str(), own)
 }
 
 fn refuse_journal(rt: &impl Eprint, plan: &Plan, path: &Text, error: &io::Error) -> u8 {

@@ -7,6 +7,7 @@ mod connections;
 mod journal;
 mod looking;
 mod medium;
+mod one_file;
 mod overrides;
 mod places;
 mod plan;

@@ -12,6 +12,8 @@ use std::io;
 pub(crate) enum StoreRefusal {
     /// The system refused, at the store's file or, as the text says, at its log.
     System(&'static str, io::Error),
+    /// Its file is another place's.
+    Taken(&'static str),
     /// The files can't be opened for ourselves.
     Files(OpenError),
     Database(Error),
@@ -40,6 +42,7 @@ pub(crate) fn refuse_store(
             report(rt, level, "store", path, &error);
             return STORE;
         }
+        StoreRefusal::Taken(why) => why,
         StoreRefusal::Foreign => "a database, but no store of overrides",
         StoreRefusal::Settings(StoreFault::Refused) => "the database refused",
         StoreRefusal::Settings(StoreFault::Foreign) => "a stored name is no label",

@@ -3,6 +3,8 @@
 use crate::connections::{Media, Task, close_files, over_files};
 use crate::looking::{Found, look};
 use crate::medium::Medium;
+use crate::one_file::taken_for_store;
+use crate::plan::Plan;
 use crate::refusal::{StoreRefusal, refuse_store};
 use crate::reporting::Level;
 use files_and_process::own_files::make_private;
@@ -13,6 +15,7 @@ use sqlite::{Alter, Connection, Files, Options, Unknown};
 use sqlite_std_file::OpenError;
 use std::alloc::Global;
 use std::hash::{BuildHasher, RandomState};
+use std::io;
 
 /// As many pages of the store are kept in memory.
 const CACHE_PAGES: usize = 64;
@@ -28,16 +31,16 @@ pub trait StoreUser {
 
 /// Opens the store at the path, which is made, for this user alone, if it is not there, and has it used. Then what the log beside it
 /// holds is moved into the store's file, unless nothing was set; that this is refused is told, unless another launcher has the store by
-/// then. Status 5, with the user given back, if it is no store or can't be opened, as while another launcher has it open, or if its
-/// tables or its settings are refused.
+/// then. Status 5, with the user given back, if it is no store or can't be opened, as while another launcher has it open, if its
+/// tables or its settings are refused, or if its file is the lock of another place or one that the clearing of the spool may remove.
 pub fn with_store<U: StoreUser>(
     rt: &HostRuntime,
     alloc: Global,
-    level: Level,
-    path: &str,
+    plan: &Plan,
     user: U,
 ) -> Result<u8, (u8, U)> {
-    if let Err(refusal) = look_at_own(rt, alloc, path) {
+    let (path, level) = (plan.places.store.as_str(), plan.wishes.level);
+    if let Err(refusal) = look_at_own(rt, alloc, plan) {
         return Err((refuse_store(rt, level, path, refusal), user));
     }
     match over_store(rt, path, Opening { alloc, user }) {
@@ -52,12 +55,19 @@ pub fn with_store<U: StoreUser>(
     }
 }
 
-// The file at the path is for this user alone, and may be a store.
-fn look_at_own(rt: &HostRuntime, alloc: Global, path: &str) -> Result<Found, StoreRefusal> {
-    match make_private(rt, path) {
-        Ok(()) => look(rt, alloc, path),
+// The file at the path is for this user alone and no other place's, and may be a store.
+fn look_at_own(rt: &HostRuntime, alloc: Global, plan: &Plan) -> Result<Found, StoreRefusal> {
+    match private_file(rt, alloc, plan) {
+        Ok(None) => look(rt, alloc, plan.places.store.as_str()),
+        Ok(Some(why)) => Err(StoreRefusal::Taken(why)),
         Err(error) => Err(StoreRefusal::System("store", error)),
     }
+}
+
+// Makes the file, if it is not there, and tells which other place it is, if any.
+fn private_file(rt: &HostRuntime, alloc: Global, plan: &Plan) -> io::Result<Option<&'static str>> {
+    make_private(rt, plan.places.store.as_str())?;
+    taken_for_store(rt, alloc, plan)
 }
 
 /// Opens the settings of a database, and hands them to who uses them.

@@ -4,7 +4,7 @@
     edge_scenes.py [--jobd WORDS] [--jobctl WORDS] [--jobscope WORDS] [--by PROGRAM] [--at-once N] [--times] [SCENE..]
 
 WORDS start a program; blanks part them. With --by each is PROGRAM, which started this script, through a link of the program's name.
-Without scenes all are played, those of the five other files too, N at a time. Each prints `ok NAME` or
+Without scenes all are played, those of the six other files too, N at a time. Each prints `ok NAME` or
 `FAILED NAME: why`, and the last line counts; --times adds how long it took. The status is 1 if one failed. Each scene has a folder of its
 own below TMPDIR, and every process that it started is ended.
 
@@ -106,7 +106,7 @@ def look_outs(pid):
 
 
 def descriptors(pid):
-    """As many as are open, but for those of the launcher's look-outs: one each."""
+    """How many are open, but for those of the launcher's look-outs: one each."""
     return len(os.listdir(f"/proc/{pid}/fd")) - len(look_outs(pid))
 
 
@@ -446,8 +446,17 @@ def clients_of_a_slow_job(stage):
     launcher.shut_down()
 
 
-def silent_clients_of_one_port(stage):
-    """64 clients of a job send nothing: another job's clients are served, and after five seconds further ones of this job."""
+def drip(clients):
+    """Each client sends a byte, if it is not let go."""
+    for client in clients:
+        try:
+            client.send(b"x")
+        except OSError:
+            pass
+
+
+def slow_clients_of_one_port(stage):
+    """64 clients of a job send a byte again and again: another job's client is served, and after five seconds further ones of this job."""
     launcher = stage.serve()
     launcher.load(socket_job(stage, "deaf", ["/bin/cat"]))
     launcher.load(socket_job(stage, "other", ["/bin/cat"]))
@@ -455,8 +464,12 @@ def silent_clients_of_one_port(stage):
     clients = [connect(stage.at("deaf")) for _ in range(64)]
     wait_for(lambda: descriptors(launcher.pid) >= before + 60, "64 clients are not held")
     got = call(stage.at("other"), b"hello")
-    check(got == b"hello", f"another job's client got {got!r} beside 64 silent ones")
-    wait_for(lambda: call(stage.at("deaf"), b"hello") == b"hello", "no further client of the job is served")
+    check(got == b"hello", f"another job's client got {got!r} beside 64 slow ones")
+    start = time.monotonic()
+    while call(stage.at("deaf"), b"hello") != b"hello":
+        check(time.monotonic() < start + 30, "no further client of the job is served")
+        drip(clients)
+        time.sleep(0.2)
     for client in clients:
         client.close()
     wait_for(lambda: descriptors(launcher.pid) <= before, "descriptors are left")
@@ -840,6 +853,47 @@ def a_journal_at_a_fifo(stage):
         check(status == 8 and stage.at(name) in launcher.said(), f"a journal at a {name}: {status}, {launcher.said()!r}")
 
 
+def places_that_are_one_file(stage):
+    """A journal or a store that is another place's file is refused before anything is emptied, cleared or removed."""
+    launcher = stage.serve()
+    for label in ("one", "two"):
+        check(launcher.ask({"req": "disable", "job": label})["code"] == 0, "disable refused")
+    launcher.shut_down()
+    os.link(stage.at("store"), stage.at("beside"))
+    os.symlink("store", stage.at("link"))
+    held = bytes_at(stage.at("store"))
+    journals = ("store", "link", "beside", "store-wal", "store-journal", "store-shm", "spool/7-7.request", "spool/jobd.lock", "socket.lock")
+    for name in journals:
+        make(stage.at("spool/7-7.request"))
+        launcher = stage.start(journal=name)
+        check(not launcher.is_ready(), f"it serves with its journal at {name}")
+        status = launcher.ends()
+        check(status == 8 and f"journal {stage.at(name)}: " in launcher.said(), f"a journal at {name}: {status}, {launcher.said()!r}")
+        check(bytes_at(stage.at("store")) == held, f"a journal at {name} changed the store")
+        check(os.path.exists(stage.at("spool/7-7.request")), f"a journal at {name} cleared the spool")
+        for left in ("store-journal", "store-shm"):
+            if os.path.exists(stage.at(left)):
+                os.remove(stage.at(left))
+    os.remove(stage.at("beside"))
+    os.remove(stage.at("link"))
+    for name in ("spool/7-7.request", "spool/7-7.reply", "spool/jobd.lock", "socket.lock"):
+        launcher = stage.start(store=name)
+        check(not launcher.is_ready(), f"it serves with its store at {name}")
+        status = launcher.ends()
+        check(status == 5 and f"store {stage.at(name)}: " in launcher.said(), f"a store at {name}: {status}, {launcher.said()!r}")
+        check(name == "socket.lock" or os.path.exists(stage.at(name)), f"a store at {name} is gone")
+        if os.path.exists(stage.at(name)):
+            os.remove(stage.at(name))
+    stage.serve(journal="journal").shut_down()
+    shown = stage.run(["overrides", "--store", "store"]).stdout
+    check([line.split("\t")[:2] for line in shown.splitlines()] == [["one", "disabled"], ["two", "disabled"]], f"the store has {shown!r}")
+    launcher = stage.serve(journal="header")
+    end_process(launcher.pid)
+    launcher.ends()
+    replayed = stage.replay("header")
+    check(replayed.returncode == 0, f"the journal of a launcher that was killed at once replays with {replayed.returncode}")
+
+
 def a_journal_that_may_not_grow(stage):
     """The system refuses the journal more room: that is told once, and the launcher goes on."""
     # The limit counts blocks of 512 bytes or of 1,024, by the shell. The store's log takes some 270,000 bytes when it is made.
@@ -1056,6 +1110,31 @@ def an_end_beside_one_who_asks_on(stage):
     greedy.close()
 
 
+def a_shell_for_one_term(stage):
+    """TERM comes also if the kept shell was stopped, and the shell in its place has nothing of the launcher's environment: each program that
+    has it tells here which files its loader opens, and a bash would take `kill` from it."""
+    around = {"LD_DEBUG": "files", "LD_DEBUG_OUTPUT": stage.at("opened"), "BASH_FUNC_kill%%": "() { return 1; }"}
+    launcher = stage.serve(env=around)
+    for label in ("first", "second"):
+        launcher.load({"Label": label, "ProgramArguments": ["/bin/sleep", "1000"], "RunAtLoad": True})
+        launcher.tells(label, "pid = ")
+    kept = lambda: [pid for pid in children_of(launcher.pid) if "while read" in text_at(f"/proc/{pid}/cmdline")]
+    check(not kept(), "a shell is kept before the first TERM")
+    launcher.ask({"req": "stop", "job": "first"})
+    launcher.tells("first", "last exit = signal 15")
+    shells = kept()
+    check(len(shells) == 1, f"kept shells: {shells}")
+    opened = lambda: {name for name in os.listdir(stage.folder) if name.startswith("opened.")}
+    before = opened()
+    os.kill(shells[0], signal.SIGSTOP)
+    launcher.ask({"req": "stop", "job": "second"})
+    launcher.tells("second", "last exit = signal 15")
+    check(shells[0] not in kept(), "the shell that was stopped is kept")
+    end_all(launcher)
+    for name in opened() - before:
+        check("needed by /bin/sh " not in text_at(stage.at(name)), f"a shell has the launcher's environment: {name}")
+
+
 def end_all(launcher):
     """A shutdown that may wait for a job that heeds no TERM."""
     launcher.ask({"req": "shutdown"})
@@ -1064,12 +1143,12 @@ def end_all(launcher):
 
 # The longest is begun first.
 SCENES = [
-    a_client_still_for_a_minute, a_stream_at_a_fifo, clients_that_never_read, clients_of_a_slow_job, silent_clients_of_one_port, ends_that_cannot_be_seen, a_second_launcher,
+    a_client_still_for_a_minute, a_stream_at_a_fifo, clients_that_never_read, clients_of_a_slow_job, slow_clients_of_one_port, ends_that_cannot_be_seen, a_second_launcher,
     a_start_that_fails, spool_links_and_fifos, a_spool_that_others_may_write, another_ones_socket, many_at_a_stale_socket,
     a_lost_spool_file, closed_standard_streams, pipelined_settings, silent_clients_of_the_control_socket, no_descriptor_left,
-    settings_in_the_log, settings_of_the_first_version, limits_and_ignored_signals, private_files, a_journal_at_a_fifo,
+    settings_in_the_log, settings_of_the_first_version, limits_and_ignored_signals, private_files, a_journal_at_a_fifo, places_that_are_one_file,
     a_journal_that_may_not_grow, what_is_no_store, long_lines_and_headers, reasons_are_told, run_log,
-    a_standard_error_that_nobody_reads, an_end_beside_one_who_asks_on,
+    a_standard_error_that_nobody_reads, an_end_beside_one_who_asks_on, a_shell_for_one_term,
 ]
 
 
@@ -1189,12 +1268,13 @@ if __name__ == "__main__":
     import edge_scenes
     import job_scenes
     import client_scenes
+    import hung_scenes
     import user_scenes
     import word_scenes
     import scope_scenes
     edge_scenes.SCENES += [
         scene
-        for file in (job_scenes, client_scenes, user_scenes, word_scenes, scope_scenes)
+        for file in (hung_scenes, job_scenes, client_scenes, user_scenes, word_scenes, scope_scenes)
         for scene in file.SCENES
     ]
     sys.exit(edge_scenes.main())

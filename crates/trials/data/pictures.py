@@ -25,8 +25,17 @@ VOID = {"meta", "link", "br", "img", "hr", "rect", "path"}
 ROWLESS = {"declined.jsonl": 3}
 
 
+# Marks of direction, by which a label could turn the text around it (Bidi_Control of Unicode).
+DIRECTIONS = "\u061c\u200e\u200f\u202a\u202b\u202c\u202d\u202e\u2066\u2067\u2068\u2069"
+
+
+def shown_as(label):
+    """The label as every picture shows it: U+FFFD stands for a control character and for a mark of direction."""
+    return "".join("\ufffd" if unicodedata.category(c) == "Cc" or c in DIRECTIONS else c for c in label)
+
+
 def events_of(path):
-    """The header and the events of the whole lines; a line behind the header that is no JSON is left out."""
+    """The header and the events of the whole lines, each job as it is shown; a line behind the header that is no JSON is left out."""
     with open(path, "rb") as file:
         text = file.read()
     found = []
@@ -36,6 +45,9 @@ def events_of(path):
         except ValueError:
             if not found:
                 return None, []
+            continue
+        if isinstance(found[-1], dict) and isinstance(found[-1].get("job"), str):
+            found[-1]["job"] = shown_as(found[-1]["job"])
     return (found[0], found[1:]) if found and "ev" not in found[0] else (None, [])
 
 

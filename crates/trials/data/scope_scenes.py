@@ -9,10 +9,13 @@ A case begins with a line `=== NAME`; its parts follow, each behind a line of it
 """
 import json
 import os
+import pwd
 import re
+import socket
 import subprocess
+import tempfile
 
-from edge_scenes import BOUND, HERE, check, make, text_at
+from edge_scenes import BOUND, HERE, check, make, text_at, wait_for
 from pictures import faults_of
 
 # A case may look through years minute by minute.
@@ -44,7 +47,7 @@ class Case:
 
 def came(stage, folder, case):
     """What the program ends with and writes, in the folder of the case."""
-    around = {key: value for key, value in os.environ.items() if key not in ("JOBD_JOURNAL", "COLUMNS")}
+    around = {key: value for key, value in os.environ.items() if key not in ("JOBD_JOURNAL", "COLUMNS", "HOME")}
     around.update(line.split("=", 1) for line in case.lines("environment"))
     command = [*stage.given.jobscope, *case.lines("words")]
     try:
@@ -81,14 +84,201 @@ def jobscope_check(stage):
     play_cases(stage, "check")
 
 
+# ---- mistakes
+
+# The zone and the second in which the mistakes are made: its clock skips an hour on 31 March, and shows one twice on 27 October.
+IN_2026 = ("--zone", "XST-1XDT,J90/2,J300/3", "--now", "1795602000")
+
+# `FILE:LINE:COLUMN (KEYS): `
+FRONT = re.compile(r"^-(:\d+:\d+)?( \(\S*\))?: ")
+
+
+def checked(stage, text, folder):
+    """What `check -` says of the text, without the places."""
+    command = [*stage.given.jobscope, "check", *IN_2026, "-"]
+    ran = subprocess.run(command, cwd=folder, input=text.encode(), capture_output=True, timeout=LONGEST)
+    return [FRONT.sub("", line) for line in ran.stdout.decode().splitlines()]
+
+
+def parted(name):
+    """The cases of a file of `scope/`: of each the name, the text, and the lines behind `--- told`."""
+    for case in text_at(os.path.join(HERE, "scope", name)).split("=== ")[1:]:
+        title, _, rest = case.partition("\n")
+        text, _, told = rest.partition("\n--- told\n")
+        yield title, text, told
+
+
+def laid_out(folder):
+    """What definitions name: scripts that can't be started, a FIFO, and a socket that waits."""
+    for name, text in (("bare.sh", "echo\n"), ("crlf.sh", "#!/bin/sh\r\necho\r\n"), ("lost.sh", "#!/nowhere/interpreter\n")):
+        path = os.path.join(folder, name)
+        with open(path, "w", newline="") as file:
+            file.write(text)
+        os.chmod(path, 0o755)
+    os.mkfifo(os.path.join(folder, "fifo"))
+    waits = socket.socket(socket.AF_UNIX)
+    waits.bind(os.path.join(folder, "socket"))
+    waits.listen()
+    return waits
+
+
+def jobscope_mistakes(stage):
+    """`jobscope check` tells each of a hundred mistakes, as it was worded by hand."""
+    folder = os.path.join(stage.folder, "named")
+    os.mkdir(folder)
+    with laid_out(folder), socket.create_server(("127.0.0.1", 0)) as server:
+        port = str(server.getsockname()[1])
+        silent = []
+        for title, text, told in parted("mistakes"):
+            text, told = (part.replace("FOLDER", folder).replace("PORT}", f"{port}}}").replace("port PORT", f"port {port}") for part in (text, told))
+            lines = checked(stage, text, folder)
+            silent += [f"{title}: {line!r} is not among {lines}" for line in told.splitlines() if line not in lines]
+    check(not silent, "\n".join(silent))
+
+
+# What may be said of a definition of a package on a machine that has not installed it.
+LACKS = re.compile(
+    "warning: (nothing starts this job but |the program \\S* is not there$|the program is looked for in the job's PATH|"
+    "(WorkingDirectory|StandardInPath|StandardOutPath|StandardErrorPath|QueueDirectories|Sockets): \\S* is not there$)"
+)
+
+
+def jobscope_well(stage):
+    """`jobscope check` has no warning for definitions of packages, but of what is not on this machine."""
+    faults = []
+    for title, text, _ in parted("well"):
+        wrong = [line for line in checked(stage, text, stage.folder) if line.startswith(("warning", "error", "also")) and not LACKS.match(line)]
+        faults += [f"{title}: {line}" for line in wrong]
+    check(not faults, "\n".join(faults))
+
+
 def jobscope_cron(stage):
     """`jobscope cron` over lines of crontabs."""
     play_cases(stage, "cron")
 
 
+def a_line_too_long(stage):
+    """`why` tells what stands before a line that is too long, and that it is."""
+    lines = [HEADER, load_of("web"), '{"ev":"start","job":"web"}\n', " " * 262145 + "\n", '{"ev":"spawned","job":"web","run":1,"pid":5}\n']
+    path = make(stage.at("long"), "".join(lines))
+    ran = subprocess.run([*stage.given.jobscope, "why", "--journal", path], capture_output=True, timeout=BOUND, text=True)
+    told = f"jobscope: {path}: line 4: longer than 262144 bytes; told is what stands before it\n"
+    awaited = "The start of run 1 was ordered, and the answer is awaited."
+    check((ran.returncode, ran.stderr) == (65, told), f"a line too long got {ran.returncode} {ran.stderr!r}")
+    check(awaited in ran.stdout, f"before a line too long stood {ran.stdout!r}")
+
+
+def a_journal_put_aside(stage):
+    """`log -f` reads a journal that is put aside to its end, and goes on in the one that takes its place."""
+    path, shown = make(stage.at("followed"), HEADER + load_of("web")), stage.at("shown")
+    with open(shown, "w", encoding="utf-8") as out, open(path, "a", encoding="utf-8") as journal:
+        running = subprocess.Popen([*stage.given.jobscope, "log", "-f", "--journal", path], stdout=out, stderr=subprocess.DEVNULL)
+        try:
+            wait_for(lambda: "web: loaded" in text_at(shown), "the journal was not shown")
+            journal.write('{"ev":"start","job":"web"}\n')
+            journal.flush()
+            os.rename(path, stage.at("aside"))
+            make(path, HEADER.replace("1795611777", "1795611877") + load_of("mail"))
+            wait_for(lambda: "mail: loaded" in text_at(shown), "the journal that took its place was not shown")
+        finally:
+            running.kill()
+            running.wait()
+    check("web: start was asked" in text_at(shown), f"the end of the first journal is not in {text_at(shown)!r}")
+
+
+# The header of a journal in a zone without daylight saving, and the load of a job that nothing wants.
+HEADER = '{"up":0,"wall":1795611777,"zone":"CET-1"}\n'
+
+
+def load_of(label):
+    return json.dumps({"ev": "load", "def": json.dumps({"Label": label, "Program": "/bin/true"})}) + "\n"
+
+
+def ran(stage, words, given=b""):
+    """What the program ends with and writes, with no home folder in its environment."""
+    around = {key: value for key, value in os.environ.items() if key != "HOME"}
+    it = subprocess.run([*stage.given.jobscope, *words], env=around, input=given, capture_output=True, timeout=LONGEST)
+    return it.returncode, it.stdout.decode(), it.stderr.decode()
+
+
+# A file of `jobscope cron --into`: each key and member in a line of its own.
+LAID_OUT = """{
+  "Label": "cron.2.nightly",
+  "ProgramArguments": [
+    "/bin/sh",
+    "-c",
+    "tick"
+  ],
+  "StartCalendarInterval": [
+    {
+      "Minute": 30,
+      "Hour": 3
+    }
+  ]
+}
+"""
+
+
+def jobscope_cron_files(stage):
+    """`jobscope cron --into` makes a file of each definition and writes over none, and refuses what no load takes."""
+    with tempfile.TemporaryDirectory() as folder:
+        lines = b"# nightly\n30 3 * * * tick\n@reboot boot\n"
+        check((got := ran(stage, ["cron", "--into", folder, "-"], lines)) == (0, "", ""), f"cron --into: {got}")
+        names = sorted(os.listdir(folder))
+        check(names == ["cron.2.nightly.json", "cron.3.boot.json"], f"files: {names}")
+        check((text := text_at(f"{folder}/{names[0]}")) == LAID_OUT, f"laid out: {text!r}")
+        with open(f"{folder}/{names[1]}", "w", encoding="utf-8") as it:
+            it.write("mine")
+        os.remove(f"{folder}/{names[0]}")
+        status, output, error = ran(stage, ["cron", "--into", folder, "-"], lines)
+        check((status, output) == (65, "") and f"jobscope: {folder}/{names[1]}: " in error, f"over a file: {status} {output!r} {error!r}")
+        check(text_at(f"{folder}/{names[1]}") == "mine", "a file was written over")
+        check(os.path.exists(f"{folder}/{names[0]}"), "the others were not written")
+    check((got := ran(stage, ["cron", "--into", folder, "@daily tick"]))[0] == 65, f"a folder that is not there: {got}")
+    for length, status in ((4096, 0), (4097, 1)):
+        check((got := ran(stage, ["cron", "@daily " + "x" * length]))[0] == status, f"a command of {length} bytes: {got[0]}")
+        check((got := ran(stage, ["cron", "A=" + "x" * length, "@daily x"]))[0] == status, f"a variable of {length} bytes: {got[0]}")
+    check(got[2] == "cron:2: error: no load takes its definition: EnvironmentVariables: TooLong\n", f"a variable that is too long: {got[2]!r}")
+    got = ran(stage, ["cron", "-"], b"@daily a\0b\n")
+    check(got == (1, "", "cron:1: error: the command has a NUL byte, which no program's argument may have\n"), f"a NUL byte: {got}")
+    other = next((it for it in pwd.getpwall() if it.pw_uid and it.pw_dir.startswith("/")), None)
+    if other:
+        made = json.loads(ran(stage, ["cron", "--system", f"@daily {other.pw_name} tick"])[1])
+        check(made["ProgramArguments"][1:3] == [f"--reuid={other.pw_name}", f"--regid={other.pw_gid}"], f"another user: {made}")
+        check(made["WorkingDirectory"] == other.pw_dir == made["EnvironmentVariables"]["HOME"], f"another user's home: {made}")
+
+
+def jobscope_plist(stage):
+    """`jobscope plist` over property lists."""
+    play_cases(stage, "plist")
+
+
+def jobscope_plist_files(stage):
+    """`jobscope plist --into` makes a file of each list and writes over none; the bound of a list is that of a request."""
+    lists = os.path.join(HERE, "scope", "plist")
+    with tempfile.TemporaryDirectory() as folder:
+        words = ["plist", "--into", folder, f"{lists}/one.plist", f"{lists}/past.plist", f"{lists}/twice.plist"]
+        check((got := ran(stage, words))[:2] == (1, ""), f"plist --into: {got}")
+        check((names := sorted(os.listdir(folder))) == ["one.json", "twice.json"], f"files: {names}")
+        check((text := text_at(f"{folder}/one.json")) == '"a\\nb\\ncé"\n', f"one.json: {text!r}")
+        check((got := ran(stage, words[:4]))[0] == 65 and "one.json: " in got[2], f"over a file: {got}")
+        for count, status in ((262_144, 0), (262_145, 65)):
+            long = "x" * (count - len("<plist><string></string></plist>"))
+            with open(f"{folder}/long.plist", "w", encoding="utf-8") as it:
+                it.write(f"<plist><string>{long}</string></plist>")
+            check((got := ran(stage, ["plist", f"{folder}/long.plist"]))[0] == status, f"a list of {count} bytes: {got[0]}, {got[2]}")
+        deep = json.loads(ran(stage, ["plist", f"{lists}/deep_127.plist"])[1])
+        depth = 0
+        while deep is not None:
+            deep, depth = (deep[0] if deep else None), depth + 1
+        check(depth == 127, f"depth {depth}")
+
+
 def jobscope_journal(stage):
-    """`jobscope why`, `log`, `runs` and `picture` over journals."""
+    """`jobscope why`, `log`, `runs` and `picture` over journals; a line that is too long, and a journal that is put aside."""
     play_cases(stage, "journal")
+    a_line_too_long(stage)
+    a_journal_put_aside(stage)
 
 
 # Three jobs of which one lives, one is stopped by KILL, and runs that end by a code, by a signal and at once.
@@ -245,4 +435,17 @@ def zones_that_are_none(stage):
         check(replay.returncode == 2 and not replay.stdout, f"a replay with {zone} ended with {replay.returncode}, {replay.stdout!r}")
 
 
-SCENES = [jobscope_check, jobscope_cron, jobscope_journal, jobscope_next, jobscope_pictures, times_as_the_c_library_shows_them, zones_that_are_none]
+SCENES = [
+    jobscope_check,
+    jobscope_cron,
+    jobscope_cron_files,
+    jobscope_journal,
+    jobscope_mistakes,
+    jobscope_next,
+    jobscope_pictures,
+    jobscope_plist,
+    jobscope_plist_files,
+    jobscope_well,
+    times_as_the_c_library_shows_them,
+    zones_that_are_none,
+]

@@ -3,7 +3,7 @@
 use crate::edges::{control_stage, further_clients, memory, refused, system};
 use crate::memory_stage::Stage;
 use crate::parts::{definitions, exchange, feed, heap, lines, zones};
-use crate::rounds::{pair, refusals, step};
+use crate::rounds::{ends, pair, refusals, step};
 use crate::stores::{files, on_disks, stops};
 use crate::tables::{rows, visits};
 use crate::turns::{journals, launchers, openings};
@@ -27,6 +27,7 @@ pub enum Case {
     Refusing(&'static refused::Refused),
     System(&'static system::Scene),
     RefusedRounds,
+    Ends(&'static ends::Ends),
     Spared(&'static step::Stream),
     Stored(&'static on_disks::Listed<'static>),
     ManyStored,
@@ -63,6 +64,7 @@ fn goes(rt: &HostRuntime, case: &Case) -> bool {
         Case::Refusing(refused) => refused::is_so(rt, refused) == Some(true),
         Case::System(scene) => system::is_played(rt, scene) == Some(true),
         Case::RefusedRounds => refusals::are_taken(rt) == Some(true),
+        Case::Ends(ends) => ends::is_so(rt, ends) == Some(true),
         Case::Spared(stream) => pair::is_spared(alloc, stream) == Some(true),
         Case::Stored(listed) => on_disks::is_listed(alloc, listed),
         Case::ManyStored => on_disks::has_many(alloc) == Some(true),

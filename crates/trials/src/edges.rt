@@ -23,10 +23,7 @@ pub fn list() -> &'static [Line] {
 /// The cases of this folder.
 static LINES: &[Line] = &[
     ("each_round_serves_each_client", control_rows::CASES),
-    (
-        "the_longest_silent_goes_for_a_further_client",
-        further::CASES,
-    ),
+    ("the_first_goes_for_a_further_client", further::CASES),
     (
         "the_edge_in_memory_answers_by_its_script",
         &[

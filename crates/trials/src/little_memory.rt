@@ -4,6 +4,7 @@
 mod feeding;
 mod growing;
 mod hoard;
+mod looping;
 mod plain_calls;
 mod replaying;
 mod storing;
@@ -22,9 +23,11 @@ pub fn try_all(rt: &HostRuntime) -> Result<()> {
     let opening = storing::try_all(rt, &mut hoard, OwnFile { rt }, storing::OPENING);
     let storing = storing::try_all(rt, &mut hoard, InMemory {}, storing::CALLS);
     let turning = turning::try_all::<Stage>(rt, &mut hoard);
+    let looping = looping::try_making(rt, &mut hoard);
     drop(hoard);
     plain?;
     opening?;
     storing?;
-    turning
+    turning?;
+    looping
 }

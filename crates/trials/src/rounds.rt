@@ -1,5 +1,6 @@
-//! Rounds of the loop over an edge: refusals, and what may be left out.
+//! Rounds of the loop over an edge: refusals, the ends of real children, and what may be left out.
 
+pub mod ends;
 pub mod pair;
 pub mod refusals;
 pub mod step;
@@ -15,6 +16,15 @@ pub fn list() -> &'static [Line] {
 /// The cases of this folder.
 static LINES: &[Line] = &[
     ("refusals_are_taken_as_they_are", &[Case::RefusedRounds]),
+    ("two_jobs_run_at_once", &[Case::Ends(ends::AT_ONCE)]),
+    (
+        "children_end_by_a_code_by_term_and_by_kill",
+        &[
+            Case::Ends(ends::BY_CODE),
+            Case::Ends(ends::BY_TERM),
+            Case::Ends(ends::BY_KILL),
+        ],
+    ),
     (
         "an_interval_needs_no_reading_before_its_moment",
         &[Case::Spared(&streams::INTERVAL)],
@@ -38,5 +48,12 @@ static LINES: &[Line] = &[
     (
         "a_queue_directory_needs_no_equal_sight",
         &[Case::Spared(&streams::QUEUED)],
+    ),
+    (
+        "a_sleep_takes_no_time_to_end",
+        &[
+            Case::Spared(&streams::SLEEP),
+            Case::Spared(&streams::SLEEP_BESIDE_CALM),
+        ],
     ),
 ];

@@ -1,7 +1,9 @@
 //! What stands where a text is no JSON.
 
 use crate::check::finding::Place;
-use crate::check::place::{DEEPEST, begin_at, place_at, walked};
+use crate::check::outline::{DEEPEST, Mark, MarkKind, Outline, begin_at};
+use crate::check::place::place_at;
+use json_kinds::json_value;
 use run_times::Ink;
 use std::alloc::Global;
 
@@ -12,31 +14,68 @@ const BINARY: &str =
     "a binary property list; convert it with: python3 -c 'import plistlib,json,sys; json.dump(plistlib.load(sys.stdin.buffer),sys.stdout)' < FILE > FILE.json";
 
 /// Adds what stands at the first byte that is no JSON, and answers its place.
-pub(crate) fn put_broken(alloc: Global, ink: &mut Ink, bytes: &[u8]) -> Option<Place> {
-    let (place, told) = match std::str::from_utf8(bytes) {
-        _ if bytes.starts_with(b"bplist") => (None, BINARY),
-        Err(_) => (None, "the file is not UTF-8"),
-        Ok(text) => match walked(alloc, text, &[], 0) {
-            Ok(walk) if walk.depth > DEEPEST => {
-                (None, "the values are nested more than 127 levels deep")
-            }
-            Ok(walk) => {
-                let offset = walk.bad.unwrap_or(text.len());
-                let (at, told) = told_at(bytes, offset, begin_at(text, 0));
-                (Some(place_at(text, at)), told)
-            }
-            Err(_) => {
-                ink.refuse();
-                (None, "")
-            }
-        },
+pub(crate) fn put_broken(
+    alloc: Global,
+    ink: &mut Ink,
+    bytes: &[u8],
+    outline: &Outline,
+) -> Option<Place> {
+    if bytes.starts_with(b"bplist") {
+        ink.put(BINARY);
+        return None;
+    }
+    let Ok(text) = std::str::from_utf8(bytes) else {
+        ink.put("the file is not UTF-8");
+        return None;
+    };
+    if outline.depth > DEEPEST {
+        ink.put("the values are nested more than 127 levels deep");
+        return None;
+    }
+    let (at, told) = match outline.bad {
+        Some(offset) => told_at(bytes, offset, begin_at(text, 0), outline.is_whole),
+        None if outline.is_whole => (
+            number_in(alloc, ink, text, outline.marks.as_slice()),
+            "a number that is too great to be read",
+        ),
+        None => told_at(bytes, text.len(), begin_at(text, 0), false),
     };
     ink.put(told);
-    place
+    Some(place_at(text, at))
+}
+
+// Where the first number begins that alone is no JSON: one past each bound.
+fn number_in(alloc: Global, ink: &mut Ink, text: &str, marks: &[Mark]) -> usize {
+    for mark in marks {
+        if let MarkKind::Plain = mark.kind {
+            match json_value(alloc, number_at(text, mark.at).as_bytes()) {
+                Ok(Some(read)) => drop(read),
+                Ok(None) => return mark.at,
+                Err(_) => ink.refuse(),
+            }
+        }
+    }
+    0
+}
+
+// The number that begins there; 0, if none does.
+fn number_at(text: &str, at: usize) -> &str {
+    let mut end = at;
+    for byte in text.as_bytes().get(at..).unwrap_or(&[]) {
+        match *byte {
+            b'0'..=b'9' | b'+' | b'-' | b'.' | b'e' | b'E' => end = end.saturating_add(1),
+            _ => break,
+        }
+    }
+    match text.get(at..end) {
+        Some(number) if !number.is_empty() => number,
+        _ => "0",
+    }
 }
 
 // The place that is told, and what stands there: the text is bad at the offset, and its first byte that is no blank stands at `first`.
-fn told_at(bytes: &[u8], offset: usize, first: usize) -> (usize, &'static str) {
+// Whether a whole value stands before the offset is handed in.
+fn told_at(bytes: &[u8], offset: usize, first: usize, is_whole: bool) -> (usize, &'static str) {
     let Some(byte) = bytes.get(first) else {
         return (0, "the file is empty");
     };
@@ -47,9 +86,13 @@ fn told_at(bytes: &[u8], offset: usize, first: usize) -> (usize, &'static str) {
         return (0, "a byte order mark; write the file without one");
     }
     let Some(found) = bytes.get(offset) else {
-        return (offset, "the text ends before its last bracket is closed");
+        return told_at_end(bytes, offset, is_whole);
     };
     match *found {
+        b'{' if is_whole => (
+            offset,
+            "a second definition begins here; a file has one, so write each to a file of its own",
+        ),
         b'}' | b']' => match comma_before(bytes, offset) {
             Some(comma) => (
                 comma,
@@ -62,6 +105,17 @@ fn told_at(bytes: &[u8], offset: usize, first: usize) -> (usize, &'static str) {
         },
         b',' => (offset, "this comma follows no value"),
         other => (offset, told_of(other)),
+    }
+}
+
+// The same where the text ends: a comma is wrong behind a whole value.
+fn told_at_end(bytes: &[u8], end: usize, is_whole: bool) -> (usize, &'static str) {
+    match comma_before(bytes, end) {
+        Some(comma) if is_whole => (
+            comma,
+            "a comma behind the last bracket; nothing stands behind it in JSON",
+        ),
+        _ => (end, "the text ends before its last bracket is closed"),
     }
 }
 

@@ -1,4 +1,4 @@
-//! The minutes that a clock skips in a year, or shows twice.
+//! The minutes that a clock skips in the coming year, or shows twice.
 
 use calendar_due::Zone;
 use history_model::{CivilMinute, MAX_WALL};
@@ -13,26 +13,22 @@ pub struct Change {
 
 const HOUR: u64 = 3_600;
 
-/// A leap year and a day, in seconds: no second of a civil year is farther from another.
-const YEAR: u64 = 31_708_800;
-
-/// How many hours are looked at: those of such a year before and of one after.
-const HOURS: u64 = 17_616;
+/// How many hours are looked at: those of a leap year, so of twelve months.
+const HOURS: u64 = 8_784;
 
 const DAY: u32 = 1_440;
 
-/// The changes of the zone's clock in the civil year that it shows at the second `now` of Unix time, in the order of time. A change
+/// The changes of the zone's clock in the twelve months from the second `now` of Unix time on, in the order of time. A change
 /// by a whole day is not seen, nor are two in one hour that make up for one another.
-pub fn changes_in_year(alloc: Global, zone: &Zone, now: u64) -> Result<Vec<Change>, AllocError> {
-    let year = shown_at(zone, now).year;
-    let first = now.saturating_sub(YEAR) / HOUR;
+pub fn changes_ahead(alloc: Global, zone: &Zone, now: u64) -> Result<Vec<Change>, AllocError> {
+    let first = now / HOUR;
     let mut changes = Vec::new(alloc);
     let mut before = shown_at(zone, first.saturating_mul(HOUR));
     for k in 0..HOURS {
         let from = first.saturating_add(k).saturating_mul(HOUR);
         let after = shown_at(zone, from.saturating_add(HOUR));
         if jump(&before, &after, 60) != 0 {
-            add_changes(alloc, zone, year, from, &mut changes)?;
+            add_changes(alloc, zone, from, &mut changes)?;
         }
         before = after;
     }
@@ -57,11 +53,10 @@ fn jump(before: &CivilMinute, after: &CivilMinute, minutes: u32) -> u32 {
         % DAY
 }
 
-// Adds the changes in the year within the hour from there on.
+// Adds the changes within the hour from there on.
 fn add_changes(
     alloc: Global,
     zone: &Zone,
-    year: i16,
     from: u64,
     changes: &mut Vec<Change>,
 ) -> Result<(), AllocError> {
@@ -69,7 +64,7 @@ fn add_changes(
     for k in 1..61 {
         let after = shown_at(zone, from.saturating_add(60_u64.saturating_mul(k)));
         let ahead = jump(&before, &after, 1);
-        if ahead != 0 && after.year == year {
+        if ahead != 0 {
             add_change(alloc, changes, &before, &after, ahead)?;
         }
         before = after;

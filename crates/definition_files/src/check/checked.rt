@@ -1,12 +1,17 @@
 //! The check of a definition's bytes.
 
-ghost use Rattle.std.specs.Prelude.{IfOk};
+ghost use Rattle.std.specs.Prelude.{◌≡◌, ℕ, List, Ok, Err, IfOk};
+ghost use Rattle.json_kinds.specs.DefFaults.{bad};
+ghost use Rattle.job_defs.specs.Keys.{def_of};
 ghost use Rattle.definition_files.specs.Verdict.{IsVerdict};
 
 use crate::check::changes::Change;
 use crate::check::conduct::remarks_on;
 use crate::check::finding::{Place, Remark};
+use crate::check::mistakes::{Mistake, mistakes_in};
+use crate::check::outline::{Outline, outline_of};
 use crate::check::refusal::put_refusal;
+use crate::check::remarks::Remarks;
 use history_model::{KeyName, Reason};
 use job_defs::{Def, DefFault, read_def};
 use run_times::Ink;
@@ -15,17 +20,19 @@ use std::alloc::{AllocError, Global};
 /// What a load would say of a definition.
 #[derive(Drop)]
 pub enum Checked {
-    /// It is read; these remarks are no faults.
+    /// It is read, and has these mistakes; the remarks tell them, and what else may be wrong.
     Loads {
         def: Def,
+        mistakes: Vec<Mistake>,
         remarks: Vec<Remark>,
     },
-    /// It is refused for this reason, at this key; the text says so to people.
+    /// It is refused for this reason, at this key; the text says so to people. The further remarks tell what else is wrong.
     Refused {
         reason: Reason,
         key: KeyName,
         place: Option<Place>,
         text: String,
+        further: Vec<Remark>,
     },
 }
 
@@ -35,27 +42,75 @@ pub enum Checked {
 pub fn check_def(alloc: Global, bytes: &[u8], changes: &[Change]) -> Result<Checked, AllocError>
     ensures { IfOk result (λ checked. IsVerdict bytes.now checked) }
 {
-    match read_def(alloc, bytes) {
-        Ok(def) => match remarks_on(alloc, bytes, &def, changes) {
-            Ok(remarks) => Ok(Checked::Loads { def, remarks }),
-            Err(error) => {
-                drop(def);
-                Err(error)
-            }
-        },
-        Err(DefFault::Bad { reason, key }) => {
-            let mut ink = Ink::new(alloc);
-            let place = put_refusal(alloc, &mut ink, bytes, reason, key);
-            match ink.into_text() {
-                Ok(text) => Ok(Checked::Refused {
-                    reason,
-                    key,
-                    place,
-                    text,
-                }),
-                Err(error) => Err(error),
-            }
-        }
+    let text = std::str::from_utf8(bytes).unwrap_or("");
+    let outline = outline_of(alloc, text)?;
+    let checked = match read_def(alloc, bytes) {
+        Ok(def) => loads(alloc, text, &outline, def, changes),
+        Err(DefFault::Bad { reason, key }) => refused(alloc, bytes, text, &outline, reason, key),
         Err(DefFault::NoMemory) => Err(AllocError),
+    };
+    drop(outline);
+    checked
+}
+
+// The definition with its mistakes, and what is said of it.
+fn loads(
+    alloc: Global,
+    text: &str,
+    outline: &Outline,
+    def: Def,
+    changes: &[Change],
+) -> Result<Checked, AllocError>
+    ensures { IfOk result (λ checked. (bytes : List ℕ) → def_of bytes ≡ Ok def → IsVerdict bytes checked) }
+{
+    let mistakes = match mistakes_in(alloc, &def) {
+        Ok(mistakes) => mistakes,
+        Err(error) => {
+            drop(def);
+            return Err(error);
+        }
+    };
+    let remarks = Remarks::new(alloc, text, outline.marks.as_slice());
+    match remarks_on(&def, mistakes.as_slice(), changes, remarks) {
+        Ok(remarks) => Ok(Checked::Loads {
+            def,
+            mistakes,
+            remarks,
+        }),
+        Err(error) => {
+            drop(mistakes);
+            drop(def);
+            Err(error)
+        }
+    }
+}
+
+// The refusal for this reason at this key, and what is said of it.
+fn refused(
+    alloc: Global,
+    bytes: &[u8],
+    text: &str,
+    outline: &Outline,
+    reason: Reason,
+    key: KeyName,
+) -> Result<Checked, AllocError>
+    ensures { IfOk result (λ checked. def_of bytes.now ≡ Err (bad reason key) → IsVerdict bytes.now checked) }
+{
+    let mut ink = Ink::new(alloc);
+    let mut remarks = Remarks::new(alloc, text, outline.marks.as_slice());
+    let place = put_refusal(&mut ink, bytes, outline, reason, key, &mut remarks);
+    match (ink.into_text(), remarks.into_list()) {
+        (Ok(text), Ok(further)) => Ok(Checked::Refused {
+            reason,
+            key,
+            place,
+            text,
+            further,
+        }),
+        (text, further) => {
+            drop(text);
+            drop(further);
+            Err(AllocError)
+        }
     }
 }

@@ -1,12 +1,13 @@
-//! Which value of a key has the fault.
+//! Which values of a key have a fault.
 
+use crate::check::fit::{Around, fits};
 use crate::check::rules::{Fit, Inside, Rule, VARIABLE, inside_of, rule_of};
 use history_model::KeyName;
 use json_kinds::kinds::members_or_one_of;
-use json_kinds::names::{PATH_NAME, SERVICE_NAME};
 use serde_json::Value;
+use std::alloc::Global;
 
-/// The value that has the fault: the rule that it breaks, and where it stands below its key.
+/// A value that has a fault: the rule that it breaks, and where it stands below its key.
 #[derive(Clone, Copy, Drop)]
 pub(crate) struct Culprit<'a> {
     /// How many of these steps lead to it: the key, the member, the key within, the socket, the key of that.
@@ -18,42 +19,78 @@ pub(crate) struct Culprit<'a> {
     pub(crate) rule: Rule,
 }
 
-/// The first value at or below the key's value that does not fit, or the key's value itself.
-pub(crate) fn culprit_in(value: &Value, key: KeyName) -> Culprit<'_> {
-    let whole = Culprit {
+/// The values with a fault, in the order in which a load looks at them.
+#[derive(Drop)]
+pub(crate) struct Culprits<'a> {
+    pub(crate) list: Vec<Culprit<'a>>,
+    pub(crate) is_refused: bool,
+}
+
+impl<'a> Culprits<'a> {
+    fn add(&mut self, culprit: Culprit<'a>) {
+        let is_kept = self.list.push(culprit).is_ok();
+        self.is_refused = self.is_refused || !is_kept;
+    }
+}
+
+/// The key's value as a whole, with the rule for it.
+pub(crate) fn whole_of(value: &Value, key: KeyName) -> Culprit<'_> {
+    Culprit {
         steps: 1,
         member: 0,
         inside: "",
         socket: 0,
         value,
         rule: rule_of(key),
-    };
-    let inside = inside_of(key);
-    if !fits(whole.rule.fit, value) {
-        return whole;
-    }
-    match key {
-        KeyName::EnvironmentVariables => in_variables(whole),
-        KeyName::Sockets => in_sockets(whole, &inside),
-        _ => match in_items(value, &inside) {
-            Some((member, found, rule)) => Culprit {
-                steps: if rule.name.is_empty() { 2 } else { 3 },
-                member,
-                inside: rule.name,
-                socket: 0,
-                value: found,
-                rule,
-            },
-            None => whole,
-        },
     }
 }
 
-// The first item that breaks a rule, with the value that does; none, if the items of an array are too many.
-fn in_items<'a>(value: &'a Value, inside: &Inside) -> Option<(usize, &'a Value, Rule)> {
-    let items = members_or_one_of(value);
-    if items.len() > inside.most && value.is_array() {
-        return None;
+// What the value of a key is to be beside the others.
+fn rule_beside(key: KeyName, around: &Around) -> Rule {
+    let rule = rule_of(key);
+    match key {
+        KeyName::InetdCompatibility if around.has_sockets => Rule {
+            fit: Fit::Waiting,
+            ..rule
+        },
+        _ => rule,
+    }
+}
+
+/// The values at or below the key's value that do not fit.
+pub(crate) fn culprits_in<'a>(
+    alloc: Global,
+    value: &'a Value,
+    key: KeyName,
+    around: &Around,
+) -> Culprits<'a> {
+    let mut culprits = Culprits {
+        list: Vec::new(alloc),
+        is_refused: false,
+    };
+    let whole = Culprit {
+        rule: rule_beside(key, around),
+        ..whole_of(value, key)
+    };
+    let inside = inside_of(key, around);
+    if !fits(whole.rule.fit, value) {
+        culprits.add(whole);
+        return culprits;
+    }
+    match key {
+        KeyName::EnvironmentVariables => add_variables(whole, &mut culprits),
+        KeyName::Sockets => add_sockets(whole, &inside, &mut culprits),
+        _ => add_items(whole, &inside, &mut culprits),
+    }
+    culprits
+}
+
+// Adds the items below the value that break a rule; the value itself, if it has too many.
+fn add_items<'a>(of: Culprit<'a>, inside: &Inside, culprits: &mut Culprits<'a>) {
+    let items = members_or_one_of(of.value);
+    if items.len() > inside.most && of.value.is_array() {
+        culprits.add(of);
+        return;
     }
     for (index, item) in items.iter().enumerate() {
         let rules = if index == 0 {
@@ -61,121 +98,89 @@ fn in_items<'a>(value: &'a Value, inside: &Inside) -> Option<(usize, &'a Value, 
         } else {
             inside.others
         };
-        if let Some((found, rule)) = in_item(item, rules) {
-            return Some((index, found, rule));
-        }
+        add_item(of, index, item, rules, culprits);
     }
-    None
 }
 
-fn in_item<'a>(item: &'a Value, rules: &[Rule]) -> Option<(&'a Value, Rule)> {
+// Adds what of the item breaks the rules: of one that is not of its kind, that alone.
+fn add_item<'a>(
+    of: Culprit<'a>,
+    index: usize,
+    item: &'a Value,
+    rules: &[Rule],
+    culprits: &mut Culprits<'a>,
+) {
     for rule in rules {
-        let found = if rule.name.is_empty() {
+        let is_own = rule.name.is_empty();
+        let found = if is_own {
             Some(item)
         } else {
             item.get(rule.name)
         };
         match found {
-            Some(found) if !fits(rule.fit, found) => return Some((found, *rule)),
+            Some(value) if !fits(rule.fit, value) => {
+                culprits.add(below(of, index, value, *rule));
+                if is_own {
+                    return;
+                }
+            }
             _ => {}
         }
     }
-    None
+}
+
+// The value below this one that breaks the rule.
+fn below<'a>(of: Culprit<'a>, index: usize, value: &'a Value, rule: Rule) -> Culprit<'a> {
+    if of.steps == 3 {
+        return Culprit {
+            steps: 5,
+            socket: index,
+            value,
+            rule,
+            ..of
+        };
+    }
+    Culprit {
+        steps: if rule.name.is_empty() { 2 } else { 3 },
+        member: index,
+        inside: rule.name,
+        socket: 0,
+        value,
+        rule,
+    }
 }
 
 // A variable that is no text is left out, and so no fault.
-fn in_variables(whole: Culprit<'_>) -> Culprit<'_> {
+fn add_variables<'a>(whole: Culprit<'a>, culprits: &mut Culprits<'a>) {
     if let Value::Object(members) = whole.value {
         for (name, found) in members.iter() {
             let is_name = !name.is_empty() && name.len() <= 255 && !name.as_str().contains('=');
             if !is_name || (found.is_string() && !fits(VARIABLE.fit, found)) {
-                return Culprit {
-                    steps: 3,
-                    member: 0,
-                    inside: name.as_str(),
-                    socket: 0,
-                    value: found,
-                    rule: VARIABLE,
-                };
+                culprits.add(under(whole, name.as_str(), found, VARIABLE));
             }
         }
     }
-    whole
 }
 
-// The first socket that breaks a rule: itself, if it is no dictionary, or has neither a path nor a port.
-fn in_sockets<'a>(whole: Culprit<'a>, inside: &Inside) -> Culprit<'a> {
+fn under<'a>(whole: Culprit<'a>, inside: &'a str, value: &'a Value, rule: Rule) -> Culprit<'a> {
+    Culprit {
+        steps: 3,
+        inside,
+        value,
+        rule,
+        ..whole
+    }
+}
+
+// Adds what of the sockets breaks a rule: a socket itself, if it is no dictionary, or has neither a path nor a port.
+fn add_sockets<'a>(whole: Culprit<'a>, inside: &Inside, culprits: &mut Culprits<'a>) {
     if let Value::Object(members) = whole.value {
         for (name, found) in members.iter() {
-            if let Some((socket, found, rule)) = in_items(found, inside) {
-                return Culprit {
-                    steps: 5,
-                    member: 0,
-                    inside: name.as_str(),
-                    socket,
-                    value: found,
-                    rule,
-                };
-            }
+            add_items(
+                under(whole, name.as_str(), found, whole.rule),
+                inside,
+                culprits,
+            );
         }
     }
-    whole
-}
-
-fn fits(fit: Fit, value: &Value) -> bool {
-    let text = value.as_str().unwrap_or("");
-    let size = text.len();
-    // Beyond each bound, if it is no whole number.
-    let number = value.as_u64().unwrap_or(u64::MAX);
-    match fit {
-        Fit::Any => true,
-        Fit::Nothing => false,
-        Fit::Flag => value.is_boolean(),
-        Fit::True => value.as_bool().unwrap_or(false),
-        Fit::Number(low, high) => low <= number && number <= high,
-        Fit::Text(low, high) => {
-            value.is_string() && low <= size && size <= high && !text.as_bytes().contains(&0)
-        }
-        Fit::Either(one, other) => text == one || text == other,
-        Fit::Array(most) => match value.as_array() {
-            Some(items) => items.len() <= most,
-            None => false,
-        },
-        Fit::Dictionary(most) => match value.as_object() {
-            Some(members) => members.len() <= most,
-            None => false,
-        },
-        Fit::Address => value.get(PATH_NAME).is_some() || value.get(SERVICE_NAME).is_some(),
-        Fit::Host => is_host(text),
-        Fit::Port => {
-            let is_text = is_number(text, 5, 65_535) && !is_number(text, 5, 0);
-            is_text || (1 <= number && number <= 65_535)
-        }
-    }
-}
-
-fn is_host(text: &str) -> bool {
-    let mut count: usize = 0;
-    let mut is_well = true;
-    for part in text.split('.') {
-        count = count.saturating_add(1);
-        is_well = is_well && is_number(part, 3, 255);
-    }
-    text == "localhost" || (is_well && count == 4)
-}
-
-// Whether the text is 1 to `digits` decimal digits of a number up to `most`.
-fn is_number(text: &str, digits: usize, most: u32) -> bool {
-    if text.is_empty() || text.len() > digits {
-        return false;
-    }
-    let mut value: u32 = 0;
-    for byte in text.as_bytes() {
-        if !byte.is_ascii_digit() {
-            return false;
-        }
-        let digit = u32::from(byte.saturating_sub(b'0'));
-        value = value.saturating_mul(10).saturating_add(digit);
-    }
-    value <= most
 }

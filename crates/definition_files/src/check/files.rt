@@ -4,10 +4,12 @@ ghost use Rattle.std.specs.Prelude.{◌≡◌, IfOk};
 ghost use Rattle.job_defs.specs.Keys.{def_of};
 ghost use Rattle.definition_files.specs.Reads.{AreVerdicts, IsCheckStatus, Reads, ReadsOne, load_verdict};
 
-use crate::check::there::{add_missing, add_warning};
-use crate::check::{
-    Change, Checked, Grade, Remark, changes_in_year, check_def, finding_line, summary_of,
-};
+use crate::check::lines::{Lines, lines_of};
+use crate::check::outline::outline_of;
+use crate::check::remarks::Remarks;
+use crate::check::sockets::add_sockets;
+use crate::check::there::add_missing;
+use crate::check::{Change, Checked, Grade, Remark, changes_ahead, check_def, summary_of};
 use crate::files::{Asked, Contents, DefinitionSource};
 use crate::verdict::{Verdict, Verdicts};
 use files_and_process::path_files::Found;
@@ -25,11 +27,12 @@ struct Findings {
     /// The labels so far, each with the file that has it.
     labels: Vec<(String, String)>,
     has_warnings: bool,
+    has_calendars: bool,
 }
 
 /// For each of the files a line if all is well with its definition, else a line for each finding. Each is read once. The status is 0 if
 /// all would be read by a load; 1 if one would not, or if one has a warning and the check is strict; 65 if a file can't be read. In the
-/// zone the entries of calendars are looked at, a year on from the second.
+/// zone the entries of calendars are looked at, twelve months on from the second.
 pub fn check_files<S: DefinitionSource>(
     host: &HostRuntime,
     alloc: Global,
@@ -41,11 +44,12 @@ pub fn check_files<S: DefinitionSource>(
     ensures status { IfOk result (λ outcome. Reads files.now
         (IsCheckStatus is_strict outcome.status) (S.told source.old) (S.told source.new)) }
 {
-    let changes = changes_in_year(alloc, of.zone, of.from)?;
+    let changes = changes_ahead(alloc, of.zone, of.from)?;
     let mut findings = Findings {
         ink: Ink::new(alloc),
         labels: Vec::new(alloc),
         has_warnings: false,
+        has_calendars: false,
     };
     let checked = check_each(
         host,
@@ -60,7 +64,12 @@ pub fn check_files<S: DefinitionSource>(
     match checked {
         Ok(verdicts) => {
             let is_warned = is_strict && findings.has_warnings;
-            outcome_of(findings, verdicts.check_status(is_warned))
+            outcome_of(
+                alloc,
+                findings,
+                of.zone_line,
+                verdicts.check_status(is_warned),
+            )
         }
         Err(error) => {
             drop(findings);
@@ -69,13 +78,28 @@ pub fn check_files<S: DefinitionSource>(
     }
 }
 
-// What a check came to, with this exit status.
-fn outcome_of(findings: Findings, status: u8) -> Result<Outcome, AllocError>
+// What a check came to, with this exit status. The zone is named first, if some definition has a calendar.
+fn outcome_of(
+    alloc: Global,
+    findings: Findings,
+    zone_line: &str,
+    status: u8,
+) -> Result<Outcome, AllocError>
     ensures { IfOk result (λ outcome. outcome.status ≡ status) }
 {
-    let Findings { ink, labels, .. } = findings;
+    let Findings {
+        ink,
+        labels,
+        has_calendars,
+        ..
+    } = findings;
     drop(labels);
-    match ink.into_text() {
+    let mut all = Ink::new(alloc);
+    if has_calendars {
+        all.put(zone_line);
+    }
+    all.put_made(ink.into_text());
+    match all.into_text() {
         Ok(text) => Ok(Outcome { text, status }),
         Err(error) => Err(error),
     }
@@ -139,8 +163,13 @@ fn check_bytes(
     ensures { IfOk result (λ verdict. verdict ≡ load_verdict (def_of bytes.now)) }
 {
     match check_def(alloc, bytes, changes)? {
-        Checked::Loads { def, mut remarks } => {
-            let added = add_definition(host, alloc, path, bytes, &def, &mut remarks, findings);
+        Checked::Loads {
+            def,
+            mistakes,
+            remarks,
+        } => {
+            drop(mistakes);
+            let added = add_definition(host, alloc, path, bytes, &def, &remarks, findings);
             drop(remarks);
             drop(def);
             match added {
@@ -148,9 +177,16 @@ fn check_bytes(
                 Err(error) => Err(error),
             }
         }
-        Checked::Refused { place, text, .. } => {
-            let line = finding_line(alloc, path, place, Grade::Error, text.as_str());
-            findings.ink.put_made(line);
+        Checked::Refused {
+            place,
+            text,
+            further,
+            ..
+        } => {
+            let lines = lines_of(alloc, path, bytes);
+            lines.put(place, Grade::Error, text.as_str(), &mut findings.ink);
+            lines.put_all(further.as_slice(), &mut findings.ink);
+            drop(lines);
             Ok(Verdict::Refused)
         }
     }
@@ -163,34 +199,46 @@ fn add_definition(
     path: &str,
     bytes: &[u8],
     def: &Def,
-    remarks: &mut Vec<Remark>,
+    remarks: &[Remark],
     findings: &mut Findings,
 ) -> Result<(), AllocError> {
-    add_missing(host, alloc, bytes, def, remarks)?;
-    add_label(alloc, bytes, path, def, findings, remarks)?;
-    add_loading(alloc, path, def, remarks.as_slice(), findings);
-    Ok(())
+    let lines = lines_of(alloc, path, bytes);
+    let mut outside = Remarks::new(alloc, lines.text, lines.marks());
+    add_missing(host, def, &mut outside);
+    add_sockets(host, def, &mut outside);
+    add_label(alloc, path, def, findings, &mut outside);
+    let told = match outside.into_list() {
+        Ok(outside) => {
+            add_loading(alloc, def, &lines, remarks, outside.as_slice(), findings);
+            drop(outside);
+            Ok(())
+        }
+        Err(error) => Err(error),
+    };
+    drop(lines);
+    told
 }
 
-// Adds a remark if a file before has the same label, and keeps the label.
+// Adds a warning if a file before has the same label, and keeps the label.
 fn add_label(
     alloc: Global,
-    bytes: &[u8],
     path: &str,
     def: &Def,
     findings: &mut Findings,
-    remarks: &mut Vec<Remark>,
-) -> Result<(), AllocError> {
+    remarks: &mut Remarks<'_>,
+) {
     match path_with(findings.labels.as_slice(), def.label()) {
-        Some(other) => {
-            let told = [
-                Text("Label: "),
-                Text(other),
-                Text(" has this label too; only one of them can be loaded"),
-            ];
-            add_warning(alloc, bytes, KeyName::Label, &told, remarks)
+        Some(other) => remarks.add(
+            Grade::Warning,
+            KeyName::Label,
+            "Label: $ has this label too; only one of them can be loaded",
+            &[Text(other)],
+        ),
+        None => {
+            if keep_label(alloc, path, def.label(), findings).is_err() {
+                remarks.refuse();
+            }
         }
-        None => keep_label(alloc, path, def.label(), findings),
     }
 }
 
@@ -220,20 +268,25 @@ fn path_with<'a>(labels: &'a [(String, String)], label: &str) -> Option<&'a str>
 }
 
 // Adds the lines of a definition that loads: that it is well, if there is no warning, and its remarks.
-fn add_loading(alloc: Global, path: &str, def: &Def, remarks: &[Remark], findings: &mut Findings) {
-    if has_warning(remarks) {
+fn add_loading(
+    alloc: Global,
+    def: &Def,
+    lines: &Lines<'_>,
+    remarks: &[Remark],
+    outside: &[Remark],
+    findings: &mut Findings,
+) {
+    findings.has_calendars = findings.has_calendars || !def.calendar().is_empty();
+    if has_warning(remarks) || has_warning(outside) {
         findings.has_warnings = true;
     } else {
-        findings.ink.put(path);
+        findings.ink.put_plain(lines.path);
         findings.ink.put(": ");
         findings.ink.put_made(summary_of(alloc, def));
         findings.ink.put("\n");
     }
-    for remark in remarks {
-        let told = remark.text.as_str();
-        let line = finding_line(alloc, path, remark.place, remark.grade, told);
-        findings.ink.put_made(line);
-    }
+    lines.put_all(remarks, &mut findings.ink);
+    lines.put_all(outside, &mut findings.ink);
 }
 
 fn has_warning(remarks: &[Remark]) -> bool {

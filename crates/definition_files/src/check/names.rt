@@ -1,7 +1,7 @@
 //! Keys that nothing acts on, and the key that is meant.
 
 use crate::check::finding::{Grade, Place};
-use crate::check::place::{Step, place_by};
+use crate::check::place::{Step, place_at, place_by, reached_by};
 use crate::check::remarks::Remarks;
 use json_kinds::key_name;
 use json_kinds::names::{
@@ -10,7 +10,7 @@ use json_kinds::names::{
 };
 use run_times::Ink;
 use run_times::Piece::Text;
-use std::alloc::{AllocError, Global};
+use std::alloc::Global;
 use strsim::levenshtein;
 
 const INNER: &[&str] = &[
@@ -41,28 +41,55 @@ pub(crate) fn add_ignored(remarks: &mut Remarks<'_>, name: &str) {
         ink.fill("; is $ meant?", &[Text(nearest.key)]);
     }
     ink.is_refused = ink.is_refused || nearest.is_refused;
-    let place = key_place(remarks.alloc, remarks.text, name);
+    let place = key_place(remarks, name);
     remarks.push(place, Grade::Warning, ink.into_text());
 }
 
-// Where the key of this name stands: one of the definition itself, or an inner one.
-fn key_place(alloc: Global, text: &str, name: &str) -> Result<Option<Place>, AllocError> {
+/// A calendar has at most so many entries; sockets are fewer.
+const MOST_MEMBERS: usize = 64;
+
+// Where the key of this name stands: one of the definition itself, or an inner one, in the first member that has it.
+fn key_place(remarks: &Remarks<'_>, name: &str) -> Option<Place> {
+    let own = place_by(remarks.text, remarks.marks, &[Step::Key(name)], true);
+    if own.is_some() {
+        return own;
+    }
     let (key, rest) = name.split_once('.').unwrap_or((name, ""));
-    // Of a socket's key the socket's name stands between.
+    for index in 0..MOST_MEMBERS {
+        let place = inner_place(remarks, key, rest, index);
+        if place.is_some() {
+            return place;
+        }
+    }
+    None
+}
+
+// Where the inner key stands in the member of this index. Of a socket's key the socket's name stands between.
+fn inner_place<'a>(
+    remarks: &Remarks<'_>,
+    key: &'a str,
+    rest: &'a str,
+    index: usize,
+) -> Option<Place> {
     let (inner, last, count) = match rest.rsplit_once('.') {
         Some((socket, last)) => (socket, last, 5),
         None => (rest, "", 3),
     };
     let way = [
         Step::Key(key),
-        Step::Member(0),
+        Step::Member(if count == 3 { index } else { 0 }),
         Step::Key(inner),
-        Step::Member(0),
+        Step::Member(index),
         Step::Key(last),
     ];
-    match place_by(alloc, text, &[Step::Key(name)], true) {
-        Ok(None) => place_by(alloc, text, way.get(..count).unwrap_or(&way), true),
-        found => found,
+    let reached = reached_by(
+        remarks.text,
+        remarks.marks,
+        way.get(..count).unwrap_or(&way),
+    );
+    match remarks.marks.get(reached.key) {
+        Some(mark) if reached.gone == count => Some(place_at(remarks.text, mark.at)),
+        _ => None,
     }
 }
 

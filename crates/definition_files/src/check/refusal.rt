@@ -1,9 +1,13 @@
 //! Why a definition is refused, in words for people.
 
 use crate::check::broken::put_broken;
-use crate::check::culprit::{Culprit, culprit_in};
+use crate::check::culprit::{Culprit, culprits_in, whole_of};
 use crate::check::finding::Place;
-use crate::check::place::{Step, begin_at, place_at, place_by};
+use crate::check::fit::{around_in, sockets_in};
+use crate::check::further::{add_further, add_several};
+use crate::check::outline::{Outline, begin_at};
+use crate::check::place::{Step, place_at, place_by};
+use crate::check::remarks::Remarks;
 use crate::check::rules::Fit;
 use history_model::{KeyName, Reason};
 use json_kinds::{json_value, key_name};
@@ -12,28 +16,26 @@ use run_times::Piece::{Number, Text};
 use serde_json::Value;
 use std::alloc::Global;
 
-/// Adds the text of a refusal, and answers its place.
+/// Adds the text of a refusal to the ink, and what else is to be known to the remarks, and answers the place of the refusal.
 pub(crate) fn put_refusal(
-    alloc: Global,
     ink: &mut Ink,
     bytes: &[u8],
+    outline: &Outline,
     reason: Reason,
     key: KeyName,
+    remarks: &mut Remarks<'_>,
 ) -> Option<Place> {
-    match json_value(alloc, bytes) {
+    match json_value(remarks.alloc, bytes) {
         Ok(Some(value)) => {
-            let text = std::str::from_utf8(bytes).unwrap_or("");
-            let place = match value.get(key_name(key)) {
-                Some(found) => put_fault(alloc, ink, text, found, reason, key),
-                None => {
-                    put_missing(ink, reason, key);
-                    Some(place_at(text, begin_at(text, 0)))
-                }
-            };
+            let place = put_first(ink, &value, reason, key, remarks);
+            match reason {
+                Reason::NotObject => add_several(&value, remarks),
+                _ => add_further(&value, key, remarks),
+            }
             drop(value);
             place
         }
-        Ok(None) => put_broken(alloc, ink, bytes),
+        Ok(None) => put_broken(remarks.alloc, ink, bytes, outline),
         Err(_) => {
             ink.refuse();
             None
@@ -41,7 +43,34 @@ pub(crate) fn put_refusal(
     }
 }
 
-fn put_missing(ink: &mut Ink, reason: Reason, key: KeyName) {
+// Adds the text of the first fault, and answers its place.
+fn put_first(
+    ink: &mut Ink,
+    value: &Value,
+    reason: Reason,
+    key: KeyName,
+    remarks: &Remarks<'_>,
+) -> Option<Place> {
+    let Some(found) = value.get(key_name(key)) else {
+        put_missing(ink, reason, key);
+        return Some(place_at(remarks.text, begin_at(remarks.text, 0)));
+    };
+    let culprits = culprits_in(remarks.alloc, found, key, &around_in(value));
+    if culprits.is_refused {
+        ink.refuse();
+    }
+    let culprit = match culprits.list.first() {
+        Some(first) => *first,
+        None => whole_of(found, key),
+    };
+    drop(culprits);
+    let is_missing = matches!(reason, Reason::Missing);
+    put_fault(remarks.alloc, ink, key, is_missing, &culprit);
+    place_of_culprit(remarks, key, &culprit)
+}
+
+/// Adds what is said of a key that is missing.
+pub(crate) fn put_missing(ink: &mut Ink, reason: Reason, key: KeyName) {
     let name = key_name(key);
     let form = match (reason, key) {
         (Reason::NotObject, _) => "the text is no object: a definition stands between { and }",
@@ -54,49 +83,48 @@ fn put_missing(ink: &mut Ink, reason: Reason, key: KeyName) {
     ink.fill(form, &[Text(name)]);
 }
 
-// Adds what is wrong with the value of a key, and answers its place.
-fn put_fault(
+/// Adds what is wrong with the value of a key.
+pub(crate) fn put_fault(
     alloc: Global,
     ink: &mut Ink,
-    text: &str,
-    found: &Value,
-    reason: Reason,
     key: KeyName,
-) -> Option<Place> {
-    let name = key_name(key);
-    let culprit = culprit_in(found, key);
-    let words = words_of(reason, key);
-    ink.put_all(&[Text(name), Text(words)]);
+    is_missing: bool,
+    culprit: &Culprit<'_>,
+) {
+    let words = words_of(key, is_missing);
+    ink.put_all(&[Text(key_name(key)), Text(words)]);
     if words.is_empty() {
-        put_culprit(alloc, ink, &culprit);
+        put_culprit(alloc, ink, culprit);
     }
+}
+
+/// Where the value with the fault stands.
+pub(crate) fn place_of_culprit(
+    remarks: &Remarks<'_>,
+    key: KeyName,
+    culprit: &Culprit<'_>,
+) -> Option<Place> {
     let way = [
-        Step::Key(name),
+        Step::Key(key_name(key)),
         Step::Member(culprit.member),
         Step::Key(culprit.inside),
         Step::Member(culprit.socket),
         Step::Key(culprit.rule.name),
     ];
-    match place_by(alloc, text, way.get(..culprit.steps).unwrap_or(&way), false) {
-        Ok(place) => place,
-        Err(_) => {
-            ink.refuse();
-            None
-        }
-    }
+    let way = way.get(..culprit.steps).unwrap_or(&way);
+    place_by(remarks.text, remarks.marks, way, false)
 }
 
 // What is said of the key whatever its value is; nothing, if the value decides.
-fn words_of(reason: Reason, key: KeyName) -> &'static str {
-    match (reason, key) {
-        (Reason::Unsupported, KeyName::UserName) =>
+fn words_of(key: KeyName, is_missing: bool) -> &'static str {
+    match key {
+        KeyName::UserName =>
             ": each job runs as the launcher's own user; leave the key out, and put setpriv before the program under root's launcher, or load the job into a jobd that this user runs (jobd-split-users does either)",
-        (Reason::Unsupported, KeyName::GroupName) =>
+        KeyName::GroupName =>
             ": each job runs in the launcher's own group; leave the key out, and load the job into a jobd that runs in this group",
-        (Reason::Unsupported, KeyName::RootDirectory) =>
+        KeyName::RootDirectory =>
             ": no job is put into another root; leave the key out, and run chroot as the program",
-        (Reason::Missing, KeyName::ProgramArguments) =>
-            " is empty: its first member is the program",
+        KeyName::ProgramArguments if is_missing => " is empty: its first member is the program",
         _ => "",
     }
 }
@@ -115,7 +143,13 @@ fn put_culprit(alloc: Global, ink: &mut Ink, culprit: &Culprit<'_>) {
         ink.fill(": $", &[Text(culprit.rule.name)]);
     }
     ink.put(" is ");
-    put_shown(alloc, ink, culprit.value);
+    match culprit.rule.fit {
+        Fit::Sockets(_) if culprit.value.is_object() => {
+            let count = sockets_in(culprit.value);
+            ink.fill("a dictionary of $ sockets", &[Number(count as u64)]);
+        }
+        _ => put_shown(alloc, ink, culprit.value),
+    }
     ink.put(", wanted ");
     match culprit.rule.fit {
         Fit::Number(_, _) if culprit.value.as_i64().is_none() => ink.put("a whole number, "),

@@ -1,69 +1,94 @@
 //! The remarks on a text, gathered.
 
 use crate::check::finding::{Grade, Place, Remark};
-use crate::check::place::{Step, place_by, place_of};
+use crate::check::outline::Mark;
+use crate::check::place::{Step, place_by};
 use history_model::KeyName;
+use json_kinds::key_name;
+use run_times::{Ink, Piece};
 use std::alloc::{AllocError, Global};
 
-/// The remarks on a text of JSON. A refusal of memory is kept, and told once the remarks are taken.
+/// The remarks on a text of JSON with these marks. A refusal of memory is kept, and told once the remarks are taken.
 #[derive(Drop)]
 pub(crate) struct Remarks<'a> {
     pub(crate) alloc: Global,
     pub(crate) text: &'a str,
+    pub(crate) marks: &'a [Mark],
     list: Vec<Remark>,
     is_refused: bool,
 }
 
 impl<'a> Remarks<'a> {
     /// None yet.
-    pub(crate) fn new(alloc: Global, text: &'a str) -> Remarks<'a> {
+    pub(crate) fn new(alloc: Global, text: &'a str, marks: &'a [Mark]) -> Remarks<'a> {
         Remarks {
             alloc,
             text,
+            marks,
             list: Vec::new(alloc),
             is_refused: false,
         }
     }
 
-    /// Adds a remark on the key, if it holds.
+    /// Adds a warning on the key, if it holds.
     pub(crate) fn add_if(&mut self, holds: bool, key: KeyName, told: &str) {
         if holds {
-            self.add_made(key, String::from_str(self.alloc, told));
+            self.add(Grade::Warning, key, told, &[]);
         }
     }
 
-    /// Adds a remark on the key, for whose text memory may have been refused.
+    /// Adds a remark on the key: the form, with the pieces.
+    pub(crate) fn add(&mut self, grade: Grade, key: KeyName, form: &str, pieces: &[Piece<'_>]) {
+        let place = self.place_of(key);
+        let mut ink = Ink::new(self.alloc);
+        ink.fill(form, pieces);
+        self.push(place, grade, ink.into_text());
+    }
+
+    /// Adds a warning on the key, for whose text memory may have been refused.
     pub(crate) fn add_made(&mut self, key: KeyName, told: Result<String, AllocError>) {
-        let place = place_of(self.alloc, self.text.as_bytes(), key);
-        let grade = match key {
-            KeyName::DisabledKey => Grade::Note,
-            _ => Grade::Warning,
-        };
-        self.push(place, grade, told);
+        let place = self.place_of(key);
+        self.push(place, Grade::Warning, told);
+    }
+
+    /// Adds a warning at the value to which the way leads: the form, with the pieces.
+    pub(crate) fn add_at(&mut self, way: &[Step<'_>], form: &str, pieces: &[Piece<'_>]) {
+        let mut ink = Ink::new(self.alloc);
+        ink.fill(form, pieces);
+        self.push_at(way, ink.into_text());
     }
 
     /// Adds a warning at the value to which the way leads, for whose text memory may have been refused.
-    pub(crate) fn add_at(&mut self, way: &[Step<'_>], told: Result<String, AllocError>) {
-        let place = place_by(self.alloc, self.text, way, false);
+    pub(crate) fn push_at(&mut self, way: &[Step<'_>], told: Result<String, AllocError>) {
+        let place = place_by(self.text, self.marks, way, false);
         self.push(place, Grade::Warning, told);
     }
 
     /// Adds a remark, if there was and is memory for it.
     pub(crate) fn push(
         &mut self,
-        place: Result<Option<Place>, AllocError>,
+        place: Option<Place>,
         grade: Grade,
         told: Result<String, AllocError>,
     ) {
-        match (place, told) {
-            (Ok(place), Ok(text)) => {
+        match told {
+            Ok(text) => {
                 let is_kept = self.list.push(Remark { place, grade, text }).is_ok();
                 self.is_refused = self.is_refused || !is_kept;
             }
-            (_, told) => {
-                drop(told);
-                self.is_refused = true;
+            Err(_) => self.is_refused = true,
+        }
+    }
+
+    /// Where the value of a key stands; for `Program`, if it is absent, that of `ProgramArguments`.
+    pub(crate) fn place_of(&self, key: KeyName) -> Option<Place> {
+        let own = place_by(self.text, self.marks, &[Step::Key(key_name(key))], false);
+        match (key, own) {
+            (KeyName::Program, None) => {
+                let instead = Step::Key(key_name(KeyName::ProgramArguments));
+                place_by(self.text, self.marks, &[instead], false)
             }
+            (_, own) => own,
         }
     }
 

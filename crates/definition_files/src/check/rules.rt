@@ -1,6 +1,7 @@
 //! What values are to be: a rule for each key of a definition, and rules for what stands within its value. The ranges are those of the
 //! table of keys.
 
+use crate::check::fit::Around;
 use history_model::KeyName;
 use json_kinds::names::{
     CRASHED, DAY, FAMILY, HOUR, MINUTE, MONTH, NODE_NAME, PASSIVE, PATH_NAME, PATH_STATE, PROTOCOL,
@@ -15,7 +16,8 @@ pub(crate) enum Fit {
     /// It may not stand there.
     Nothing,
     Flag,
-    True,
+    /// This of true and false.
+    Just(bool),
     /// A whole number from the first to the second.
     Number(u64, u64),
     /// A text, none of its bytes 0: of so many at least, and of so many at most.
@@ -26,6 +28,15 @@ pub(crate) enum Fit {
     Array(usize),
     /// A dictionary of at most so many keys.
     Dictionary(usize),
+    Label,
+    /// True, false, or a dictionary.
+    Conditions,
+    /// A dictionary of paths, each true or false.
+    States,
+    /// A dictionary of at most so many sockets.
+    Sockets(usize),
+    /// A dictionary with `Wait`.
+    Waiting,
     /// A dictionary with the path or the port of a socket.
     Address,
     Host,
@@ -108,7 +119,7 @@ const ENTRY: &[Rule] = &[
     },
 ];
 
-/// The keys of `KeepAlive`; the first two are right if they fit, so that the fault is in the third.
+/// The keys of `KeepAlive`.
 const CONDITIONS: &[Rule] = &[
     Rule {
         name: CRASHED,
@@ -122,15 +133,23 @@ const CONDITIONS: &[Rule] = &[
     },
     Rule {
         name: PATH_STATE,
-        fit: Fit::Nothing,
+        fit: Fit::States,
         wanted: "a dictionary of at most 64 paths of 1 to 1024 bytes, each true or false",
     },
 ];
 
+/// The key of `inetdCompatibility` beside sockets.
 const INETD: &[Rule] = &[Rule {
     name: WAIT,
-    fit: Fit::Nothing,
+    fit: Fit::Just(false),
     wanted: "false: each connection has a run of its own",
+}];
+
+/// The same without sockets.
+const INETD_ALONE: &[Rule] = &[Rule {
+    name: WAIT,
+    fit: Fit::Flag,
+    wanted: "true or false",
 }];
 
 /// The keys of a socket in the order in which they are checked.
@@ -152,7 +171,7 @@ const SOCKET: &[Rule] = &[
     },
     Rule {
         name: PASSIVE,
-        fit: Fit::True,
+        fit: Fit::Just(true),
         wanted: "true",
     },
     Rule {
@@ -211,11 +230,11 @@ pub(crate) fn rule_of(key: KeyName) -> Rule {
         | KeyName::StandardOutPath
         | KeyName::StandardErrorPath => return PATH,
         KeyName::Label => (
-            Fit::Any,
+            Fit::Label,
             "a text of 1 to 255 bytes, no / and no control character",
         ),
         KeyName::KeepAlive => (
-            Fit::Any,
+            Fit::Conditions,
             "true, false, or a dictionary of SuccessfulExit, Crashed (true or false) and PathState (at most 64 paths, each true or false)",
         ),
         KeyName::StartCalendarInterval => (
@@ -223,10 +242,14 @@ pub(crate) fn rule_of(key: KeyName) -> Rule {
             "a dictionary of Minute, Hour, Day, Weekday and Month, or an array of at most 64",
         ),
         KeyName::Sockets => (
-            Fit::Any,
+            Fit::Sockets(8),
             "a dictionary of at most 8 sockets, each a dictionary, or of arrays of such",
         ),
-        KeyName::InetdCompatibility => (Fit::Any, "{\"Wait\": false}"),
+        KeyName::InetdCompatibility => (Fit::Dictionary(usize::MAX), "{\"Wait\": false}"),
+        KeyName::UserName | KeyName::GroupName | KeyName::RootDirectory => (
+            Fit::Nothing,
+            "no such key",
+        ),
         _ => (Fit::Any, "another value"),
     };
     Rule {
@@ -237,18 +260,19 @@ pub(crate) fn rule_of(key: KeyName) -> Rule {
 }
 
 /// What is to stand within the value of a key; of `Sockets`, within a value under a name.
-pub(crate) fn inside_of(key: KeyName) -> Inside {
+pub(crate) fn inside_of(key: KeyName, around: &Around) -> Inside {
     let (most, others) = match key {
         KeyName::StartCalendarInterval => (64, ENTRY),
         KeyName::Sockets => (8, SOCKET),
         KeyName::KeepAlive => (0, CONDITIONS),
-        KeyName::InetdCompatibility => (0, INETD),
+        KeyName::InetdCompatibility if around.has_sockets => (0, INETD),
+        KeyName::InetdCompatibility => (0, INETD_ALONE),
         KeyName::ProgramArguments => (256, ARGUMENTS),
         KeyName::WatchPaths | KeyName::QueueDirectories => (64, PATHS),
         _ => (0, NONE),
     };
     let first = match key {
-        KeyName::ProgramArguments => PROGRAM_FIRST,
+        KeyName::ProgramArguments if !around.has_program => PROGRAM_FIRST,
         _ => others,
     };
     Inside {

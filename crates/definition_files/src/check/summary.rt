@@ -1,6 +1,5 @@
 //! What a definition that loads does, in one line.
 
-use crate::check::conduct::conditions;
 use job_defs::Def;
 use run_times::Ink;
 use run_times::Piece::{Number, Text};
@@ -33,6 +32,18 @@ pub fn summary_of(alloc: Global, def: &Def) -> Result<String, AllocError> {
         ink.put(", once in each load");
     }
     ink.into_text()
+}
+
+// How many conditions of `KeepAlive` the definition has.
+fn conditions(def: &Def) -> usize {
+    let mut count = def.path_state().len();
+    if def.successful_exit().is_some() {
+        count = count.saturating_add(1);
+    }
+    if def.crashed().is_some() {
+        count = count.saturating_add(1);
+    }
+    count
 }
 
 fn keep_text(def: &Def) -> &'static str {

@@ -4,7 +4,6 @@ use crate::check::place::Step;
 use crate::check::remarks::Remarks;
 use history_model::KeyName;
 use json_kinds::{json_value, key_name};
-use run_times::Ink;
 use run_times::Piece::Text;
 use serde_json::Value;
 
@@ -34,10 +33,9 @@ fn add_from(found: &Value, remarks: &mut Remarks<'_>) {
 
 fn add_unset(name: &str, remarks: &mut Remarks<'_>) {
     let key = key_name(KeyName::EnvironmentVariables);
-    let mut ink = Ink::new(remarks.alloc);
-    ink.fill(
+    remarks.add_at(
+        &[Step::Key(key), Step::Key(name)],
         "$: the value of $ is no text, so it is not set",
         &[Text(key), Text(name)],
     );
-    remarks.add_at(&[Step::Key(key), Step::Key(name)], ink.into_text());
 }

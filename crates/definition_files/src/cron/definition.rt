@@ -1,46 +1,183 @@
 //! The definition of a line, as JSON.
 
+ghost use Rattle.std.specs.Prelude.{◌≡◌, IfOk, IfNone};
+ghost use Rattle.std.specs.String.{string_bytes};
+ghost use Rattle.definition_files.specs.LineStatus.{Loads};
+
+use crate::cron::command::command_of;
 use crate::cron::entries::{EntriesFault, entries_of};
 use crate::cron::fault::{LineFault, told};
 use crate::cron::line::When;
+use crate::cron::naming::name_of;
+use crate::cron::settings::Settings;
+use crate::cron::surroundings::Surroundings;
 use history_model::Entry;
+use job_defs::{DefFault, read_def};
+use json_kinds::{key_name, reason_name};
 use run_times::Ink;
 use run_times::Piece::{Number, Text};
 use serde_json::Value;
 use std::alloc::{AllocError, Global};
 
-/// The longest name that stands in a label, in bytes.
-const LONGEST_NAME: usize = 64;
+/// The shell that runs a command if no line names another.
+const SHELL: &str = "/bin/sh";
 
-/// The definition that runs the command of the line of this number by `/bin/sh`. Refused: no entries match what its fields match, or
-/// more than 64 would.
+/// The user whose jobs need nothing before their program, as the launcher is root's.
+const ROOT: &str = "root";
+
+/// A job that a line tells of.
+#[derive(Drop)]
+pub struct Job<'a> {
+    /// The line's number.
+    pub number: usize,
+    /// The comment above the line; empty if there is none.
+    pub comment: &'a str,
+    pub when: When,
+    pub user: Option<&'a str>,
+    /// The command as it stands in the line.
+    pub command: &'a str,
+}
+
+/// A definition that was made of a line.
+#[derive(Drop)]
+pub struct Made {
+    pub label: String,
+    /// The definition as JSON, in one line with its newline.
+    pub text: String,
+}
+
+/// The definition that runs the job's command by the shell, with the variables that were set, in the home folder. Each is one that a load
+/// takes. Refused: no entries match what the fields match, or more than 64 would; the command has an input, a NUL byte or more than 4,096
+/// bytes; or a load would refuse the definition for something else, as a variable that is too long.
 pub fn definition_of(
     alloc: Global,
-    number: usize,
-    when: When,
-    command: &str,
-) -> Result<String, LineFault> {
-    let mut ink = Ink::new(alloc);
-    ink.put("{\"Label\": \"cron.");
-    ink.put_number(number as u64);
-    ink.put_made(name_in(alloc, command));
-    ink.put("\", \"ProgramArguments\": [\"/bin/sh\", \"-c\", ");
-    // A `%` stands for each `\%`.
-    put_json(alloc, &mut ink, command.replace(alloc, "\\%", "%"));
-    let fault = put_start(alloc, &mut ink, &when);
+    job: Job<'_>,
+    settings: &Settings,
+    around: &Surroundings,
+) -> Result<Made, LineFault>
+    ensures loads { IfOk result (λ made. Loads (string_bytes made.text)) }
+{
+    let Job {
+        number,
+        comment,
+        when,
+        user,
+        command,
+    } = job;
+    let read = match command_of(alloc, command) {
+        Ok(command) => {
+            let label = label_of(alloc, number, comment, command.as_str());
+            let text = text_of(
+                alloc,
+                &label,
+                &when,
+                user,
+                command.as_str(),
+                settings,
+                around,
+            );
+            drop(command);
+            made_of(alloc, label, text)
+        }
+        Err(fault) => Err(fault),
+    };
     drop(when);
-    let text = ink.into_text();
-    match (fault, text) {
-        (None, Ok(text)) => Ok(text),
-        (fault, text) => {
+    read
+}
+
+fn label_of(
+    alloc: Global,
+    number: usize,
+    comment: &str,
+    command: &str,
+) -> Result<String, AllocError> {
+    let mut ink = Ink::new(alloc);
+    ink.put("cron.");
+    ink.put_number(number as u64);
+    ink.put_made(name_of(alloc, comment, command));
+    ink.into_text()
+}
+
+// The label and the text of a definition, if a load takes the text.
+fn made_of(
+    alloc: Global,
+    label: Result<String, AllocError>,
+    text: Result<String, LineFault>,
+) -> Result<Made, LineFault>
+    ensures loads { IfOk result (λ made. Loads (string_bytes made.text)) }
+{
+    match (label, text) {
+        (Ok(label), Ok(text)) => match load_fault(alloc, text.as_str()) {
+            None => Ok(Made { label, text }),
+            Some(fault) => {
+                drop(label);
+                drop(text);
+                Err(fault)
+            }
+        },
+        (Err(_), text) => {
             drop(text);
-            Err(fault.unwrap_or(LineFault::NoMemory))
+            Err(LineFault::NoMemory)
+        }
+        (label, Err(fault)) => {
+            drop(label);
+            Err(fault)
         }
     }
 }
 
-fn put_json(alloc: Global, ink: &mut Ink, text: Result<String, AllocError>) {
-    match text {
+// Why a load would refuse the text of a definition; none if it takes it.
+fn load_fault(alloc: Global, text: &str) -> Option<LineFault>
+    ensures { IfNone result (Loads text.now) }
+{
+    match read_def(alloc, text.as_bytes()) {
+        Ok(def) => {
+            drop(def);
+            None
+        }
+        Err(DefFault::NoMemory) => Some(LineFault::NoMemory),
+        Err(DefFault::Bad { reason, key }) => {
+            let pieces = [Text(key_name(key)), Text(reason_name(reason))];
+            Some(told(alloc, "no load takes its definition: $: $", &pieces))
+        }
+    }
+}
+
+fn text_of(
+    alloc: Global,
+    label: &Result<String, AllocError>,
+    when: &When,
+    user: Option<&str>,
+    command: &str,
+    settings: &Settings,
+    around: &Surroundings,
+) -> Result<String, LineFault> {
+    let mut ink = Ink::new(alloc);
+    ink.put("{\"Label\": ");
+    match label {
+        Ok(label) => put_json(alloc, &mut ink, label.as_str()),
+        Err(_) => ink.refuse(),
+    }
+    ink.put(", \"ProgramArguments\": [");
+    put_user(alloc, &mut ink, user, around);
+    put_json(alloc, &mut ink, settings.value_of("SHELL").unwrap_or(SHELL));
+    ink.put(", \"-c\", ");
+    put_json(alloc, &mut ink, command);
+    ink.put("]");
+    put_surroundings(alloc, &mut ink, user, settings, around);
+    let fault = put_start(alloc, &mut ink, when);
+    match (fault, ink.into_text()) {
+        (None, Ok(text)) => Ok(text),
+        (None, Err(_)) => Err(LineFault::NoMemory),
+        (Some(fault), text) => {
+            drop(text);
+            Err(fault)
+        }
+    }
+}
+
+fn put_json(alloc: Global, ink: &mut Ink, text: &str) {
+    match String::from_str(alloc, text) {
         Ok(text) => {
             let value = Value::String(text);
             ink.put_made(value.to_string(alloc));
@@ -50,33 +187,88 @@ fn put_json(alloc: Global, ink: &mut Ink, text: Result<String, AllocError>) {
     }
 }
 
-// A dot and the name of the program that the command begins with: what stands behind the last `/` of its first word, without letters
-// that are no part of a plain name. Nothing, if no letter is left.
-fn name_in(alloc: Global, command: &str) -> Result<String, AllocError> {
-    let mut ink = Ink::new(alloc);
-    for letter in command.chars() {
-        let is_mark = letter == '.' || letter == '_' || letter == '-';
-        let is_blank = letter == ' ' || letter == '\t';
-        if is_blank || ink.text.len() > LONGEST_NAME {
-            break;
-        }
-        if letter == '/' {
-            ink.text.clear();
-        } else if letter.is_ascii_alphanumeric() || is_mark {
-            if ink.text.is_empty() {
-                ink.put_char('.');
-            }
-            ink.put_char(letter);
-        }
+// Adds the words that make a program the user's, with the user's groups: setpriv(1). Nothing for root.
+fn put_user(alloc: Global, ink: &mut Ink, user: Option<&str>, around: &Surroundings) {
+    let Some(name) = user else {
+        return;
+    };
+    if name == ROOT {
+        return;
     }
-    ink.into_text()
+    let group = match around.user_named(name) {
+        Some(user) => user.group,
+        None => name,
+    };
+    ink.put("\"/usr/bin/setpriv\", ");
+    put_option(alloc, ink, "--reuid=", name);
+    put_option(alloc, ink, "--regid=", group);
+    ink.put("\"--init-groups\", \"--\", ");
+}
+
+fn put_option(alloc: Global, ink: &mut Ink, option: &str, value: &str) {
+    let mut word = Ink::new(alloc);
+    word.put(option);
+    word.put(value);
+    match word.into_text() {
+        Ok(word) => {
+            put_json(alloc, ink, word.as_str());
+            drop(word);
+        }
+        Err(_) => ink.refuse(),
+    }
+    ink.put(", ");
+}
+
+// Adds the variables, and the working folder, which is the home folder.
+fn put_surroundings(
+    alloc: Global,
+    ink: &mut Ink,
+    user: Option<&str>,
+    settings: &Settings,
+    around: &Surroundings,
+) {
+    let own = match user {
+        Some(name) => match around.user_named(name) {
+            Some(user) => Some(user.home),
+            None => None,
+        },
+        None => around.home.as_deref(),
+    };
+    let set = settings.value_of("HOME");
+    let mut is_first = true;
+    if let (Some(_), Some(home), None) = (user, own, set) {
+        put_variable(alloc, ink, &mut is_first, "HOME", home);
+    }
+    if let Some(name) = user {
+        put_variable(alloc, ink, &mut is_first, "LOGNAME", name);
+    }
+    for (name, value) in settings.as_slice() {
+        put_variable(alloc, ink, &mut is_first, name.as_str(), value.as_str());
+    }
+    ink.put(if is_first { "" } else { "}" });
+    if let Some(home) = set.or(own) {
+        ink.put(", \"WorkingDirectory\": ");
+        put_json(alloc, ink, home);
+    }
+}
+
+fn put_variable(alloc: Global, ink: &mut Ink, is_first: &mut bool, name: &str, value: &str) {
+    ink.put(if *is_first {
+        ", \"EnvironmentVariables\": {"
+    } else {
+        ", "
+    });
+    *is_first = false;
+    put_json(alloc, ink, name);
+    ink.put(": ");
+    put_json(alloc, ink, value);
 }
 
 // Adds what starts the job, and the definition's end; or says why nothing does.
 fn put_start(alloc: Global, ink: &mut Ink, when: &When) -> Option<LineFault> {
     let fields = match when {
         When::Boot => {
-            ink.put("], \"RunAtLoad\": true}\n");
+            ink.put(", \"RunAtLoad\": true}\n");
             return None;
         }
         When::Minutes(fields) => fields,
@@ -110,7 +302,7 @@ fn put_calendar(ink: &mut Ink, entries: &[Entry]) {
     let mut is_first = true;
     for entry in entries {
         ink.put(if is_first {
-            "], \"StartCalendarInterval\": [{"
+            ", \"StartCalendarInterval\": [{"
         } else {
             "}, {"
         });

@@ -3,6 +3,7 @@
 use crate::cron::fault::{LineFault, told};
 use crate::cron::fields::Fields;
 use crate::cron::reading::{Texts, fields_of};
+use crate::cron::variable::variable_in;
 use run_times::Piece::Text;
 use std::alloc::Global;
 
@@ -18,59 +19,104 @@ pub enum When {
 /// What a line says.
 #[derive(Drop)]
 pub enum Line<'a> {
-    /// Nothing: it is empty, or a comment.
+    /// Nothing: it is empty.
     Nothing,
-    /// The variable of this name is set.
-    Variable(&'a str),
-    /// The command is run. A `\%` in it still stands so.
-    Command { when: When, command: &'a str },
+    /// It is a comment, which says this.
+    Comment(&'a str),
+    /// The variable is set to the value.
+    Variable {
+        name: &'a str,
+        value: &'a str,
+    },
+    /// The command is run, by this user if the line names one. It stands as in the line.
+    Command {
+        when: When,
+        user: Option<&'a str>,
+        command: &'a str,
+    },
 }
 
-/// What the line says, which has no newline. Refused: a field is none, one or the command is absent, the name behind `@` is none, or the
-/// command has a `%`.
-pub fn read_line<'a>(alloc: Global, text: &'a str) -> Result<Line<'a>, LineFault> {
+/// What the line says, which has no newline; with `has_user` a user's field stands before the command. Refused: a field is none, the
+/// command or a field is absent, the name behind `@` is none, the user's field is no name of a user, or a command with no such field
+/// begins with `*`, as after six fields.
+pub fn read_line<'a>(alloc: Global, has_user: bool, text: &'a str) -> Result<Line<'a>, LineFault> {
     let text = text.trim_start_matches(is_blank);
-    if text.is_empty() || text.starts_with('#') {
+    if text.is_empty() {
         return Ok(Line::Nothing);
     }
-    if let Some(name) = variable_in(text) {
-        return Ok(Line::Variable(name));
+    if let Some(comment) = text.strip_prefix('#') {
+        return Ok(Line::Comment(comment));
     }
-    let (when, command) = timed(alloc, text)?;
-    if has_percent(command) {
+    if let Some((name, value)) = variable_in(text) {
+        return Ok(Line::Variable { name, value });
+    }
+    let (when, rest) = timed(alloc, has_user, text)?;
+    if has_user {
+        by_user(alloc, when, rest)
+    } else {
+        by_owner(alloc, when, rest)
+    }
+}
+
+fn by_owner<'a>(alloc: Global, when: When, command: &'a str) -> Result<Line<'a>, LineFault> {
+    if command.starts_with('*') {
         drop(when);
-        let text =
-            "% ends a command and begins its input, which no definition has; wanted \\% for the sign";
-        return Err(told(alloc, text, &[]));
+        let form =
+            "the command begins with *; wanted five fields before it, with none for the second";
+        return Err(told(alloc, form, &[]));
     }
-    Ok(Line::Command { when, command })
+    Ok(Line::Command {
+        when,
+        user: None,
+        command,
+    })
+}
+
+fn by_user<'a>(alloc: Global, when: When, rest: &'a str) -> Result<Line<'a>, LineFault> {
+    let (user, command) = word_of(rest);
+    let form = if !is_user_name(user) {
+        "$ is no name of a user, wanted one between the fields and the command"
+    } else if command.is_empty() {
+        "wanted a command behind the user $"
+    } else {
+        return Ok(Line::Command {
+            when,
+            user: Some(user),
+            command,
+        });
+    };
+    drop(when);
+    Err(told(alloc, form, &[Text(user)]))
+}
+
+// Whether the word can be a user's name: a letter or `_`, and then letters, digits, `_`, `-`, `.` and `$`.
+fn is_user_name(word: &str) -> bool {
+    let mut is_first = true;
+    for letter in word.chars() {
+        let is_letter = letter.is_ascii_alphabetic() || letter == '_';
+        let is_other = letter.is_ascii_digit() || letter == '-' || letter == '.' || letter == '$';
+        if !is_letter && (is_first || !is_other) {
+            return false;
+        }
+        is_first = false;
+    }
+    !is_first
 }
 
 fn is_blank(letter: char) -> bool {
     letter == ' ' || letter == '\t'
 }
 
-// The next word of a text, and what stands behind its blanks.
-fn word_of(text: &str) -> (&str, &str) {
+/// The next word of a text, and what stands behind its blanks.
+pub(crate) fn word_of(text: &str) -> (&str, &str) {
     match text.split_once(is_blank) {
         Some((word, rest)) => (word, rest.trim_start_matches(is_blank)),
         None => (text, ""),
     }
 }
 
-// The name that the text gives a value: it stands before the first `=`, with no blank in it.
-fn variable_in(text: &str) -> Option<&str> {
-    let (name, _) = text.split_once('=')?;
-    let (word, rest) = word_of(name);
-    if word.is_empty() || !rest.is_empty() {
-        None
-    } else {
-        Some(word)
-    }
-}
-
-// When the command runs, by five fields or by a name that stands for them, and the command.
-fn timed<'a>(alloc: Global, text: &'a str) -> Result<(When, &'a str), LineFault> {
+// When the command runs, by five fields or by a name that stands for them, and what stands behind.
+fn timed<'a>(alloc: Global, has_user: bool, text: &'a str) -> Result<(When, &'a str), LineFault> {
     let (name, behind) = word_of(text);
     let is_named = name.starts_with('@');
     let (texts, rest) = texts_of(if is_named { fields_named(name) } else { text });
@@ -78,7 +124,7 @@ fn timed<'a>(alloc: Global, text: &'a str) -> Result<(When, &'a str), LineFault>
     let is_boot = name == "@reboot";
     let is_none = texts.minute.is_empty() & !is_boot;
     let form = if command.is_empty() {
-        "wanted five fields and a command, or a name as @daily and a command"
+        wanted_words(has_user, text)
     } else if is_none {
         "$ is no name of a time, wanted @reboot, @yearly, @annually, @monthly, @weekly, @daily, @midnight or @hourly"
     } else if is_boot {
@@ -90,6 +136,17 @@ fn timed<'a>(alloc: Global, text: &'a str) -> Result<(When, &'a str), LineFault>
         };
     };
     Err(told(alloc, form, &[Text(name)]))
+}
+
+// What is wanted in place of a line that ends too soon.
+fn wanted_words(has_user: bool, text: &str) -> &'static str {
+    if text.trim_end_matches(is_blank).ends_with('=') {
+        "the variable has no value; wanted \"\" for an empty one"
+    } else if has_user {
+        "wanted five fields, a user and a command, or a name as @daily in place of the fields"
+    } else {
+        "wanted five fields and a command, or a name as @daily and a command"
+    }
 }
 
 fn texts_of(text: &str) -> (Texts<'_>, &str) {
@@ -127,16 +184,4 @@ fn fields_named(name: &str) -> &'static str {
         }
     }
     ""
-}
-
-// Whether a `%` stands there with no `\` before it.
-fn has_percent(command: &str) -> bool {
-    let mut is_behind = false;
-    for byte in command.as_bytes() {
-        if *byte == b'%' && !is_behind {
-            return true;
-        }
-        is_behind = *byte == b'\\';
-    }
-    false
 }

@@ -1,133 +1,207 @@
 //! Lines of a crontab as definitions.
 
-ghost use Rattle.std.specs.Prelude.{◌≡◌, ◌⊎◌, IfOk};
-ghost use Rattle.exit_status.specs.declared.TheConstants as statuses;
-ghost use Rattle.definition_files.specs.LineStatus.{GoesOn, line_status};
+ghost use Rattle.std.specs.Prelude.{◌≡◌, IfOk};
+ghost use Rattle.definition_files.specs.LineStatus.{AreLineVerdicts, Judges, crontab_status};
 
-use crate::cron::{Line, LineFault, definition_of, read_line};
-use exit_status::{BAD_FILE, REFUSED};
+use crate::cron::definition::{Job, Made, definition_of};
+use crate::cron::fault::LineFault;
+use crate::cron::keeper::LineKeeper;
+use crate::cron::line::{Line, read_line, word_of};
+use crate::cron::naming::is_heading;
+use crate::cron::settings::Settings;
+use crate::cron::surroundings::Surroundings;
+use crate::cron::verdicts::LineVerdicts;
 use history_model::Text;
-use run_times::telling::{Outcome, tell_error, tell_of};
+use run_times::telling::{Outcome, tell_line};
+use run_times::{Ink, Piece};
 use std::alloc::{AllocError, Global};
-use std::io::Read;
 
-/// The longest crontab that is read from standard input, in bytes.
-const LONGEST: u64 = 1_048_576;
-
-/// How faults name standard input.
-const INPUT: &str = "standard input";
-
-/// A definition for each line that runs a command, a line each; the line `-` alone stands for those of standard input. What is wrong
-/// with a line is told, and so is a variable, which no definition takes over. The status is 1 if a line was refused: the others'
-/// definitions are written all the same. It is 65 if standard input can't be read.
-pub fn crontab(host: &HostRuntime, alloc: Global, lines: &[Text]) -> Result<Outcome, AllocError>
-    ensures status { IfOk result (λ outcome. GoesOn 0 outcome.status
-        ⊎ (outcome.status ≡ statuses.BAD_FILE)) }
-{
-    let mut made = Outcome::failed(alloc, 0);
-    match lines {
-        [only] if only.as_str() == "-" => match input_of(host, alloc)? {
-            Some(text) => add_text(host, alloc, text.as_str(), &mut made)?,
-            None => made.status = BAD_FILE,
-        },
-        words => {
-            let mut number: usize = 0;
-            for line in words {
-                number = number.saturating_add(1);
-                add_line(host, alloc, number, line.as_str(), &mut made)?;
-            }
-        }
-    }
-    Ok(made)
+/// What the lines above a line say.
+#[derive(Drop)]
+struct Above {
+    settings: Settings,
+    /// The comment that stands right above; empty if there is none.
+    comment: String,
 }
 
-fn add_text(
+/// A definition for each line that runs a command, which the keeper is given. Each line is judged once, in order. What is wrong with a
+/// line is told, and so is what of it no definition takes over. The status is 65 if a definition could not be kept; else 1 if a line was
+/// refused: the others' definitions are written all the same; else 0.
+pub fn definitions_of<K: LineKeeper>(
     host: &HostRuntime,
     alloc: Global,
-    text: &str,
-    made: &mut Outcome,
-) -> Result<(), AllocError>
-    ensures { GoesOn made.old.status made.new.status }
+    keeper: &mut K,
+    lines: &[Text],
+    around: &Surroundings,
+) -> Result<Outcome, AllocError>
+    ensures status { IfOk result (λ outcome. Judges lines.now
+        (λ found. outcome.status ≡ crontab_status found) (K.told keeper.old) (K.told keeper.new)) }
 {
-    let mut number: usize = 0;
-    for line in text.lines() {
-        number = number.saturating_add(1);
-        add_line(host, alloc, number, line, made)?;
-    }
-    Ok(())
-}
-
-// The text of standard input; none if it can't be read, is no UTF-8 or is too long, and this was told.
-fn input_of(host: &HostRuntime, alloc: Global) -> Result<Option<String>, AllocError> {
-    let mut bytes = Vec::new(alloc);
-    let most = LONGEST.saturating_add(1);
-    if let Err(error) = host.stdin().take(most).read_to_end(&mut bytes) {
-        tell_error(host, INPUT, &error)?;
-        return Ok(None);
-    }
-    if bytes.len() as u64 > LONGEST {
-        tell_of(host, INPUT, &"longer than 1048576 bytes");
-        return Ok(None);
-    }
-    match String::from_utf8(bytes) {
-        Ok(text) => Ok(Some(text)),
-        Err(_) => {
-            tell_of(host, INPUT, &"not UTF-8");
-            Ok(None)
+    let mut text = String::new(alloc);
+    let mut above = Above {
+        settings: Settings::new(alloc),
+        comment: String::new(alloc),
+    };
+    let judged = judge_each(host, alloc, keeper, lines, around, &mut above, &mut text);
+    drop(above);
+    match judged {
+        Ok(verdicts) => Ok(Outcome {
+            text,
+            status: verdicts.status(),
+        }),
+        Err(error) => {
+            drop(text);
+            Err(error)
         }
     }
 }
 
-// Adds the line's definition, or tells why there is none.
-fn add_line(
+fn judge_each<K: LineKeeper>(
+    host: &HostRuntime,
+    alloc: Global,
+    keeper: &mut K,
+    lines: &[Text],
+    around: &Surroundings,
+    above: &mut Above,
+    text: &mut String,
+) -> Result<LineVerdicts, AllocError>
+    ensures { IfOk result (λ verdicts. Judges lines.now (AreLineVerdicts verdicts)
+        (K.told keeper.old) (K.told keeper.new)) }
+{
+    let mut verdicts = LineVerdicts::none();
+    let mut number: usize = 0;
+    for line in lines {
+        number = number.saturating_add(1);
+        let made = made_of(host, alloc, number, line.as_str(), around, above);
+        match keeper.keep(alloc, number, line, made, text) {
+            Ok(verdict) => verdicts = verdicts.with(verdict),
+            Err(error) => return Err(error),
+        }
+    }
+    Ok(verdicts)
+}
+
+// The definition of the line, if it runs a command; what it says for the lines below is kept.
+fn made_of(
     host: &HostRuntime,
     alloc: Global,
     number: usize,
     line: &str,
-    made: &mut Outcome,
-) -> Result<(), AllocError>
-    ensures { GoesOn made.old.status made.new.status }
-{
-    let read = match read_line(alloc, line) {
-        Ok(Line::Nothing) => return Ok(()),
-        Ok(Line::Variable(name)) => {
-            tell_variable(host, number, name);
-            return Ok(());
+    around: &Surroundings,
+    above: &mut Above,
+) -> Result<Option<Made>, LineFault> {
+    match read_line(alloc, around.has_user, line) {
+        Ok(Line::Nothing) => {
+            above.comment.clear();
+            Ok(None)
         }
-        Ok(Line::Command { when, command }) => definition_of(alloc, number, when, command),
-        Err(fault) => Err(fault),
-    };
-    take_in(host, number, read, made)
-}
-
-// Adds the definition that was made of a line, or tells why there is none.
-fn take_in(
-    host: &HostRuntime,
-    number: usize,
-    read: Result<String, LineFault>,
-    made: &mut Outcome,
-) -> Result<(), AllocError>
-    ensures { made.new.status ≡ line_status read made.old.status }
-{
-    match read {
-        Ok(text) => made.text.push_str(text.as_str()),
-        Err(LineFault::NoMemory) => Err(AllocError),
-        Err(LineFault::Refused(text)) => {
-            made.status = REFUSED;
-            let text = text.as_str();
-            let _written = eprintln!(host; "cron:{number}: error: {text}");
-            Ok(())
+        Ok(Line::Comment(comment)) => {
+            above.comment.clear();
+            if !is_heading(comment) {
+                above.comment.push_str(comment)?;
+            }
+            Ok(None)
+        }
+        Ok(Line::Variable { name, value }) => {
+            if is_taken(name) {
+                above.settings.set(alloc, name, value)?;
+            }
+            tell_variable(host, number, name, value);
+            Ok(None)
+        }
+        Ok(
+            Line::Command {
+                when,
+                user,
+                command,
+            },
+        ) => {
+            tell_user(host, number, user, command, around);
+            let job = Job {
+                number,
+                comment: above.comment.as_str(),
+                when,
+                user,
+                command,
+            };
+            let made = definition_of(alloc, job, &above.settings, around);
+            above.comment.clear();
+            match made {
+                Ok(made) => Ok(Some(made)),
+                Err(fault) => Err(fault),
+            }
+        }
+        Err(fault) => {
+            above.comment.clear();
+            Err(fault)
         }
     }
 }
 
-fn tell_variable(host: &HostRuntime, number: usize, name: &str) {
-    let instead = if name == "MAILTO" {
-        "no mail is sent; StandardOutPath keeps what a job writes"
-    } else if name == "SHELL" {
-        "the shell stays /bin/sh; ProgramArguments names it"
-    } else {
-        "the definitions do not have it; EnvironmentVariables sets it"
+/// The variables that no definition takes over, and what becomes of them.
+const TOLD: &[(&str, &str)] = &[
+    (
+        "MAILTO",
+        "no mail is sent; StandardOutPath keeps what a job writes",
+    ),
+    (
+        "MAILFROM",
+        "no mail is sent; StandardOutPath keeps what a job writes",
+    ),
+    ("LOGNAME", "cron sets it itself, to the user of the crontab"),
+    (
+        "CRON_TZ",
+        "Debian's cron does not know it, others take the fields below in that zone; here all jobs have the launcher's --zone",
+    ),
+];
+
+fn is_taken(name: &str) -> bool {
+    for (known, _) in TOLD {
+        if *known == name {
+            return false;
+        }
+    }
+    true
+}
+
+// Tells what becomes of a variable that no definition takes over. An empty MAILTO asks for no mail, as here.
+fn tell_variable(host: &HostRuntime, number: usize, name: &str, value: &str) {
+    for (known, instead) in TOLD {
+        if *known == name && !value.is_empty() {
+            tell_note(host, number, name, instead);
+        }
+    }
+}
+
+// Tells who a user is: one whom this machine does not know, or one that stands where a command is wanted.
+fn tell_user(
+    host: &HostRuntime,
+    number: usize,
+    user: Option<&str>,
+    command: &str,
+    around: &Surroundings,
+) {
+    let (first, _) = word_of(command);
+    let name = user.unwrap_or(first);
+    let is_known = around.user_named(name).is_some();
+    let told = match user {
+        Some(_) if !is_known =>
+            "is no user of this machine: HOME and WorkingDirectory are left out, and the group has the same name",
+        None if is_known => "is a user of this machine; if it is a user's field, wanted --system",
+        _ => return,
     };
-    let _written = eprintln!(host; "cron:{number}: note: {name}: {instead}");
+    tell_note(host, number, name, told);
+}
+
+fn tell_note<'a>(host: &HostRuntime, number: usize, name: &'a str, told: &'a str) {
+    let mut line = Ink::new(host.alloc());
+    line.fill(
+        "cron:$: note: $: $\n",
+        &[
+            Piece::Number(number as u64),
+            Piece::Text(name),
+            Piece::Text(told),
+        ],
+    );
+    tell_line(host, line);
 }

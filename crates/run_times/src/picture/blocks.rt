@@ -1,6 +1,5 @@
 //! The chart in lines of a terminal: bars of block characters, and a line of marks under a row that has some.
 
-use crate::escape::is_unwritable;
 use crate::ink::Ink;
 use crate::ink::Piece::{Number, Text};
 use crate::page::Filling::Moment;
@@ -125,13 +124,11 @@ fn put_lines(alloc: Global, ink: &mut Ink, layout: &Layout, chart: &Chart, ticks
     }
 }
 
-// Adds a line: the label in its column, cut if it is longer and with control characters as question marks, a space, and the cells, of which
+// Adds a line: the label in its column, cut if it is longer and as `Ink::put_plain` writes it, a space, and the cells, of which
 // each place of the axis has one. They are empty then.
 fn put_line(ink: &mut Ink, column: usize, cells: &mut [char], label: &str) {
     let (front, rest) = cut(label, column);
-    for c in front.chars() {
-        ink.put_char(if is_unwritable(c) { '?' } else { c });
-    }
+    ink.put_plain(front);
     ink.put(rest);
     let used = columns_of(front).saturating_add(columns_of(rest));
     for _ in used..column.saturating_add(1) {

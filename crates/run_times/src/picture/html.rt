@@ -66,9 +66,19 @@ pub(crate) fn put_rest(page: &mut Page<'_>, beside: &Beside<'_>) {
     put_table(page, beside.table);
     put_coming(page, beside.coming);
     for line in beside.why.split('\n') {
-        page.add("$\n", &[Escaped(line)]);
+        put_why(page, line);
     }
     page.ink.put("</pre>\n</main>\n</body>\n</html>\n");
+}
+
+// A line of why the jobs stand as they do. The label of one that begins with it is isolated.
+fn put_why(page: &mut Page<'_>, line: &str) {
+    match line.rsplit_once(" is ") {
+        Some((label, state)) if !line.starts_with(' ') => {
+            page.add("<bdi>$</bdi> is $\n", &[Escaped(label), Escaped(state)]);
+        }
+        _ => page.add("$\n", &[Escaped(line)]),
+    }
 }
 
 fn put_table(page: &mut Page<'_>, table: &str) {
@@ -79,11 +89,18 @@ fn put_table(page: &mut Page<'_>, table: &str) {
     }
 }
 
+// The first cell of a row is a label, and is isolated.
 fn put_cells(page: &mut Page<'_>, line: &str, is_head: bool) {
-    let cell = if is_head { "<th>$</th>" } else { "<td>$</td>" };
+    let mut is_label = !is_head;
     page.ink.put("<tr>");
     for part in line.split('\t') {
+        let cell = match (is_head, is_label) {
+            (true, _) => "<th>$</th>",
+            (false, true) => "<td><bdi>$</bdi></td>",
+            (false, false) => "<td>$</td>",
+        };
         page.add(cell, &[Escaped(part)]);
+        is_label = false;
     }
     page.ink.put("</tr>\n");
 }
@@ -107,8 +124,12 @@ fn put_coming(page: &mut Page<'_>, coming: &[Coming]) {
             Escaped(start.label.as_str()),
             Text(start.key),
         ];
-        page.add("<tr><td>$</td><td>$</td><td>$</td></tr>\n", &holes);
+        page.add(
+            "<tr><td>$</td><td><bdi>$</bdi></td><td>$</td></tr>\n",
+            &holes,
+        );
     }
-    let heading = "$<h2>Why each job stands as it does</h2>\n<pre>";
-    page.add(heading, &[Text(behind)]);
+    page.ink.put(behind);
+    page.ink
+        .put("<h2>Why each job stands as it does</h2>\n<pre>");
 }

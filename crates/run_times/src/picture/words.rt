@@ -1,11 +1,12 @@
 //! How wide a text is, and what is told of what is left out.
 
 use crate::picture::chart::Chart;
+use plain_text::plain_char;
 use unicode_width::UnicodeWidthChar;
 
-/// How many columns the character takes; one that can't be shown takes one.
+/// How many columns the character takes as it is written; one that can't be shown takes one.
 fn columns_of_char(c: char) -> usize {
-    UnicodeWidthChar::width(c).unwrap_or(1)
+    UnicodeWidthChar::width(plain_char(c)).unwrap_or(1)
 }
 
 /// How many columns the text takes.

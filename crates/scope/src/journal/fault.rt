@@ -1,7 +1,8 @@
 //! What keeps a journal from being read.
 
 use exit_status::BAD_FILE;
-use run_times::telling::tell_of;
+use run_times::telling::{tell_line, tell_of};
+use run_times::{Ink, Piece};
 use std::io;
 use std::io::ErrorKind;
 
@@ -25,6 +26,17 @@ pub enum JournalFault {
     Write(io::Error),
 }
 
+/// Tells that the line is too long, and answers the exit status.
+pub(crate) fn tell_long(host: &HostRuntime, name: &str, line: u64) -> u8 {
+    let mut told = Ink::new(host.alloc());
+    told.fill(
+        "jobscope: $: line $: longer than 262144 bytes; told is what stands before it\n",
+        &[Piece::Text(name), Piece::Number(line)],
+    );
+    tell_line(host, told);
+    BAD_FILE
+}
+
 /// Tells what keeps the journal from being read, and answers the exit status. An error for want of memory, or of a write.
 pub(crate) fn tell_fault(host: &HostRuntime, name: &str, fault: JournalFault) -> io::Result<u8> {
     let words = match fault {
@@ -35,12 +47,7 @@ pub(crate) fn tell_fault(host: &HostRuntime, name: &str, fault: JournalFault) ->
             drop(error);
             return Ok(BAD_FILE);
         }
-        JournalFault::LongLine(line) => {
-            let _written = eprintln!(host;
-                "jobscope: {name}: line {line}: longer than 262144 bytes"
-            );
-            return Ok(BAD_FILE);
-        }
+        JournalFault::LongLine(line) => return Ok(tell_long(host, name, line)),
         JournalFault::NoHeader => "line 1: no whole line, where a journal has its header",
         JournalFault::BadHeader => "line 1: no header of a journal",
         JournalFault::BadZone => "line 1: the header's zone is none",

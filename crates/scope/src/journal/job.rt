@@ -1,10 +1,14 @@
 //! What is kept of one job: of its present load, and over all its loads.
 
-use crate::journal::news::{Wait, What};
+use crate::journal::news::What;
 use crate::journal::run::{JobRun, RunEnd, is_crash};
-use history_model::{Answer, DemandKind, Ended, JobItem, Reading};
+use crate::journal::waiting::Wait;
+use history_model::{Answer, DemandKind, Ended, JobItem, Reading, SECOND};
 use job_defs::Def;
 use pace::Signal;
+
+/// After so many ends with code 0, each within a second of its begin, it is asked whether the program puts itself in the background.
+const QUICK_ENDS: u64 = 3;
 
 /// What was asked of a job, by a control client.
 #[derive(Clone, Copy)]
@@ -39,6 +43,9 @@ pub(crate) struct Totals {
     pub(crate) loaded: u64,
     /// The longest time without a run while it was loaded.
     pub(crate) gap: u64,
+    /// The shortest and the longest run that is over; no run is shorter than the shortest if there is none.
+    pub(crate) shortest: u64,
+    pub(crate) longest: u64,
 }
 
 /// What is counted of a label that was never loaded.
@@ -51,6 +58,8 @@ const NOTHING: Totals = Totals {
     lived: 0,
     loaded: 0,
     gap: 0,
+    shortest: u64::MAX,
+    longest: 0,
 };
 
 /// A job that is or was loaded.
@@ -87,6 +96,10 @@ pub(crate) struct Record {
     /// When the first TERM, and when the last KILL, was ordered for the present run.
     pub(crate) term: Option<Reading>,
     pub(crate) kill: Option<Reading>,
+    /// Whether it is started again after each end with code 0.
+    pub(crate) is_kept_alive: bool,
+    /// How many of its last runs ended one after another with code 0 within a second.
+    pub(crate) quick_ends: u64,
     /// From when on it has no run.
     idle: Reading,
     /// When the last of it was gone.
@@ -111,6 +124,8 @@ impl Record {
             is_lost: false,
             term: None,
             kill: None,
+            is_kept_alive: false,
+            quick_ends: 0,
             idle: at,
             gone: at,
             totals: NOTHING,
@@ -162,7 +177,10 @@ impl Record {
             JobItem::Left(conn) => (Some(What::Left(conn)), None),
             JobItem::Answered(answer) => self.note_answer(answer, wait, at),
             JobItem::Ended { how, .. } => match self.end(how, at) {
-                Some(run) => (Some(What::Ended { run, wait }), Some(run)),
+                Some(run) => {
+                    let is_odd = self.is_kept_alive && self.quick_ends == QUICK_ENDS;
+                    (Some(What::Ended { run, wait, is_odd }), Some(run))
+                }
                 None => (None, None),
             },
             JobItem::WaitRefused { .. } if self.is_lost => (None, None),
@@ -232,12 +250,24 @@ impl Record {
         if run.is_crash {
             totals.crashes = totals.crashes.saturating_add(1);
         }
-        totals.lived = totals.lived.saturating_add(run.lived(at));
+        let lived = run.lived(at);
+        totals.lived = totals.lived.saturating_add(lived);
+        totals.shortest = totals.shortest.min(lived);
+        totals.longest = totals.longest.max(lived);
+        self.quick_ends = match how {
+            Ended::Code(0) if lived <= SECOND => self.quick_ends.saturating_add(1),
+            _ => 0,
+        };
         self.ends = self.ends.saturating_add(1);
         self.idle = at;
         self.current = None;
         self.last = Some(run);
         Some(run)
+    }
+
+    /// Whether it looks as if its program put itself in the background.
+    pub(crate) fn is_in_background(&self) -> bool {
+        self.is_kept_alive && self.quick_ends >= QUICK_ENDS
     }
 
     /// When the last start was refused, if none went well after it.

@@ -2,17 +2,9 @@
 
 use crate::journal::job::JobRequest;
 use crate::journal::run::JobRun;
+use crate::journal::waiting::Wait;
 use history_model::{DemandKind, Refusal, Wants};
 use pace::Signal;
-
-/// When a job that has no run starts again.
-#[derive(Clone, Copy)]
-pub(crate) struct Wait {
-    /// Whether something wants it.
-    pub(crate) is_wanted: bool,
-    /// The `up` until which it is throttled, if it is.
-    pub(crate) throttled_until: Option<u64>,
-}
 
 /// What an event of a journal was, or gave.
 #[derive(Clone, Copy)]
@@ -54,6 +46,8 @@ pub(crate) enum What {
     Ended {
         run: JobRun,
         wait: Wait,
+        /// It was the third one after another that makes one ask whether the program puts itself in the background.
+        is_odd: bool,
     },
     /// The system refused to wait for the run.
     Lost {

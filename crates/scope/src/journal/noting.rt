@@ -1,27 +1,35 @@
 //! What is kept of an event of the journal, and told of it.
 
 use crate::journal::job::JobRequest;
-use crate::journal::news::{News, Wait, What};
+use crate::journal::labels::DisabledBy;
+use crate::journal::news::{News, What};
 use crate::journal::past::Past;
-use history_model::{Act, Ask, DemandKind, Event, JobItem, Reading, Refusal, Wants};
+use crate::journal::waiting::Wait;
+use history_model::{
+    Act, Ask, DemandKind, Event, JobItem, KeyName, Reading, Refusal, Wants, is_label,
+};
 use job_defs::read_def;
+use json_kinds::{json_value, key_name};
 use pace::Signal;
+use serde_json::Value;
 use std::alloc::{AllocError, Global};
 
 impl Past {
-    /// Notes an event that was accepted at this reading, or refused; the wait is that of its job, if it is of one. Of refused events, a load or what a
-    /// client asked is told; answers out of turn are left aside.
+    /// Notes an event that came at the reading `now`, and was accepted at this one, or refused; the wait is that of its job, if it is of one. Of
+    /// refused events, a load or what a client asked is told; answers out of turn are left aside.
     pub(crate) fn note(
         &mut self,
         alloc: Global,
         event: &Event<'_>,
         made: Result<Reading, Refusal>,
         wait: Wait,
+        now: Reading,
     ) -> Result<(), AllocError> {
         if let Some((label, asked)) = asked_in(event) {
             let what = match made {
                 Ok(at) => {
                     self.ask(label, asked, at);
+                    self.note_setting(alloc, label, asked, at)?;
                     What::Asked(asked)
                 }
                 Err(refusal) => What::Declined(asked, refusal),
@@ -29,7 +37,14 @@ impl Past {
             return self.add_news(alloc, label, what);
         }
         match (event, made) {
-            (Event::Load { def, .. }, made) => self.note_load(alloc, def.as_str(), made),
+            (
+                Event::Load {
+                    def,
+                    writes_setting,
+                    ..
+                },
+                made,
+            ) => self.note_load(alloc, def.as_str(), *writes_setting, made, now),
             (Event::OfJob { job, item }, Ok(at)) => {
                 self.note_item(alloc, job.as_str(), *item, wait, at)
             }
@@ -55,36 +70,86 @@ impl Past {
         }
     }
 
-    // A load that was made at this reading, or refused. The label of what is no definition is not known.
+    // What a client asked disables the label, or enables it.
+    fn note_setting(
+        &mut self,
+        alloc: Global,
+        label: &str,
+        asked: JobRequest,
+        at: Reading,
+    ) -> Result<(), AllocError> {
+        match asked {
+            JobRequest::Disable | JobRequest::UnloadForGood => {
+                let by = DisabledBy::Client(asked, at);
+                self.labels.set(alloc, label, Some(by))
+            }
+            JobRequest::Enable => self.labels.set(alloc, label, None),
+            _ => Ok(()),
+        }
+    }
+
+    // A load that was made, or refused, at this reading.
     fn note_load(
         &mut self,
         alloc: Global,
         def: &str,
+        writes_setting: bool,
         made: Result<Reading, Refusal>,
+        at: Reading,
     ) -> Result<(), AllocError> {
-        let what = match made {
-            Ok(_) => What::Loaded,
-            Err(refusal) => What::LoadRefused(refusal),
+        match made {
+            Ok(at) => self.note_loaded(alloc, def, writes_setting, at),
+            Err(refusal) => self.note_refused(alloc, def, refusal, at),
+        }
+    }
+
+    fn note_loaded(
+        &mut self,
+        alloc: Global,
+        def: &str,
+        writes_setting: bool,
+        at: Reading,
+    ) -> Result<(), AllocError> {
+        let Ok(def) = read_def(alloc, def.as_bytes()) else {
+            return Err(AllocError);
         };
-        match read_def(alloc, def.as_bytes()) {
-            Ok(def) => {
-                let told = self.add_news(alloc, def.label(), what);
-                let kept = match made {
-                    Ok(at) => self.load(alloc, def, at),
-                    Err(_) => {
-                        drop(def);
-                        Ok(())
-                    }
-                };
-                match told {
-                    Ok(()) => kept,
-                    Err(error) => Err(error),
-                }
-            }
-            Err(_) => match made {
-                Ok(_) => Ok(()),
-                Err(_) => self.add_news(alloc, "", what),
-            },
+        let told = self.add_news(alloc, def.label(), What::Loaded);
+        let known = self.labels.load(alloc, def.label(), None);
+        let enabled = if writes_setting {
+            self.labels.set(alloc, def.label(), None)
+        } else {
+            Ok(())
+        };
+        let kept = self.load(alloc, def, at);
+        match (told, known, enabled) {
+            (Ok(()), Ok(()), Ok(())) => kept,
+            _ => Err(AllocError),
+        }
+    }
+
+    // The label may stand in what is no definition; if not, it is not known.
+    fn note_refused(
+        &mut self,
+        alloc: Global,
+        def: &str,
+        refusal: Refusal,
+        at: Reading,
+    ) -> Result<(), AllocError> {
+        let what = What::LoadRefused(refusal);
+        let Some(value) = json_value(alloc, def.as_bytes())? else {
+            return self.add_news(alloc, "", what);
+        };
+        let label = label_in(&value);
+        let told = self.add_news(alloc, label, what);
+        let known = if label.is_empty() {
+            Ok(())
+        } else {
+            self.labels.load(alloc, label, Some((refusal, at)))
+        };
+        drop(value);
+        match told {
+            Ok(()) => known,
+            Err(error) => Err(error),
         }
     }
 
@@ -159,6 +224,17 @@ impl Past {
             }
         };
         self.add_news(alloc, label, what)
+    }
+}
+
+// The label that stands in the definition; the empty text if none does.
+fn label_in(def: &Value) -> &str {
+    match def.get(key_name(KeyName::Label)) {
+        Some(label) => match label.as_str() {
+            Some(label) if is_label(label) => label,
+            _ => "",
+        },
+        None => "",
     }
 }
 

@@ -1,6 +1,7 @@
 //! What is kept of all jobs: by their labels, and the runs that are over.
 
 use crate::journal::job::{JobRequest, KeptJob, Record};
+use crate::journal::labels::KnownLabels;
 use crate::journal::news::News;
 use crate::journal::run::JobRun;
 use history_model::Reading;
@@ -19,8 +20,12 @@ pub(crate) const MOST_RUNS: usize = 131_072;
 pub(crate) struct Past {
     /// The jobs by their labels, those that are gone too.
     pub(crate) jobs: BTreeMap<String, KeptJob>,
+    /// What is known of labels beside.
+    pub(crate) labels: KnownLabels,
     /// The runs that are over, in the order of their ends.
     pub(crate) runs: VecDeque<JobRun>,
+    /// How many more are over than are kept.
+    pub(crate) dropped: u64,
     /// What the last line gave, in order.
     pub(crate) news: Vec<News>,
     /// The serial number of the job that was last new.
@@ -34,7 +39,9 @@ impl Past {
     pub(crate) fn new(alloc: Global) -> Past {
         Past {
             jobs: BTreeMap::new(alloc),
+            labels: KnownLabels::new(alloc),
             runs: VecDeque::new(alloc),
+            dropped: 0,
             news: Vec::new(alloc),
             serial: 0,
             asks: 0,
@@ -46,7 +53,7 @@ impl Past {
     pub(crate) fn load(&mut self, alloc: Global, def: Def, at: Reading) -> Result<(), AllocError> {
         let label = String::from_str(alloc, def.label());
         let mut is_room = true;
-        let record = match self.jobs.get(def.label()) {
+        let mut record = match self.jobs.get(def.label()) {
             Some(job) => job.record.loaded_again(at),
             None => {
                 is_room = self.make_room().is_ok();
@@ -54,6 +61,7 @@ impl Past {
                 Record::new(self.serial, at)
             }
         };
+        record.is_kept_alive = def.keep_alive() || def.successful_exit() == Some(true);
         let job = KeptJob {
             def: Some(def),
             record,
@@ -131,6 +139,7 @@ impl Past {
     pub(crate) fn keep(&mut self, run: JobRun) -> Result<(), AllocError> {
         if self.runs.len() >= MOST_RUNS {
             let _oldest = self.runs.pop_front();
+            self.dropped = self.dropped.saturating_add(1);
         }
         Ok(self.runs.push_back(run)?)
     }

@@ -4,15 +4,14 @@ ghost use Rattle.loaded_jobs.specs.TableOutcomes.{IsNextTable};
 ghost use Rattle.job_table.specs.Taking.{machine_event};
 ghost use Rattle.table_opening.specs.JournalEvents.{event_in};
 ghost use Rattle.scope.specs.Journals.{IsOpenedAt, IsOpenedBy};
-ghost use Rattle.scope.specs.ByFacts.{wait_by};
 
 use crate::journal::fault::JournalFault;
-use crate::journal::news::Wait;
+use crate::journal::labels::DisabledBy;
 use crate::journal::past::Past;
-use crate::journal::telling::is_wanted;
+use crate::journal::waiting::{Wait, wait_in};
 use calendar_due::Zone;
 use ctl_protocol::{Header, LineRoom, ReadFault, read_event, read_header};
-use history_model::{Event, Reading, Reasons, Refusal};
+use history_model::{Event, Reading, Refusal};
 use job_table::{JobTable, Taken};
 use std::alloc::{AllocError, Global};
 use table_opening::{OpeningFault, table_of, zone_of};
@@ -42,14 +41,15 @@ fn opened_by(alloc: Global, header: Header) -> Result<OpenJournal, JournalFault>
     ensures { IfOk result (λ journal. IsOpenedBy header journal.table) }
 {
     let zone = zone_of(alloc, &header.zone);
-    match (zone, table_of(alloc, header), LineRoom::new(alloc)) {
-        (Ok(Some(zone)), Ok(table), Ok(room)) => Ok(OpenJournal {
+    let past = past_of(alloc, &header);
+    match (zone, table_of(alloc, header), LineRoom::new(alloc), past) {
+        (Ok(Some(zone)), Ok(table), Ok(room), Ok(past)) => Ok(OpenJournal {
             table,
             zone,
-            past: Past::new(alloc),
+            past,
             room,
         }),
-        (zone, table, room) => {
+        (zone, table, room, past) => {
             let fault = match (&zone, &table) {
                 (Ok(None), _) | (_, Err(OpeningFault::BadZone)) => JournalFault::BadZone,
                 (_, Err(OpeningFault::BadLabel | OpeningFault::BadReading)) => {
@@ -60,9 +60,27 @@ fn opened_by(alloc: Global, header: Header) -> Result<OpenJournal, JournalFault>
             drop(zone);
             drop(table);
             drop(room);
+            drop(past);
             Err(fault)
         }
     }
+}
+
+// What is known of the past by the header alone: its settings, the last of a label deciding.
+fn past_of(alloc: Global, header: &Header) -> Result<Past, AllocError> {
+    let mut past = Past::new(alloc);
+    for setting in header.overrides.as_slice() {
+        let by = if setting.disabled {
+            Some(DisabledBy::Header)
+        } else {
+            None
+        };
+        if past.labels.set(alloc, setting.label.as_str(), by).is_err() {
+            drop(past);
+            return Err(AllocError);
+        }
+    }
+    Ok(past)
 }
 
 impl OpenJournal {
@@ -105,7 +123,8 @@ fn take_in(
         Err(refusal) => Err(refusal),
     };
     let wait = wait_after(table, event);
-    match (past.note(alloc, event, made, wait), made) {
+    let now = table.reading();
+    match (past.note(alloc, event, made, wait, now), made) {
         (Ok(()), Ok(at)) => note_orders(alloc, table, past, at),
         (noted, _) => noted,
     }
@@ -114,24 +133,8 @@ fn take_in(
 // The wait of the job that the event was of, as the table has it.
 fn wait_after(table: &JobTable, event: &Event<'_>) -> Wait {
     match event {
-        Event::OfJob { job, .. } => wait_of(table.reasons(job.as_str())),
-        _ => wait_of(None),
-    }
-}
-
-// The wait by these reasons; of a job that is not loaded nothing wants a start.
-fn wait_of(reasons: Option<Reasons>) -> Wait
-    ensures { result ≡ wait_by reasons }
-{
-    match reasons {
-        Some(reasons) => Wait {
-            is_wanted: is_wanted(&reasons.wants),
-            throttled_until: reasons.throttled_until,
-        },
-        None => Wait {
-            is_wanted: false,
-            throttled_until: None,
-        },
+        Event::OfJob { job, .. } => wait_in(table, job.as_str()),
+        _ => Wait::Leaves,
     }
 }
 

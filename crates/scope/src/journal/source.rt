@@ -8,7 +8,8 @@ use crate::journal::fault::JournalFault;
 use crate::journal::lines::{Hears, JournalLines};
 use exit_status::BAD_FILE;
 use launchctl_words::ScopeCommand;
-use run_times::telling::put;
+use run_times::telling::{put, tell_line};
+use run_times::{Ink, Piece};
 use std::alloc::AllocError;
 use std::env::VarError;
 use std::fs::File;
@@ -169,13 +170,15 @@ pub(crate) fn tell_bad(host: &HostRuntime, name: &str, lines: &JournalLines) -> 
     if lines.bad == 0 {
         return 0;
     }
-    if more == 0 {
-        let _written = eprintln!(host; "jobscope: {name}: line {first} is no event");
+    let form = if more == 0 {
+        "jobscope: $: line $ is no event\n"
     } else {
-        let _written = eprintln!(host;
-            "jobscope: {name}: line {first} is no event, and {more} more"
-        );
-    }
+        "jobscope: $: line $ is no event, and $ more\n"
+    };
+    let mut told = Ink::new(host.alloc());
+    let holes = [Piece::Text(name), Piece::Number(first), Piece::Number(more)];
+    told.fill(form, &holes);
+    tell_line(host, told);
     BAD_FILE
 }
 

@@ -1,6 +1,6 @@
 //! By what a job that nothing wants will be wanted, in words.
 
-use crate::texts::by_facts::{StartWord, start_word};
+use crate::texts::by_facts::{StartWord, can_start_again, start_word};
 use crate::texts::told::{
     CalendarNext, MOST_SENTENCES, NONE, SILENCE, Sentence, Sentences, ToldJob, said_if,
 };
@@ -11,10 +11,10 @@ use run_times::Filling::{Coming, Minute, Number, Text};
 /// How far is looked ahead, in seconds: 400 days.
 pub(crate) const FARTHEST: u64 = 34_560_000;
 
-/// Why its conditions do not want it, and the ways by which it comes to be wanted. Of a job that is being removed nothing is said.
+/// Why its conditions do not want it, and the ways by which it comes to be wanted. Of a job that can't start again nothing is said.
 pub(crate) fn ways_said(told: &ToldJob<'_>) -> Sentences<'static> {
     let mut said = [SILENCE; MOST_SENTENCES];
-    if told.facts.reasons.is_removing {
+    if !can_start_again(&told.facts.reasons) {
         return said;
     }
     let has_ended = told.job.last.is_some();

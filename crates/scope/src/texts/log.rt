@@ -1,13 +1,18 @@
 //! The journal for people: a line for each event that matters.
 
-use crate::journal::news::{News, Wait, What};
+use crate::journal::news::{News, What};
 use crate::journal::reader::OpenJournal;
 use crate::journal::run::JobRun;
-use crate::texts::words::{asked_name, demand_words, end_words, refusal_name};
-use history_model::{DemandKind, Wants};
+use crate::journal::waiting::Wait;
+use crate::texts::words::{asked_name, demand_words, end_words, refusal_name, refusal_words};
+use history_model::{DemandKind, Refusal, Wants};
 use pace::Signal;
 use run_times::Filling::{Coming, Now, Number, Span, Text};
 use run_times::{Filling, Page};
+
+/// What ends the line of the third end in turn that is odd.
+const BACKGROUND: &str =
+    ". Does its program put itself in the background? It has to stay in the foreground.\n";
 
 /// Whether the label is among those; each is if there is none.
 pub(crate) fn is_named(labels: &[history_model::Text], label: &str) -> bool {
@@ -53,10 +58,21 @@ fn add_news(page: &mut Page<'_>, news: &News, path: Option<&str>) {
             let (form, cause) = order_words(*demand, path, wants);
             page.add(form, &[Number(*run), Text(cause)]);
         }
+        What::LoadRefused(refusal) => add_refused(page, *refusal),
         What::Ended { run, .. } => add_ended(page, run),
         what => add_what(page, what),
     }
     add_wait(page, &news.what);
+}
+
+fn add_refused(page: &mut Page<'_>, refusal: Refusal) {
+    let [words, reason, key] = refusal_words(refusal);
+    let form = if key.is_empty() {
+        "load refused: $"
+    } else {
+        "load refused: $$ $"
+    };
+    page.add(form, &[Text(words), Text(reason), Text(key)]);
 }
 
 // What is told by one form with two holes.
@@ -64,7 +80,6 @@ fn add_what(page: &mut Page<'_>, what: &What) {
     let none = Text("");
     let (form, first, second) = match *what {
         What::Loaded => ("loaded", none, none),
-        What::LoadRefused(refusal) => ("load refused: $", Text(refusal_name(refusal)), none),
         What::Asked(asked) => ("$ was asked", Text(asked_name(asked)), none),
         What::Declined(asked, refusal) => (
             "$ was asked and refused: $",
@@ -134,16 +149,20 @@ fn add_ended(page: &mut Page<'_>, run: &JobRun) {
 fn add_wait(page: &mut Page<'_>, what: &What) {
     let (form, until) = match what {
         What::NotBegun { wait, .. } | What::Ended { wait, .. } => wait_words(wait),
-        _ => ("\n", 0),
+        _ => ("", 0),
     };
     page.add(form, &[Coming(until)]);
+    page.ink.put(match what {
+        What::Ended { is_odd: true, .. } => BACKGROUND,
+        _ => "\n",
+    });
 }
 
 fn wait_words(wait: &Wait) -> (&'static str, u64) {
-    match (wait.is_wanted, wait.throttled_until) {
-        (false, _) => ("; nothing wants it\n", 0),
-        (true, Some(up)) => ("; it waits until $ (throttled)\n", up),
-        (true, None) => ("\n", 0),
+    match *wait {
+        Wait::Unwanted => ("; nothing wants it", 0),
+        Wait::Throttled(up) => ("; it waits until $ (throttled)", up),
+        Wait::Leaves | Wait::Other => ("", 0),
     }
 }
 

@@ -11,8 +11,8 @@ const HEAD: &str =
     "label\tstarts\trefused\tcode\tsignal\tcrashes\tshortest\tmedian\tlongest\tup\tgap\n";
 
 /// A head, and a line for each job, or for each of those named that the journal has: starts, those refused, ends with a code and by
-/// a signal, crashes; the shortest, median and longest run in seconds (of the runs that are over and kept; of an even number the
-/// lower of the two in the middle), the share of the time that it was up while it was loaded, and the longest time without a
+/// a signal, crashes; the shortest, median and longest run in seconds (the median of the runs that are over and kept; of an even number
+/// the lower of the two in the middle), the share of the time that it was up while it was loaded, and the longest time without a
 /// run in seconds. `-` stands where there is none.
 pub(crate) fn runs_table(
     alloc: Global,
@@ -53,9 +53,9 @@ fn lengths(alloc: Global, past: &Past, now: Reading) -> Result<Vec<(u64, u64)>, 
 
 fn add_row(ink: &mut Ink, now: Reading, lengths: &[(u64, u64)], label: &str, job: &KeptJob) {
     let totals = job.record.totals_at(job.def.is_some(), now);
-    ink.put(label);
+    ink.put_plain(label);
     add_counts(ink, &totals);
-    add_lengths(ink, lengths, job.record.serial);
+    add_lengths(ink, lengths, job.record.serial, &totals);
     add_share(ink, totals.lived, totals.loaded);
     add_seconds(ink, totals.gap);
     ink.put("\n");
@@ -75,18 +75,26 @@ fn add_counts(ink: &mut Ink, totals: &Totals) {
     }
 }
 
-// The shortest, the median and the longest of the job.
-fn add_lengths(ink: &mut Ink, lengths: &[(u64, u64)], job: u64) {
+// The shortest of the job, the median of those that are kept, and the longest.
+fn add_lengths(ink: &mut Ink, lengths: &[(u64, u64)], job: u64, totals: &Totals) {
+    let has_ended = totals.shortest <= totals.longest;
+    add_known(ink, has_ended, totals.shortest);
     let from = first_from(lengths, job);
     let to = first_from(lengths, job.saturating_add(1));
     let own = lengths.get(from..to).unwrap_or(&[]);
-    let last = own.len().saturating_sub(1);
-    let indexes = [0, last / 2, last];
-    for index in indexes.iter() {
-        match own.get(*index) {
-            Some((_, length)) => add_seconds(ink, *length),
-            None => ink.put("\t-"),
-        }
+    match own.get(own.len().saturating_sub(1) / 2) {
+        Some((_, length)) => add_seconds(ink, *length),
+        None => ink.put("\t-"),
+    }
+    add_known(ink, has_ended, totals.longest);
+}
+
+// The span, if there is one.
+fn add_known(ink: &mut Ink, is_known: bool, milliseconds: u64) {
+    if is_known {
+        add_seconds(ink, milliseconds);
+    } else {
+        ink.put("\t-");
     }
 }
 

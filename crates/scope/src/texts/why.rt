@@ -1,13 +1,14 @@
 //! Why each job stands as it does, at the journal's end.
 
 use crate::journal::job::{KeptJob, Record};
+use crate::journal::labels::{DisabledBy, KnownLabel};
 use crate::journal::reader::OpenJournal;
 use crate::texts::cause_lines::add_causes;
 use crate::texts::coming::{FARTHEST, calendar_next};
 use crate::texts::told::{Keys, ToldJob};
-use crate::texts::words::end_words;
+use crate::texts::words::{asked_name, end_words, refusal_words};
 use calendar_due::Zone;
-use history_model::{Entry, MAX_UP, MAX_WALL, Reading, Reasons};
+use history_model::{Entry, MAX_UP, MAX_WALL, Reading, Reasons, Refusal};
 use run_times::Filling::{Now, Number, Span, Text, Time};
 use run_times::{Page, next_run};
 use std::alloc::{AllocError, Global};
@@ -29,13 +30,53 @@ pub(crate) fn why_text(
         let label = label.as_str();
         match journal.past.jobs.get(label) {
             Some(job) => add_job(&mut page, journal, label, job),
-            None => {
-                let form = "\n$ is not loaded: the journal has no load of it.\n";
-                page.add(form, &[Text(label)]);
-            }
+            None if is_known(journal, label) => add_unloaded(&mut page, journal, label),
+            None => {}
         }
     }
     page.into_text()
+}
+
+/// Whether something is told of the label: it is or was loaded, a setting disables it, or its last load was refused.
+pub(crate) fn is_known(journal: &OpenJournal, label: &str) -> bool {
+    journal.past.jobs.get(label).is_some() || journal.past.labels.items.get(label).is_some()
+}
+
+fn add_unloaded(page: &mut Page<'_>, journal: &OpenJournal, label: &str) {
+    page.add("\n$ is not loaded.\n", &[Text(label)]);
+    add_label(page, label, journal.past.labels.of(label));
+}
+
+// What is known of the label beside its job: since when it is disabled, and why its last load was refused.
+fn add_label(page: &mut Page<'_>, label: &str, known: KnownLabel) {
+    match known.disabled {
+        Some(DisabledBy::Client(asked, at)) => page.add(
+            "  It is disabled since $ (jobctl $): `jobctl enable $`.\n",
+            &[Time(at.wall), Text(asked_name(asked)), Text(label)],
+        ),
+        Some(DisabledBy::Header) => page.add(
+            "  It is disabled since before the journal's first event: `jobctl enable $`.\n",
+            &[Text(label)],
+        ),
+        None => {}
+    }
+    let Some((refusal, at)) = known.refused else {
+        return;
+    };
+    let [words, reason, key] = refusal_words(refusal);
+    let form = if key.is_empty() {
+        "  Its load at $ was refused: $.\n"
+    } else {
+        "  Its load at $ was refused: $$ $.\n"
+    };
+    page.add(form, &[Time(at.wall), Text(words), Text(reason), Text(key)]);
+    match (refusal, known.disabled) {
+        (Refusal::Disabled, None) => page.add(
+            "  Its definition has Disabled: `jobctl enable $` lets it be loaded.\n",
+            &[Text(label)],
+        ),
+        _ => {}
+    }
 }
 
 fn add_all(page: &mut Page<'_>, journal: &OpenJournal) {
@@ -49,12 +90,22 @@ fn add_all(page: &mut Page<'_>, journal: &OpenJournal) {
     if is_empty {
         page.ink.put("\nNo job is loaded.\n");
     }
+    for (label, _) in &journal.past.labels.items {
+        let label = label.as_str();
+        if journal.facts(label).is_none() {
+            match journal.past.jobs.get(label) {
+                Some(job) => add_job(page, journal, label, job),
+                None => add_unloaded(page, journal, label),
+            }
+        }
+    }
 }
 
 fn add_job(page: &mut Page<'_>, journal: &OpenJournal, label: &str, job: &KeptJob) {
     let (Some(def), Some(facts)) = (&job.def, journal.facts(label)) else {
         let form = "\n$ is not loaded: it was removed at $.\n";
-        return page.add(form, &[Text(label), Time(job.record.gone.wall)]);
+        page.add(form, &[Text(label), Time(job.record.gone.wall)]);
+        return add_label(page, label, journal.past.labels.of(label));
     };
     let entries = def.calendar();
     let told = ToldJob {
@@ -71,6 +122,8 @@ fn add_job(page: &mut Page<'_>, journal: &OpenJournal, label: &str, job: &KeptJo
     );
     let is_idle = add_causes(page, &told);
     add_past(page, &job.record);
+    add_background(page, &job.record);
+    add_label(page, label, journal.past.labels.of(label));
     // Of a job that nothing wants, and that nothing else keeps from a start, the ways by which it comes to start were told.
     if !is_idle {
         let (form, wall) = start_words(&told, entries, &journal.zone);
@@ -108,8 +161,18 @@ fn add_past(page: &mut Page<'_>, job: &Record) {
         page.add(form, &holes);
     }
     if let Some(run) = &job.refused {
-        let form = "  Its last start (run $) was refused, at $.\n";
+        let form =
+            "  Its last start (run $) was refused, at $. The system's reason stood on the launcher's standard error (journalctl -u jobd).\n";
         page.add(form, &[Number(run.run), Time(run.ended.wall)]);
+    }
+}
+
+// What is asked of a job whose program seems to put itself in the background.
+fn add_background(page: &mut Page<'_>, job: &Record) {
+    if job.is_in_background() {
+        page.ink.put(
+            "  Does its program put itself in the background? It has to stay in the foreground.\n",
+        );
     }
 }
 

@@ -3,6 +3,7 @@
 use crate::journal::job::JobRequest;
 use crate::journal::run::RunEnd;
 use history_model::{DemandKind, Refusal};
+use json_kinds::{key_name, reason_name};
 
 /// What was asked, as the word of `jobctl`.
 pub(crate) fn asked_name(asked: JobRequest) -> &'static str {
@@ -16,6 +17,16 @@ pub(crate) fn asked_name(asked: JobRequest) -> &'static str {
         JobRequest::Enable => "enable",
         JobRequest::Disable => "disable",
         JobRequest::Shutdown => "shutdown",
+    }
+}
+
+/// Why an event was refused: of a bad definition also how its first faulty key is, and which that is.
+pub(crate) fn refusal_words(refusal: Refusal) -> [&'static str; 3] {
+    match refusal {
+        Refusal::BadDefinition(reason, key) => {
+            ["bad definition: ", reason_name(reason), key_name(key)]
+        }
+        refusal => [refusal_name(refusal), "", ""],
     }
 }
 

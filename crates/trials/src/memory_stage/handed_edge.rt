@@ -7,6 +7,7 @@ use child_edge::{
 };
 use history_model::{Ended, JobNo, Obs, Reading};
 use job_defs::Def;
+use jobd::SleepEdge;
 
 /// The paths that jobs of a stream list, in byte order.
 pub const PATHS: [&str; 2] = ["/a", "/b"];
@@ -22,9 +23,9 @@ pub const ABSENT: Obs = Obs {
 };
 
 /// An edge to which the clock and the sights of paths are handed.
-pub trait Handed: ChildEdge + ClockEdge + PathEdge + SocketEdge {
-    /// From now on the clocks stand so, and this is at the paths.
-    fn hand(&mut self, now: Reading, sights: Sights);
+pub trait Handed: ChildEdge + SleepEdge + PathEdge + SocketEdge {
+    /// From now on the clocks stand so, the machine slept so many milliseconds, and this is at the paths.
+    fn hand(&mut self, now: Reading, slept: u64, sights: Sights);
 
     /// What was ordered, with the answers.
     fn orders(&self) -> &[(EdgeCall, Scripted)];
@@ -34,12 +35,14 @@ pub trait Handed: ChildEdge + ClockEdge + PathEdge + SocketEdge {
 pub struct HandedEdge {
     pub orders: MemoryEdge,
     pub now: Reading,
+    pub slept: u64,
     pub sights: Sights,
 }
 
 impl Handed for HandedEdge {
-    fn hand(&mut self, now: Reading, sights: Sights) {
+    fn hand(&mut self, now: Reading, slept: u64, sights: Sights) {
         self.now = now;
+        self.slept = slept;
         self.sights = sights;
     }
 
@@ -115,5 +118,11 @@ impl PathEdge for HandedEdge {
 impl ClockEdge for HandedEdge {
     fn read(&mut self) -> Result<Reading, EdgeFault> {
         Ok(self.now)
+    }
+}
+
+impl SleepEdge for HandedEdge {
+    fn slept(&mut self) -> u64 {
+        self.slept
     }
 }

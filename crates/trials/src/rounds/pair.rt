@@ -20,13 +20,23 @@ struct Pair<T: SettingStore, E: Handed, W: Write> {
     looks: Sights,
     whole: Host<T, E, W>,
     at: Reading,
+    slept: u64,
+    counted: u64,
     seen: Seen,
 }
+
+/// So many milliseconds the machine had slept when the launcher began.
+const BEFORE: u64 = 7_000;
 
 impl<T: SettingStore, E: Handed, W: Write> Pair<T, E, W> {
     // The one launcher is told what its loop tells it, the other the reading and each sight.
     fn round(&mut self, alloc: Global) {
-        self.spared.host.edge().hand(self.at, self.seen);
+        let awake = Reading {
+            up: self.at.up.saturating_sub(self.counted),
+            wall: self.at.wall,
+        };
+        let slept = self.slept.saturating_add(BEFORE);
+        self.spared.host.edge().hand(awake, slept, self.seen);
         self.spared.begin(alloc);
         let _clock = self.whole.turn(alloc, Input::Clock(self.at));
         if self.looks.look(alloc, &mut self.spared) {
@@ -50,6 +60,11 @@ impl<T: SettingStore, E: Handed, W: Write> Pair<T, E, W> {
                 let wall = START.wall.saturating_add(passed);
                 self.at = Reading { up, wall };
                 self.round(alloc);
+                true
+            }
+            Step::Slept(slept, counted) => {
+                self.slept = slept;
+                self.counted = counted;
                 true
             }
             Step::Sees(place, obs) => {
@@ -120,10 +135,12 @@ fn played<T: SettingStore + Drop, E: Handed + Drop, W: Write + Drop>(
         }
     };
     let mut pair = Pair {
-        spared: RoundLauncher::new(host),
+        spared: RoundLauncher::new(host, BEFORE),
         looks,
         whole,
         at: START,
+        slept: 0,
+        counted: 0,
         seen: [ABSENT, ABSENT],
     };
     let are_alike = pair.play_all(alloc, stream);

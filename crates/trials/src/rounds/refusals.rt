@@ -87,7 +87,7 @@ fn is_journaled(host_rt: &HostRuntime, rt: &Refusing, folder: &str) -> Option<bo
         Some(host) => {
             let mut host = host;
             drop(host.turn(rt.alloc(), Input::Line(LOAD)));
-            let (go_on, launcher) = rounds_of(rt, RoundLauncher::new(host), control)?;
+            let (go_on, launcher) = rounds_of(rt, RoundLauncher::new(host, 0), control)?;
             let RoundLauncher { host, .. } = launcher;
             Some(holds(host) && go_on)
         }

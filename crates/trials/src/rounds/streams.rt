@@ -1,7 +1,7 @@
 //! The streams. Each ends with a list, whose text both launchers have to answer alike.
 
 use crate::memory_stage::ABSENT;
-use crate::rounds::step::Step::{Ask, End, Round, Sees};
+use crate::rounds::step::Step::{Ask, End, Round, Sees, Slept};
 use crate::rounds::step::Stream;
 use child_edge::{EdgeCall, Scripted};
 use history_model::{Ended, Obs};
@@ -237,4 +237,54 @@ pub const QUEUED: Stream = Stream {
     ],
     orders: &[FIRST_RUN, SECOND_RUN],
     left_out: 10,
+};
+
+const TERM_FIRST: Order = (EdgeCall::Term { job: 0, run: 1 }, Scripted::Done);
+
+const KILL_FIRST: Order = (EdgeCall::Kill { job: 0, run: 1 }, Scripted::Done);
+
+const HOURS: u64 = 7_200_000;
+
+const LATER: &str =
+    r#"{"req":"load","def":"{\"Label\":\"later\",\"Program\":\"/bin/x\",\"StartInterval\":3600}"}"#;
+
+/// The machine sleeps for two hours while a job has its 20 seconds to end: it has all of them awake. Then the interval of the other one was over.
+/// Handed in are the readings of the stop, of the throttle's end, of the KILL, and of the last interval.
+pub const SLEEP: Stream = Stream {
+    steps: &[
+        Ask(KEPT),
+        Ask(LATER),
+        Round(1_000, 1),
+        Ask(r#"{"req":"stop","job":"kept"}"#),
+        Slept(HOURS, 0),
+        Round(2_000, 7_202),
+        Round(20_999, 7_220),
+        Slept(HOURS, HOURS),
+        Round(7_221_000, 7_221),
+        End("kept", 1, DONE),
+        Slept(2 * HOURS, 2 * HOURS),
+        Round(14_422_000, 14_422),
+        Ask(r#"{"req":"print","job":"kept"}"#),
+        Ask(LIST),
+    ],
+    orders: &[FIRST_RUN, TERM_FIRST, KILL_FIRST, OTHER_RUN, SECOND_RUN],
+    left_out: 11,
+};
+
+const CALM: &str =
+    r#"{"req":"load","def":"{\"Label\":\"calm\",\"Program\":\"/bin/x\",\"KeepAlive\":true,\"ExitTimeOut\":0}"}"#;
+
+/// A job that gets no KILL holds no sleep up.
+pub const SLEEP_BESIDE_CALM: Stream = Stream {
+    steps: &[
+        Ask(CALM),
+        Ask(LATER),
+        Round(1_000, 1),
+        Ask(r#"{"req":"stop","job":"calm"}"#),
+        Slept(HOURS, HOURS),
+        Round(7_202_000, 7_202),
+        Ask(LIST),
+    ],
+    orders: &[FIRST_RUN, TERM_FIRST, OTHER_RUN],
+    left_out: 4,
 };

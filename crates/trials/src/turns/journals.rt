@@ -39,7 +39,7 @@ const OPEN: Row = Row {
     is_whole: true,
 };
 
-/// A writer that keeps its bytes back and refuses to give them on closes the journal, which holds them all the same.
+/// Without a refusal the journal holds all lines.
 pub const LINES_ARE_HELD: &[Case] = &[
     Case::Journal(&Row { piece: 1, ..OPEN }),
     Case::Journal(&OPEN),
@@ -47,9 +47,11 @@ pub const LINES_ARE_HELD: &[Case] = &[
         piece: 4096,
         ..OPEN
     }),
+    // A writer that refuses to give on the header's line closes the journal at once.
     Case::Journal(&Row {
         refuses_flush: true,
         is_open: false,
+        is_whole: false,
         ..OPEN
     }),
 ];
@@ -92,7 +94,7 @@ fn turned(alloc: Global, journal: Journal<&mut Sink>) -> Told {
 }
 
 /// Says whether the journal over a writer for which so many writes go well becomes what the row says. Its closing is told once, and a
-/// writer that fails at no write is flushed once.
+/// writer that fails at nothing is flushed twice: behind the header's line, and at the turn's end.
 fn becomes(alloc: Global, row: &Row, writes: usize, header: &Header) -> bool {
     let mut writer = Sink {
         piece: row.piece,
@@ -104,7 +106,7 @@ fn becomes(alloc: Global, row: &Row, writes: usize, header: &Header) -> bool {
     let is_told = told == (!row.is_open, false, row.is_open);
     let written = writer.taken.as_slice();
     let holds = if row.is_whole {
-        written == LINES && writer.flushes == 1
+        written == LINES && writer.flushes == 2
     } else {
         LINES.starts_with(written)
     };

@@ -2,12 +2,13 @@
 use Rattle.std.proofs.Common.{rules}
 use Rattle.jobd.proofs.round_launcher.RoundLauncher.give.Goals as goal
 
-pub returns : goal.returns
-returns g c = record {
+pub returns-clause-gives : goal.returns-clause-gives
+returns-clause-gives g c = record {
   mid = c.hand_in_time.new.self;
   reading = c.hand_in_time.ensures;
   heard = c.turn.ensures.heard;
   at = c.turn.ensures.at;
+  sleep = c.turn.ensures.sleep;
   loaded = c.turn.ensures.loaded;
   refused = c.turn.ensures.refused;
 }

@@ -26,7 +26,7 @@ returns-in-Ok-Some g c =
       told = search rules;
       label = c.as_str-label.result.now;
       its = λ short. c.as_str-label.ensures.text ∙ c.copy.ensures (subst (λ label. length label ≤ 255) (sym is) short) ∙ is;
-      handed = (c.tell-refusal.result, c.tell-refusal.ensures);
+      handed = (c.tell-refusal.result, c.tell-refusal.ensures.tells);
     }
 
 pub returns-in-Err : goal.returns-in-Err
@@ -39,5 +39,5 @@ returns-in-Err g c =
       told = search rules;
       label = c.as_str-label.result.now;
       its = λ short. c.as_str-label.ensures.text ∙ c.copy.ensures (subst (λ label. length label ≤ 255) (sym is) short) ∙ is;
-      handed = (c.tell-refusal-in-Err.result, c.tell-refusal-in-Err.ensures);
+      handed = (c.tell-refusal-in-Err.result, c.tell-refusal-in-Err.ensures.tells);
     }

@@ -5,6 +5,6 @@ use Rattle.jobd.proofs.round_launcher.RoundLauncherAnswers.answer.Goals as goal
 pub returns : goal.returns
 returns g c = record {
   mid = c.give-reply.new.self;
-  gives = c.give-reply.ensures;
+  gives = c.give-reply.ensures.gives;
   noted = search rules;
 }

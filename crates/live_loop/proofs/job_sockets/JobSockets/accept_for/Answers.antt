@@ -7,8 +7,8 @@ use Rattle.live_loop.proofs.job_sockets.JobSockets.accept_for.Goals as goal
 pub loop-count-init : goal.loop-count-init
 loop-count-init g c = record { asks = nothing; conn = refl }
 
-pub returns-in_default-accept-clause-asks : goal.returns-in_default-accept-clause-asks
-returns-in_default-accept-clause-asks g c = further c.loop-count.invariant.asks c.accept.ensures
+pub returns-in_default-clause-asks : goal.returns-in_default-clause-asks
+returns-in_default-clause-asks g c = further c.loop-count.invariant.asks c.accept.ensures
 
 pub loop-count-preserved : goal.loop-count-preserved
 loop-count-preserved g c = record {

@@ -60,8 +60,8 @@ later before at fine =
 pub mark_due-requires-clause-places : goal.mark_due-requires-clause-places
 mark_due-requires-clause-places c =
     let old = c.args.self.now in
-    subst (λ ps. HavePlaces old.index.timers ps old.index.ready) (sym c.deref.ensures.value)
-    (have-places old.seats.items old.index.timers old.index.places.items old.index.ready c.requires.indexed.alone c.requires.indexed.placed c.requires.indexed.marks)
+    subst (λ ps. HavePlaces old.index.timers ps old.index.marked) (sym c.deref.ensures.value)
+    (have-places old.seats.items old.index.timers old.index.places.items old.index.marked c.requires.indexed.alone c.requires.indexed.placed c.requires.indexed.marks)
 
 pub mark_minutes-requires-clause-order : goal.mark_minutes-requires-clause-order
 mark_minutes-requires-clause-order c = subst AreOrdered (sym c.deref-2.ensures.value) c.requires.sound.listed.order
@@ -179,7 +179,7 @@ going-as c = record c.args.self.now {
   seats = with_items c.args.self.now.seats c.visit_ready-visited.new.seats;
   orders = c.visit_ready-visited.new.orders;
   visited = c.visit_ready-visited.result.0;
-  index = record { timers = c.visit_ready-visited.new.timers; ready = c.visit_ready-visited.new.ready; places = c.args.self.now.index.places };
+  index = record { timers = c.visit_ready-visited.new.timers; marked = c.visit_ready-visited.new.ready; places = c.args.self.now.index.places };
 }
 
 -- the machine's next state, and its outcome

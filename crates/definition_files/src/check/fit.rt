@@ -1,0 +1,116 @@
+//! Whether a value is what it is to be.
+
+use crate::check::rules::Fit;
+use history_model::{KeyName, is_label};
+use json_kinds::key_name;
+use json_kinds::kinds::members_or_one_of;
+use json_kinds::names::{PATH_NAME, SERVICE_NAME, WAIT};
+use serde_json::Value;
+
+/// What stands beside a key and decides what its value is to be.
+#[derive(Clone, Copy)]
+pub(crate) struct Around {
+    pub(crate) has_program: bool,
+    pub(crate) has_sockets: bool,
+}
+
+/// What stands in a definition beside its keys.
+pub(crate) fn around_in(def: &Value) -> Around {
+    let sockets = match def.get(key_name(KeyName::Sockets)) {
+        Some(found) => sockets_in(found),
+        None => 0,
+    };
+    Around {
+        has_program: def.get(key_name(KeyName::Program)).is_some(),
+        has_sockets: sockets > 0,
+    }
+}
+
+/// How many sockets the value of `Sockets` has.
+pub(crate) fn sockets_in(value: &Value) -> usize {
+    let mut count: usize = 0;
+    if let Value::Object(members) = value {
+        for (_, found) in members.iter() {
+            count = count.saturating_add(members_or_one_of(found).len());
+        }
+    }
+    count
+}
+
+/// Whether the value is what it is to be.
+pub(crate) fn fits(fit: Fit, value: &Value) -> bool {
+    let text = value.as_str().unwrap_or("");
+    let size = text.len();
+    // Beyond each bound, if it is no whole number.
+    let number = value.as_u64().unwrap_or(u64::MAX);
+    match fit {
+        Fit::Any => true,
+        Fit::Nothing => false,
+        Fit::Flag => value.is_boolean(),
+        Fit::Just(wanted) => value.as_bool() == Some(wanted),
+        Fit::Number(low, high) => low <= number && number <= high,
+        Fit::Text(low, high) => {
+            value.is_string() && low <= size && size <= high && !text.as_bytes().contains(&0)
+        }
+        Fit::Either(one, other) => text == one || text == other,
+        Fit::Array(most) => match value.as_array() {
+            Some(items) => items.len() <= most,
+            None => false,
+        },
+        Fit::Dictionary(most) => match value.as_object() {
+            Some(members) => members.len() <= most,
+            None => false,
+        },
+        Fit::Label => value.is_string() && is_label(text),
+        Fit::Conditions => value.is_boolean() || value.is_object(),
+        Fit::States => are_states(value),
+        Fit::Sockets(most) => value.is_object() && sockets_in(value) <= most,
+        Fit::Waiting => value.get(WAIT).is_some(),
+        Fit::Address => value.get(PATH_NAME).is_some() || value.get(SERVICE_NAME).is_some(),
+        Fit::Host => is_host(text),
+        Fit::Port => {
+            let is_text = is_number(text, 5, 65_535) && !is_number(text, 5, 0);
+            is_text || (1 <= number && number <= 65_535)
+        }
+    }
+}
+
+// At most 64 paths of 1 to 1,024 bytes, none of them 0, each true or false.
+fn are_states(value: &Value) -> bool {
+    let Value::Object(members) = value else {
+        return false;
+    };
+    for (path, present) in members.iter() {
+        let is_path = !path.is_empty() && path.len() <= 1024 && !path.as_bytes().contains(&0);
+        if !is_path || !present.is_boolean() {
+            return false;
+        }
+    }
+    members.len() <= 64
+}
+
+fn is_host(text: &str) -> bool {
+    let mut count: usize = 0;
+    let mut is_well = true;
+    for part in text.split('.') {
+        count = count.saturating_add(1);
+        is_well = is_well && is_number(part, 3, 255);
+    }
+    text == "localhost" || (is_well && count == 4)
+}
+
+// Whether the text is 1 to `digits` decimal digits of a number up to `most`.
+fn is_number(text: &str, digits: usize, most: u32) -> bool {
+    if text.is_empty() || text.len() > digits {
+        return false;
+    }
+    let mut value: u32 = 0;
+    for byte in text.as_bytes() {
+        if !byte.is_ascii_digit() {
+            return false;
+        }
+        let digit = u32::from(byte.saturating_sub(b'0'));
+        value = value.saturating_mul(10).saturating_add(digit);
+    }
+    value <= most
+}

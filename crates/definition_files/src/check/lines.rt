@@ -1,0 +1,99 @@
+//! The lines that tell the findings of a file.
+
+use crate::check::finding::{Grade, Place, Remark, finding_line};
+use crate::check::outline::{Mark, MarkKind, Outline, outline_of};
+use crate::check::place::{key_at, offset_at};
+use run_times::Ink;
+use std::alloc::{AllocError, Global};
+
+/// Writes the findings of one file.
+#[derive(Drop)]
+pub(crate) struct Lines<'a> {
+    alloc: Global,
+    pub(crate) path: &'a str,
+    pub(crate) text: &'a str,
+    outline: Result<Outline, AllocError>,
+    is_one_line: bool,
+}
+
+/// The lines for the file at the path, with these bytes.
+pub(crate) fn lines_of<'a>(alloc: Global, path: &'a str, bytes: &'a [u8]) -> Lines<'a> {
+    let text = std::str::from_utf8(bytes).unwrap_or("");
+    Lines {
+        alloc,
+        path,
+        text,
+        outline: outline_of(alloc, text),
+        is_one_line: !text.trim_end().contains('\n'),
+    }
+}
+
+impl Lines<'_> {
+    /// The marks of the text; none, if there was no memory for them.
+    pub(crate) fn marks(&self) -> &[Mark] {
+        match &self.outline {
+            Ok(outline) => outline.marks.as_slice(),
+            Err(_) => &[],
+        }
+    }
+
+    /// Adds the line of a finding. In a file of one line the keys that lead to the place stand behind it.
+    pub(crate) fn put(&self, place: Option<Place>, grade: Grade, told: &str, ink: &mut Ink) {
+        if self.outline.is_err() {
+            ink.refuse();
+        }
+        let mut way = Ink::new(self.alloc);
+        match place {
+            Some(place) if self.is_one_line => self.put_way(&place, &mut way),
+            _ => {}
+        }
+        match way.into_text() {
+            Ok(way) => {
+                let line = finding_line(self.alloc, self.path, place, way.as_str(), grade, told);
+                drop(way);
+                ink.put_made(line);
+            }
+            Err(_) => ink.refuse(),
+        }
+    }
+
+    /// Adds the lines of remarks.
+    pub(crate) fn put_all(&self, remarks: &[Remark], ink: &mut Ink) {
+        for remark in remarks {
+            self.put(remark.place, remark.grade, remark.text.as_str(), ink);
+        }
+    }
+
+    // Adds the keys that lead to the place, joined by dots.
+    fn put_way(&self, place: &Place, ink: &mut Ink) {
+        let offset = offset_at(self.text, place);
+        for level in 1..MOST_LEVELS {
+            let key = self.key_above(offset, level);
+            if !key.is_empty() && level > 1 {
+                ink.put(".");
+            }
+            ink.put(key);
+        }
+    }
+
+    // The key at this level on the way to the byte; the empty text, if there is none.
+    fn key_above(&self, offset: usize, level: usize) -> &str {
+        let mut found = "";
+        for mark in self.marks() {
+            if mark.at > offset {
+                break;
+            }
+            if mark.depth < level {
+                found = "";
+            }
+            match mark.kind {
+                MarkKind::Key if mark.depth == level => found = key_at(self.text, mark),
+                _ => {}
+            }
+        }
+        found
+    }
+}
+
+/// Keys of a definition stand at so many levels less one: `Sockets`, a socket's name, an array, and its keys.
+const MOST_LEVELS: usize = 6;

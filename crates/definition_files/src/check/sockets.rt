@@ -1,0 +1,84 @@
+//! What may be wrong with where sockets wait.
+
+use crate::check::finding::Grade;
+use crate::check::in_use::{is_path_in_use, is_port_in_use};
+use crate::check::remarks::Remarks;
+use history_model::KeyName;
+use job_defs::{Address, Def, Socket};
+use run_times::Piece::{Number, Text};
+
+/// Adds a warning if two sockets wait at one place, and a note for each place at which some socket waits now.
+pub(crate) fn add_sockets(host: &HostRuntime, def: &Def, remarks: &mut Remarks<'_>) {
+    let sockets = def.sockets();
+    for (index, socket) in sockets.iter().enumerate() {
+        let behind = sockets.get(index.saturating_add(1)..).unwrap_or(&[]);
+        if stands_in(socket, behind) {
+            add_twice(&socket.address, remarks);
+        }
+        add_in_use(host, &socket.address, remarks);
+    }
+}
+
+fn stands_in(socket: &Socket, sockets: &[Socket]) -> bool {
+    for other in sockets {
+        if is_same(&socket.address, &other.address) {
+            return true;
+        }
+    }
+    false
+}
+
+// A host of four zeros has each address of the machine.
+fn is_same(one: &Address, other: &Address) -> bool {
+    match (one, other) {
+        (Address::Unix(path), Address::Unix(other)) => path.as_str() == other.as_str(),
+        (
+            Address::Inet { host, port },
+            Address::Inet {
+                host: other,
+                port: at,
+            },
+        ) => port == at && (host == other || *host == [0; 4] || *other == [0; 4]),
+        _ => false,
+    }
+}
+
+fn add_twice(address: &Address, remarks: &mut Remarks<'_>) {
+    let (form, shown) = match address {
+        Address::Unix(path) => (
+            "Sockets: two sockets wait at $; a load is refused",
+            Text(path.as_str()),
+        ),
+        Address::Inet { port, .. } => (
+            "Sockets: two sockets wait at port $; a load is refused",
+            Number(u64::from(*port)),
+        ),
+    };
+    remarks.add(Grade::Warning, KeyName::Sockets, form, &[shown]);
+}
+
+// Adds a note if a socket waits there now, as the system tells it.
+fn add_in_use(host: &HostRuntime, address: &Address, remarks: &mut Remarks<'_>) {
+    match address {
+        Address::Unix(path) => {
+            if is_path_in_use(host, remarks.alloc, path.as_str()) {
+                remarks.add(
+                    Grade::Note,
+                    KeyName::Sockets,
+                    "Sockets: a socket waits at $ now; if it is not that of this job, a load is refused while it does",
+                    &[Text(path.as_str())],
+                );
+            }
+        }
+        Address::Inet { port, .. } => {
+            if is_port_in_use(host, remarks.alloc, *port) {
+                remarks.add(
+                    Grade::Note,
+                    KeyName::Sockets,
+                    "Sockets: a socket waits at port $ now; if it is not that of this job, a load is refused while it does",
+                    &[Number(u64::from(*port))],
+                );
+            }
+        }
+    }
+}

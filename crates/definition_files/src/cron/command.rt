@@ -1,0 +1,62 @@
+//! The command of a line, as Debian's cron hands it to the shell.
+
+use crate::cron::fault::{LineFault, told};
+use run_times::Ink;
+use std::alloc::Global;
+
+/// The longest command, in bytes: no load takes a longer argument.
+const LONGEST_COMMAND: usize = 4096;
+
+const PERCENT: &str =
+    "% ends a command and begins its input, which no definition has; wanted \\% for the sign";
+
+const LONG: &str =
+    "the command has more than 4096 bytes, which no load takes; write it into a script";
+
+const NUL: &str = "the command has a NUL byte, which no program's argument may have";
+
+/// The command that the text is: of `\%` the sign stands, of `\\` one backslash, and a backslash before any other letter stays. Refused:
+/// a `%` that no backslash precedes, a NUL byte, and more than 4,096 bytes.
+pub(crate) fn command_of(alloc: Global, text: &str) -> Result<String, LineFault> {
+    let mut ink = Ink::new(alloc);
+    let wrong = put_command(text, &mut ink);
+    let made = ink.into_text();
+    match (wrong, made) {
+        (None, Ok(command)) => Ok(command),
+        (None, Err(_)) => Err(LineFault::NoMemory),
+        (Some(wrong), made) => {
+            drop(made);
+            Err(told(alloc, wrong, &[]))
+        }
+    }
+}
+
+// Adds the command, or says what is wrong with it.
+fn put_command(text: &str, ink: &mut Ink) -> Option<&'static str> {
+    let mut is_escaped = false;
+    for letter in text.chars() {
+        if letter == '\0' {
+            return Some(NUL);
+        }
+        let is_sign = letter == '%' || letter == '\\';
+        if is_escaped && !is_sign {
+            ink.put_char('\\');
+        }
+        if letter == '%' && !is_escaped {
+            return Some(PERCENT);
+        }
+        let begins = letter == '\\' && !is_escaped;
+        if !begins {
+            ink.put_char(letter);
+        }
+        is_escaped = begins;
+    }
+    if is_escaped {
+        ink.put_char('\\');
+    }
+    if ink.text.len() > LONGEST_COMMAND {
+        Some(LONG)
+    } else {
+        None
+    }
+}

@@ -1,0 +1,69 @@
+//! The name of a job, by the comment above its line or by its command.
+
+use run_times::Ink;
+use std::alloc::{AllocError, Global};
+
+/// The longest name that stands in a label, in bytes.
+const LONGEST_NAME: usize = 64;
+
+/// A dot and the name of the job: the words of the comment, or else the name of the command's program. Nothing if neither has a letter.
+pub(crate) fn name_of(alloc: Global, comment: &str, command: &str) -> Result<String, AllocError> {
+    let mut ink = Ink::new(alloc);
+    put_words(&mut ink, comment);
+    if ink.text.is_empty() {
+        put_program(&mut ink, command);
+    }
+    ink.into_text()
+}
+
+/// Whether a comment tells what the fields of the lines below are, as the first lines of most crontabs do, or is a line that was made
+/// one.
+pub(crate) fn is_heading(comment: &str) -> bool {
+    comment.contains('*') || comment.contains("dow")
+}
+
+// The letters and digits of the words in small letters, with `-` between the words, as far as whole words have room.
+fn put_words(ink: &mut Ink, comment: &str) {
+    let mut length: usize = 0;
+    for word in comment.split(is_between) {
+        let longer = length.saturating_add(word.len()).saturating_add(1);
+        if longer > LONGEST_NAME {
+            break;
+        }
+        if !word.is_empty() {
+            let between = if length == 0 { '.' } else { '-' };
+            ink.put_char(between);
+            put_small(ink, word);
+            length = longer;
+        }
+    }
+}
+
+fn put_small(ink: &mut Ink, word: &str) {
+    for letter in word.chars() {
+        ink.put_char(letter.to_ascii_lowercase());
+    }
+}
+
+fn is_between(letter: char) -> bool {
+    !letter.is_ascii_alphanumeric()
+}
+
+// What stands behind the last `/` of the first word, without letters that are no part of a plain name.
+fn put_program(ink: &mut Ink, command: &str) {
+    for letter in command.chars() {
+        let is_mark = letter == '.' || letter == '_' || letter == '-';
+        let is_blank = letter == ' ' || letter == '\t';
+        if is_blank || ink.text.len() > LONGEST_NAME {
+            break;
+        }
+        if letter == '/' {
+            ink.text.clear();
+        } else if letter.is_ascii_alphanumeric() || is_mark {
+            if ink.text.is_empty() {
+                ink.put_char('.');
+            }
+            ink.put_char(letter);
+        }
+    }
+}

@@ -1,0 +1,59 @@
+//! The variable that a line of a crontab sets, as Debian's cron reads it.
+
+/// The name and the value that the line sets; none if it sets no variable. Either may stand in quotes, single or double; around `=` may
+/// stand blanks, and those behind a value without quotes are no part of it. A value that is absent is none: `NAME=""` sets an empty one.
+pub(crate) fn variable_in(text: &str) -> Option<(&str, &str)> {
+    let (name, behind) = name_in(text)?;
+    let rest = behind.trim_start_matches(is_blank).strip_prefix('=')?;
+    let value = value_in(rest.trim_start_matches(is_blank))?;
+    if name.is_empty() {
+        None
+    } else {
+        Some((name, value))
+    }
+}
+
+pub(crate) fn is_blank(letter: char) -> bool {
+    letter.is_ascii_whitespace()
+}
+
+// The name, and what stands behind it. A name without quotes ends before a blank or `=`, one in quotes has no `=`.
+fn name_in(text: &str) -> Option<(&str, &str)> {
+    let Some((quote, inner)) = unquoted(text) else {
+        let end = text.find(is_end)?;
+        return text.split_at_checked(end);
+    };
+    let (name, behind) = inner.split_once(quote)?;
+    if name.contains('=') {
+        None
+    } else {
+        Some((name, behind))
+    }
+}
+
+fn is_end(letter: char) -> bool {
+    letter == '=' || is_blank(letter)
+}
+
+// The value, behind which nothing stands but blanks.
+fn value_in(text: &str) -> Option<&str> {
+    let Some((quote, inner)) = unquoted(text) else {
+        let value = text.trim_end_matches(is_blank);
+        return if value.is_empty() { None } else { Some(value) };
+    };
+    let (value, behind) = inner.split_once(quote)?;
+    if behind.trim_start_matches(is_blank).is_empty() {
+        Some(value)
+    } else {
+        None
+    }
+}
+
+// The quote that the text begins with, and what stands behind it.
+fn unquoted(text: &str) -> Option<(char, &str)> {
+    if let Some(inner) = text.strip_prefix('"') {
+        return Some(('"', inner));
+    }
+    let inner = text.strip_prefix('\'')?;
+    Some(('\'', inner))
+}

@@ -1,0 +1,80 @@
+//! A folder in which each definition becomes a file of its own.
+
+use json::{Pretty, Reader, Scratch, Token};
+use run_times::Ink;
+use run_times::telling::tell_error;
+use std::alloc::{AllocError, Global};
+use std::fs::OpenOptions;
+use std::io;
+use std::io::{ErrorKind, Write};
+
+/// The text of JSON with a line for each member and item, and a newline. The keys stay in their order.
+pub(crate) fn laid_out(alloc: Global, text: &str) -> Result<Vec<u8>, AllocError> {
+    let mut scratch = Scratch::new(alloc);
+    let mut pretty = Pretty::new(alloc);
+    let put = match Reader::new(text, &mut scratch) {
+        Ok(mut reader) => {
+            let put = put_each(&mut reader, text.len(), &mut pretty);
+            drop(reader);
+            put
+        }
+        Err(_) => Err(AllocError),
+    };
+    drop(scratch);
+    let mut bytes = pretty.into_inner();
+    let ended = bytes.push(b'\n');
+    if put.is_err() || ended.is_err() {
+        drop(bytes);
+        return Err(AllocError);
+    }
+    Ok(bytes)
+}
+
+// Adds the tokens that are left, which are at most so many.
+fn put_each(reader: &mut Reader<'_>, most: usize, pretty: &mut Pretty) -> Result<(), AllocError> {
+    for _ in 0..most {
+        match reader.next() {
+            Some(Token::Bad) => break,
+            Some(token) => pretty.token(token)?,
+            None => break,
+        }
+    }
+    Ok(())
+}
+
+/// Writes the bytes as a file of this name, with `.json` behind it, in the folder: a new one, and never over what is there. Whether it
+/// did; if not, that was told with the system's reason, and nothing else was changed. A file that could not be written whole is
+/// told too, and stays.
+pub(crate) fn put_new(
+    host: &HostRuntime,
+    alloc: Global,
+    folder: &str,
+    name: &str,
+    bytes: &[u8],
+) -> Result<bool, AllocError> {
+    let mut ink = Ink::new(alloc);
+    ink.put(folder);
+    ink.put("/");
+    ink.put(name);
+    ink.put(".json");
+    let path = ink.into_text()?;
+    let written = write_new(host, path.as_str(), bytes);
+    let told = match written {
+        Ok(()) => Ok(true),
+        Err(error) => match tell_error(host, path.as_str(), &error) {
+            Ok(()) => Ok(false),
+            Err(error) => Err(error),
+        },
+    };
+    drop(path);
+    told
+}
+
+fn write_new(host: &HostRuntime, path: &str, bytes: &[u8]) -> io::Result<()> {
+    let mut options = OpenOptions::new();
+    options.write(true).create_new(true);
+    let mut file = options.open(host, path)?;
+    let written = file.write_all(bytes);
+    drop(file);
+    written
+}

@@ -1,0 +1,156 @@
+//! Property lists in XML as definitions in JSON.
+
+ghost use Rattle.std.specs.Prelude.{IfOk};
+ghost use Rattle.definition_files.specs.ListStatus.{IsListStatus};
+
+use crate::files::{Contents, DefinitionSource};
+use crate::folder::{laid_out, put_new};
+use crate::verdict::{Verdict, Verdicts};
+use files_and_process::path_files::{Found, Kind};
+use history_model::Text;
+use property_lists::{ListFault, json_of};
+use run_times::Ink;
+use run_times::telling::Outcome;
+use std::alloc::{AllocError, Global};
+
+/// The JSON of a property list in XML; none if the bytes are no such list, or one that is refused. `AllocError` if memory ran out.
+pub fn json_of_list(alloc: Global, bytes: &[u8]) -> Result<Option<Vec<u8>>, AllocError> {
+    match json_of(alloc, bytes) {
+        Ok(made) => Ok(Some(made)),
+        Err(ListFault::NoMemory) => Err(AllocError),
+        Err(ListFault::Refused { .. }) => Ok(None),
+    }
+}
+
+/// Each of the lists as a definition in JSON, a line for each member and item: a file of its own name in the folder, never over what is
+/// there, or in the text if there is no folder. What is wrong with a list is told, with its line. The status is 65 if a file can't be
+/// read, or can't be written; else 1 if a list was refused: the others are written all the same; else 0.
+pub fn lists_as_json<S: DefinitionSource>(
+    host: &HostRuntime,
+    alloc: Global,
+    source: &mut S,
+    paths: &[Text],
+    longest: usize,
+    into: Option<&str>,
+) -> Result<Outcome, AllocError>
+    ensures status { IfOk result (λ outcome. IsListStatus outcome.status) }
+{
+    let mut ink = Ink::new(alloc);
+    let added = add_each(host, alloc, source, paths, longest, into, &mut ink);
+    match (added, ink.into_text()) {
+        (Ok(verdicts), Ok(text)) => Ok(Outcome {
+            text,
+            status: verdicts.check_status(false),
+        }),
+        (_, text) => {
+            drop(text);
+            Err(AllocError)
+        }
+    }
+}
+
+fn add_each<S: DefinitionSource>(
+    host: &HostRuntime,
+    alloc: Global,
+    source: &mut S,
+    paths: &[Text],
+    longest: usize,
+    into: Option<&str>,
+    ink: &mut Ink,
+) -> Result<Verdicts, AllocError> {
+    let mut verdicts = Verdicts::none();
+    for path in paths {
+        match add_file(host, alloc, source, path.as_str(), longest, into, ink) {
+            Ok(verdict) => verdicts = verdicts.with(verdict),
+            Err(error) => return Err(error),
+        }
+    }
+    Ok(verdicts)
+}
+
+fn add_file<S: DefinitionSource>(
+    host: &HostRuntime,
+    alloc: Global,
+    source: &mut S,
+    path: &str,
+    longest: usize,
+    into: Option<&str>,
+    ink: &mut Ink,
+) -> Result<Verdict, AllocError> {
+    let file = Found {
+        path: String::from_str(alloc, path)?,
+        kind: Kind::File,
+    };
+    let contents = source.read(alloc, longest, &file);
+    drop(file);
+    match contents {
+        Ok(Contents::Bytes(bytes)) => {
+            let verdict = add_list(host, alloc, path, bytes.as_slice(), into, ink);
+            drop(bytes);
+            verdict
+        }
+        Ok(_) => Ok(Verdict::Unread),
+        Err(error) => Err(error),
+    }
+}
+
+// Adds the list as JSON, or tells why there is nothing to add.
+fn add_list(
+    host: &HostRuntime,
+    alloc: Global,
+    path: &str,
+    bytes: &[u8],
+    into: Option<&str>,
+    ink: &mut Ink,
+) -> Result<Verdict, AllocError> {
+    match json_of(alloc, bytes) {
+        Ok(made) => {
+            let kept = keep_list(host, alloc, path, made.as_slice(), into, ink);
+            drop(made);
+            kept
+        }
+        Err(ListFault::NoMemory) => Err(AllocError),
+        Err(ListFault::Refused { line, why, found }) => {
+            let mut told = Ink::new(alloc);
+            told.fill(why, &[run_times::Piece::Text(found)]);
+            let told = told.into_text()?;
+            let shown = told.as_str();
+            let _written = eprintln!(host; "{path}:{line}: error: {shown}");
+            drop(told);
+            Ok(Verdict::Refused)
+        }
+    }
+}
+
+fn keep_list(
+    host: &HostRuntime,
+    alloc: Global,
+    path: &str,
+    made: &[u8],
+    into: Option<&str>,
+    ink: &mut Ink,
+) -> Result<Verdict, AllocError> {
+    let shown = laid_out(alloc, std::str::from_utf8(made).unwrap_or(""))?;
+    let kept = match into {
+        Some(folder) => put_new(host, alloc, folder, stem_of(path), shown.as_slice()),
+        None => {
+            ink.put(std::str::from_utf8(shown.as_slice()).unwrap_or(""));
+            Ok(true)
+        }
+    };
+    drop(shown);
+    match kept {
+        Ok(true) => Ok(Verdict::Well),
+        Ok(false) => Ok(Verdict::Unread),
+        Err(error) => Err(error),
+    }
+}
+
+// The name of a file, without the folders before it and `.plist` behind.
+fn stem_of(path: &str) -> &str {
+    let name = match path.rsplit_once('/') {
+        Some((_, name)) => name,
+        None => path,
+    };
+    name.strip_suffix(".plist").unwrap_or(name)
+}

@@ -1,0 +1,28 @@
+//! Why bytes are no property list that can be written as JSON.
+
+use std::alloc::AllocError;
+
+/// Why bytes were refused. It leaves nothing.
+#[derive(Clone, Copy, Drop)]
+pub enum ListFault<'a> {
+    NoMemory,
+    /// The first fault, in the line of this number, which begins at 1: what is wrong, in which a `$` stands for the found words.
+    Refused {
+        line: usize,
+        why: &'static str,
+        found: &'a str,
+    },
+}
+
+/// A fault whose line is not looked up yet.
+#[derive(Clone, Copy, Drop)]
+pub(crate) enum Wrong<'a> {
+    NoMemory,
+    Because(&'static str, &'a str),
+}
+
+impl From<AllocError> for Wrong<'_> {
+    fn from(_error: AllocError) -> Self {
+        Wrong::NoMemory
+    }
+}

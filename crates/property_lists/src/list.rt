@@ -1,0 +1,387 @@
+//! A property list as JSON.
+
+ghost use Rattle.std.specs.Prelude.{◌≡◌, ◌≤◌, length, Some, IfOk, OnOk};
+ghost use Rattle.serde_json.specs.Data.{Data};
+ghost use Rattle.json_kinds.specs.Json.{json_in};
+
+use crate::decoded::{add_decoded, add_plain, is_none};
+use crate::elements::{Element, Leaf, element_named};
+use crate::fault::{ListFault, Wrong};
+use crate::integers::{Integer, integer_of};
+use crate::lines::line_behind;
+use crate::marks::{Mark, behind_head, is_blank, next_mark};
+use json::Writer;
+use json_kinds::json_value;
+use std::alloc::{AllocError, Global};
+
+/// The longest list that is read, in bytes: a request to the launcher has no more in a line.
+const LONGEST: usize = 262_144;
+
+/// So many dictionaries and arrays stand in one another at most.
+const DEEPEST: usize = 127;
+
+/// The element that a list stands in.
+const ROOT: &str = "plist";
+
+/// What is read next in a dictionary or array that is open.
+#[derive(Clone, Copy)]
+enum Inside {
+    /// A key of a dictionary.
+    Key,
+    /// The value of a dictionary's key.
+    Value,
+    /// A member of an array.
+    Member,
+}
+
+/// How far the list is read.
+#[derive(Clone, Copy, PartialEq)]
+enum Stage {
+    /// `<plist>` is not read yet.
+    Before,
+    /// The DOCTYPE line is read, and `<plist>` not yet.
+    Named,
+    /// The value is read.
+    Within,
+    /// The value is read whole, and `</plist>` not yet.
+    Behind,
+    /// `</plist>` is read.
+    Done,
+}
+
+/// An element whose text is read.
+#[derive(Clone, Copy)]
+struct Reading<'a> {
+    leaf: Leaf,
+    name: &'a str,
+}
+
+/// A list that is being written.
+#[derive(Drop)]
+struct Making<'a> {
+    writer: Writer,
+    stage: Stage,
+    /// The dictionaries and arrays that are open, the innermost last.
+    open: Vec<Inside>,
+    reading: Option<Reading<'a>>,
+    /// The text so far of the element that is being read.
+    text: String,
+}
+
+/// The JSON of the list that the bytes mean, in one line: the first value of `<plist>`, with the keys in their order. A string and a key
+/// have each entity decoded once; an integer is the number that it is. Refused, with the line of the first fault: more than 262,144 bytes;
+/// a binary list; bytes that are no UTF-8, or no XML of this kind; more than 127 dictionaries and arrays in one another; a value where a
+/// key is wanted, or a key where a value is; an integer out of -2^63 to 2^64 - 1; a `<real>`, `<date>` or `<data>`.
+pub fn json_of(alloc: Global, bytes: &[u8]) -> Result<Vec<u8>, ListFault<'_>>
+    ensures json { IfOk result (λ made. (value : Data) × (Some value ≡ json_in made.items)) }
+    ensures short { OnOk result (length bytes.now ≤ 262144) }
+{
+    let (whole, text) = match text_of(bytes) {
+        Ok(text) => (text, text.strip_prefix('\u{FEFF}').unwrap_or(text)),
+        Err(why) => {
+            return Err(ListFault::Refused {
+                line: 1,
+                why,
+                found: "",
+            });
+        }
+    };
+    let mut making = Making {
+        writer: Writer::new(Vec::new(alloc)),
+        stage: Stage::Before,
+        open: Vec::new(alloc),
+        reading: None,
+        text: String::new(alloc),
+    };
+    let wrong = read_all(text, &mut making);
+    let made = made_of(making);
+    match wrong {
+        None => checked(alloc, made),
+        Some((Wrong::NoMemory, _)) => {
+            drop(made);
+            Err(ListFault::NoMemory)
+        }
+        Some((Wrong::Because(why, found), left)) => {
+            drop(made);
+            let behind = whole.len().saturating_sub(left);
+            let front = bytes.get(..behind).unwrap_or(bytes);
+            Err(ListFault::Refused {
+                line: line_behind(front),
+                why,
+                found,
+            })
+        }
+    }
+}
+
+// The text that the bytes are, or what is wrong with them as a whole.
+fn text_of(bytes: &[u8]) -> Result<&str, &'static str>
+    ensures { OnOk result (length bytes.now ≤ 262144) }
+{
+    if bytes.starts_with(b"bplist") {
+        return Err("it is a binary property list; plutil -convert xml1 makes one in XML of it");
+    }
+    if bytes.len() > LONGEST {
+        return Err("it is longer than 262144 bytes");
+    }
+    match std::str::from_utf8(bytes) {
+        Ok(text) => Ok(text),
+        Err(_) => Err("it is not UTF-8"),
+    }
+}
+
+fn made_of(making: Making<'_>) -> Vec<u8> {
+    let Making {
+        writer,
+        open,
+        text,
+        ..
+    } = making;
+    drop(open);
+    drop(text);
+    writer.into_inner()
+}
+
+// The bytes, if they are JSON.
+fn checked<'a>(alloc: Global, made: Vec<u8>) -> Result<Vec<u8>, ListFault<'a>>
+    ensures json { IfOk result (λ made. (value : Data) × (Some value ≡ json_in made.items)) }
+{
+    match json_value(alloc, made.as_slice()) {
+        Ok(Some(value)) => {
+            drop(value);
+            Ok(made)
+        }
+        Ok(None) => {
+            drop(made);
+            Err(ListFault::Refused {
+                line: 1,
+                why: "it has no value that JSON has",
+                found: "",
+            })
+        }
+        Err(_) => {
+            drop(made);
+            Err(ListFault::NoMemory)
+        }
+    }
+}
+
+// What is wrong first, and how many bytes stand from there on; none if the text is a list.
+fn read_all<'a>(text: &'a str, making: &mut Making<'a>) -> Option<(Wrong<'a>, usize)> {
+    if let Some(offset) = text.find(is_none) {
+        let left = text.len().saturating_sub(offset);
+        return Some((
+            Wrong::Because("a control character is no part of XML", ""),
+            left,
+        ));
+    }
+    let mut rest = match behind_head(text) {
+        Ok(rest) => rest,
+        Err(wrong) => return Some((wrong, text.len())),
+    };
+    for _ in 0..=text.len() {
+        let left = rest.len();
+        match next_mark(rest) {
+            Ok((Mark::End, _)) => {
+                return if making.stage == Stage::Done {
+                    None
+                } else {
+                    Some((Wrong::Because("it ends before </plist>", ""), left))
+                };
+            }
+            Ok((mark, behind)) => {
+                if let Err(wrong) = take(making, mark) {
+                    return Some((wrong, left));
+                }
+                rest = behind;
+            }
+            Err(wrong) => return Some((wrong, left)),
+        }
+    }
+    Some((Wrong::Because("it has no end", ""), 0))
+}
+
+fn take<'a>(making: &mut Making<'a>, mark: Mark<'a>) -> Result<(), Wrong<'a>> {
+    match making.reading {
+        Some(reading) => take_text(making, reading, mark),
+        None => take_between(making, mark),
+    }
+}
+
+// Takes a mark inside of an element that has a text.
+fn take_text<'a>(
+    making: &mut Making<'a>,
+    reading: Reading<'a>,
+    mark: Mark<'a>,
+) -> Result<(), Wrong<'a>> {
+    match mark {
+        Mark::Text(text) => add_decoded(text, &mut making.text),
+        Mark::Plain(text) => Ok(add_plain(text, &mut making.text)?),
+        Mark::Close(name) if name == reading.name => {
+            making.reading = None;
+            let put = end_leaf(making, reading);
+            making.text.clear();
+            put
+        }
+        Mark::Close(_) | Mark::Open(_) | Mark::Empty(_) | Mark::Doctype => {
+            Err(Wrong::Because("<$> is not closed before the next element", reading.name))
+        }
+        Mark::Nothing | Mark::End => Ok(()),
+    }
+}
+
+// Takes a mark between elements.
+fn take_between<'a>(making: &mut Making<'a>, mark: Mark<'a>) -> Result<(), Wrong<'a>> {
+    match mark {
+        Mark::Text(text) | Mark::Plain(text) => {
+            if text.trim_start_matches(is_blank).is_empty() {
+                Ok(())
+            } else {
+                Err(Wrong::Because("a text stands between elements", ""))
+            }
+        }
+        Mark::Open(name) => begin(making, name),
+        Mark::Empty(name) => {
+            begin(making, name)?;
+            end_empty(making, name)
+        }
+        Mark::Close(name) => end(making, name),
+        Mark::Doctype if making.stage == Stage::Before => {
+            making.stage = Stage::Named;
+            Ok(())
+        }
+        Mark::Doctype => Err(Wrong::Because("the DOCTYPE line stands behind <plist>", "")),
+        Mark::Nothing | Mark::End => Ok(()),
+    }
+}
+
+fn end_empty<'a>(making: &mut Making<'a>, name: &'a str) -> Result<(), Wrong<'a>> {
+    match making.reading {
+        Some(reading) => {
+            making.reading = None;
+            end_leaf(making, reading)
+        }
+        None => end(making, name),
+    }
+}
+
+// Begins the element of this name.
+fn begin<'a>(making: &mut Making<'a>, name: &'a str) -> Result<(), Wrong<'a>> {
+    if name == ROOT && (making.stage == Stage::Before || making.stage == Stage::Named) {
+        making.stage = Stage::Within;
+        return Ok(());
+    }
+    let Some(element) = element_named(name) else {
+        return Err(Wrong::Because("<$> is no element of a property list", name));
+    };
+    if let Some(why) = misplaced(making, element) {
+        return Err(Wrong::Because(why, name));
+    }
+    match element {
+        Element::Dict => open(making, Inside::Key),
+        Element::Array => open(making, Inside::Member),
+        Element::Leaf(leaf) => {
+            making.reading = Some(Reading { leaf, name });
+            Ok(())
+        }
+    }
+}
+
+// Why the element may not stand here; none if it may.
+fn misplaced(making: &Making<'_>, element: Element) -> Option<&'static str> {
+    let is_key = matches!(element, Element::Leaf(Leaf::Key));
+    match making.stage {
+        Stage::Before | Stage::Named => return Some("<$> stands before <plist>"),
+        Stage::Behind | Stage::Done => return Some("<$> stands behind the list's value"),
+        Stage::Within => {}
+    }
+    match making.open.last() {
+        Some(Inside::Key) if !is_key => Some("<$> stands where a <key> is wanted"),
+        Some(Inside::Key) => None,
+        _ if is_key => Some("<$> stands where a value is wanted"),
+        _ => None,
+    }
+}
+
+fn open<'a>(making: &mut Making<'a>, inside: Inside) -> Result<(), Wrong<'a>> {
+    if making.open.len() >= DEEPEST {
+        return Err(Wrong::Because(
+            "more than 127 dictionaries and arrays stand in one another",
+            "",
+        ));
+    }
+    if making.open.push(inside).is_err() {
+        return Err(Wrong::NoMemory);
+    }
+    let put = match inside {
+        Inside::Member => making.writer.begin_array(),
+        _ => making.writer.begin_object(),
+    };
+    Ok(put?)
+}
+
+// Ends the dictionary, the array or the list.
+fn end<'a>(making: &mut Making<'a>, name: &'a str) -> Result<(), Wrong<'a>> {
+    if name == ROOT && making.stage == Stage::Behind {
+        making.stage = Stage::Done;
+        return Ok(());
+    }
+    let put = match (making.open.pop(), name) {
+        (Some(Inside::Key), "dict") => making.writer.end_object(),
+        (Some(Inside::Member), "array") => making.writer.end_array(),
+        (Some(Inside::Value), "dict") => {
+            return Err(Wrong::Because("the last <key> of a <dict> has no value", ""));
+        }
+        _ => return Err(Wrong::Because("</$> closes nothing that is open", name)),
+    };
+    put?;
+    value_ended(making);
+    Ok(())
+}
+
+// A value was written: behind it stands a key, the next member, or nothing.
+fn value_ended(making: &mut Making<'_>) {
+    match making.open.last_mut() {
+        Some(inside) => {
+            if let Inside::Value = *inside {
+                *inside = Inside::Key;
+            }
+        }
+        None => making.stage = Stage::Behind,
+    }
+}
+
+// Writes the element whose text is read.
+fn end_leaf<'a>(making: &mut Making<'a>, reading: Reading<'a>) -> Result<(), Wrong<'a>> {
+    let text = making.text.as_str();
+    let name = reading.name;
+    let put = match reading.leaf {
+        Leaf::Key => {
+            let put = making.writer.key(text);
+            if let Some(inside) = making.open.last_mut() {
+                *inside = Inside::Value;
+            }
+            return Ok(put?);
+        }
+        Leaf::Text => making.writer.string(text),
+        Leaf::Integer => match integer_of(text) {
+            Some(Integer::Plain(number)) => making.writer.u64(number),
+            Some(Integer::Negative(number)) => making.writer.i64(number),
+            None => return Err(Wrong::Because(NO_INTEGER, name)),
+        },
+        Leaf::True | Leaf::False => {
+            if !text.trim_start_matches(is_blank).is_empty() {
+                return Err(Wrong::Because("<$> has a text in it", name));
+            }
+            making.writer.boolean(matches!(reading.leaf, Leaf::True))
+        }
+        Leaf::Other => return Err(Wrong::Because(OTHER, name)),
+    };
+    put?;
+    value_ended(making);
+    Ok(())
+}
+
+const NO_INTEGER: &str = "<$> has no integer from -9223372036854775808 to 18446744073709551615";
+
+const OTHER: &str = "<$> has no place in a definition, and no form in JSON";

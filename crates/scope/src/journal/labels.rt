@@ -1,0 +1,112 @@
+//! What is known of labels beside their jobs: since when they are disabled, and their last refused load.
+
+use crate::journal::job::JobRequest;
+use crate::journal::past::MOST_LABELS;
+use history_model::{Reading, Refusal};
+use std::alloc::{AllocError, Global};
+use std::collections::BTreeMap;
+
+/// By what a label is disabled.
+#[derive(Clone, Copy)]
+pub(crate) enum DisabledBy {
+    /// By a setting that the journal begins with.
+    Header,
+    /// By what a client asked at this reading.
+    Client(JobRequest, Reading),
+}
+
+/// What is known of a label.
+#[derive(Clone, Copy)]
+pub(crate) struct KnownLabel {
+    /// By what it is disabled, if it is.
+    pub(crate) disabled: Option<DisabledBy>,
+    /// Why its last load was refused, and when, if it was.
+    pub(crate) refused: Option<(Refusal, Reading)>,
+}
+
+const NOTHING: KnownLabel = KnownLabel {
+    disabled: None,
+    refused: None,
+};
+
+/// The labels of which something is known, at most `MOST_LABELS`: beyond them the first is forgotten for each new one.
+#[derive(Drop)]
+pub(crate) struct KnownLabels {
+    pub(crate) items: BTreeMap<String, KnownLabel>,
+}
+
+impl KnownLabels {
+    pub(crate) fn new(alloc: Global) -> KnownLabels {
+        KnownLabels {
+            items: BTreeMap::new(alloc),
+        }
+    }
+
+    /// What is known of the label.
+    pub(crate) fn of(&self, label: &str) -> KnownLabel {
+        match self.items.get(label) {
+            Some(known) => *known,
+            None => NOTHING,
+        }
+    }
+
+    /// The label is disabled by this, or enabled by None.
+    pub(crate) fn set(
+        &mut self,
+        alloc: Global,
+        label: &str,
+        disabled: Option<DisabledBy>,
+    ) -> Result<(), AllocError> {
+        let mut known = self.of(label);
+        known.disabled = disabled;
+        self.keep(alloc, label, known)
+    }
+
+    /// The label's last load was refused so, or accepted by None.
+    pub(crate) fn load(
+        &mut self,
+        alloc: Global,
+        label: &str,
+        refused: Option<(Refusal, Reading)>,
+    ) -> Result<(), AllocError> {
+        let mut known = self.of(label);
+        known.refused = refused;
+        self.keep(alloc, label, known)
+    }
+
+    fn keep(&mut self, alloc: Global, label: &str, known: KnownLabel) -> Result<(), AllocError> {
+        drop(self.items.remove(label));
+        if known.disabled.is_none() && known.refused.is_none() {
+            return Ok(());
+        }
+        self.make_room(alloc)?;
+        let label = String::from_str(alloc, label)?;
+        match self.items.insert(label, known) {
+            Ok(_) => Ok(()),
+            Err(refused) => {
+                drop(refused);
+                Err(AllocError)
+            }
+        }
+    }
+
+    fn make_room(&mut self, alloc: Global) -> Result<(), AllocError> {
+        if self.items.len() < MOST_LABELS {
+            return Ok(());
+        }
+        let first = match self.first() {
+            Some(first) => String::from_str(alloc, first)?,
+            None => return Ok(()),
+        };
+        drop(self.items.remove(first.as_str()));
+        drop(first);
+        Ok(())
+    }
+
+    fn first(&self) -> Option<&str> {
+        for (label, _) in &self.items {
+            return Some(label.as_str());
+        }
+        None
+    }
+}

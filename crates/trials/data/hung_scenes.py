@@ -1,0 +1,108 @@
+"""Scenes of a launcher whose look-outs get no answer: what they look at and what they open hangs, and the one loop goes on.
+
+`edge_scenes.py` plays them beside its own, and has what they share.
+"""
+import os
+import signal
+import threading
+import time
+
+from edge_scenes import BOUND, Fault, check, comes, look_outs, make, shell_job, text_at, wait_for
+
+
+
+class Withheld:
+    """Stops the look-outs of a launcher, each as it comes, so that they take no question and give no answer."""
+
+    def __init__(self, launcher):
+        self.launcher, self.is_over = launcher, False
+        self.stop_all()
+        self.thread = threading.Thread(target=self.go, daemon=True)
+        self.thread.start()
+
+    def tell_all(self, number):
+        for pid in look_outs(self.launcher.pid):
+            try:
+                os.kill(pid, number)
+            except OSError:
+                pass
+
+    def stop_all(self):
+        self.tell_all(signal.SIGSTOP)
+
+    def go(self):
+        while not self.is_over:
+            self.stop_all()
+            time.sleep(0.001)
+
+    def end(self):
+        self.is_over = True
+        self.thread.join()
+        self.tell_all(signal.SIGCONT)
+
+
+class Honest:
+    """Asks for a list again and again, and keeps how long each took. A start waits half a second for its log at most, and meanwhile a list
+    waits too: each log of a disk is asked about by itself."""
+
+    def __init__(self, launcher):
+        self.launcher, self.times, self.is_over = launcher, [], False
+        self.thread = threading.Thread(target=self.go, daemon=True)
+        self.thread.start()
+
+    def go(self):
+        while not self.is_over:
+            begun = time.monotonic()
+            try:
+                self.launcher.ask({"req": "list"})
+                self.times.append(time.monotonic() - begun)
+            except (Fault, OSError):
+                self.times.append(BOUND)
+            time.sleep(0.005)
+
+    def end(self):
+        self.is_over = True
+        self.thread.join()
+        return sorted(self.times)
+
+
+def paths_and_logs_without_an_answer(stage):
+    """64 watched paths and 20 logs get no answer: a client is answered meanwhile, a child's end is seen, a run is stopped, and what was
+    asked comes about once there are answers again."""
+    launcher = stage.serve()
+    watched = [stage.at(f"watched{at}") for at in range(64)]
+    launcher.load(shell_job("watcher", f"echo seen >> {stage.at('seen')}", WatchPaths=watched, ThrottleInterval=0))
+    launcher.load(shell_job("ends", f"until test -e {stage.at('go')}; do sleep 0.05; done", RunAtLoad=True))
+    launcher.load(shell_job("stopped", "exec sleep 600", RunAtLoad=True))
+    for at in range(20):
+        launcher.load(shell_job(f"log{at}", f"echo {at}", StandardOutPath=stage.at(f"log{at}"), ThrottleInterval=1))
+    for label in ("ends", "stopped"):
+        launcher.tells(label, "state = running")
+    time.sleep(1.5)
+    check(len(look_outs(launcher.pid)) == 2, f"there are {len(look_outs(launcher.pid))} look-outs, not one for looks and one for starts")
+    withheld, honest = Withheld(launcher), Honest(launcher)
+    try:
+        make(watched[7], "changed")
+        for at in range(20):
+            launcher.ask({"req": "start", "job": f"log{at}"})
+        make(stage.at("go"))
+        launcher.tells("ends", "last exit = code 0")
+        launcher.ask({"req": "stop", "job": "stopped"})
+        launcher.tells("stopped", "last exit = signal 15")
+        wait_for(lambda: launcher.lines("log0: run 1: "), "the start without an answer is not told")
+        wait_for(lambda: launcher.lines("cannot look at "), "the path without an answer is not told")
+    finally:
+        withheld.end()
+        times = honest.end()
+    for line in launcher.lines("log0: run 1: ") + launcher.lines("cannot look at "):
+        check(line.endswith("no answer"), f"of what got no answer it tells {line!r}")
+    check(times[-1] < BOUND / 2, f"a list took {times[-1]:.2f} s")
+    check(len(times) >= 5, f"only {len(times)} lists were answered")
+    wait_for(lambda: text_at(stage.at("seen")), "the path's change is not seen once there are answers", 2 * BOUND)
+    for at in range(20):
+        log = stage.at(f"log{at}")
+        check(comes(lambda: text_at(log) == f"{at}\n", 3 * BOUND), f"{log} has {text_at(log)!r}")
+    launcher.shut_down()
+
+
+SCENES = [paths_and_logs_without_an_answer]

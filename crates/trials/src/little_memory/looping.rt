@@ -1,0 +1,115 @@
+//! The making of a live loop where memory is short. What lets a launcher go is proved for its whole type, so all but its making is generic
+//! over it.
+
+use crate::edges::places::new_folder;
+use crate::little_memory::hoard::Hoard;
+use crate::little_memory::trial::{Answer, Trial, tried};
+use crate::memory_stage::{MemoryStore, Sink};
+use crate::rounds::refusals::launcher_over;
+use anyhow::{Result, bail};
+use child_edge::OsEdge;
+use control_socket::ControlSocket;
+use jobd::RoundLauncher;
+use live_loop::{Live, LoopHost, ServeFault, System};
+use std::alloc::Global;
+use std::{fs, mem};
+
+/// Makes launchers, and the control sockets that they are asked over.
+trait Makes<H> {
+    fn given(&self) -> Option<(H, ControlSocket)>;
+}
+
+/// Where the loop's control socket is, and the spool of its launcher.
+#[derive(Clone, Copy)]
+struct Folder<'r, 'p> {
+    rt: &'r HostRuntime,
+    path: &'p str,
+}
+
+impl Makes<RoundLauncher<MemoryStore, OsEdge<HostRuntime>, Sink>> for Folder<'_, '_> {
+    fn given(
+        &self,
+    ) -> Option<
+        (
+            RoundLauncher<MemoryStore, OsEdge<HostRuntime>, Sink>,
+            ControlSocket,
+        ),
+    > {
+        let path = self.path;
+        let socket = format!(in self.rt.alloc(); "{path}/socket").ok()?;
+        let own = self.rt.clone().ok()?;
+        let control = ControlSocket::open(self.rt, self.rt.alloc(), socket.as_str()).ok()?;
+        match launcher_over(own, path) {
+            Some(host) => Some((RoundLauncher::new(host, 0), control)),
+            None => {
+                drop(control);
+                None
+            }
+        }
+    }
+}
+
+/// The call, and what is handed in to it.
+#[derive(Drop)]
+struct Looping<'a, R, H, M> {
+    rt: &'a R,
+    maker: M,
+    given: Option<(H, ControlSocket)>,
+}
+
+impl<R: System, H: LoopHost + Drop, M: Makes<H>> Trial for Looping<'_, R, H, M> {
+    fn prepare(&mut self, _alloc: Global) -> bool {
+        drop(mem::replace(&mut self.given, None));
+        let given = self.maker.given();
+        drop(mem::replace(&mut self.given, given));
+        self.given.is_some()
+    }
+
+    // Want of memory in a call of the system is told as the poll.
+    fn call(&mut self, alloc: Global) -> Answer {
+        match self.given.take() {
+            Some((host, control)) => match Live::new(self.rt, alloc, host, control) {
+                Ok(live) => {
+                    drop(live);
+                    Answer::Made
+                }
+                Err(ServeFault::NoMemory) => Answer::NoMemory,
+                Err(ServeFault::Poll) => Answer::NoMemory,
+            },
+            None => Answer::Other,
+        }
+    }
+
+    // What was handed in is let go: the socket's lock can be taken again.
+    fn is_right(&mut self, alloc: Global, _answer: Answer) -> bool {
+        let is_prepared = self.prepare(alloc);
+        is_prepared && self.call(alloc) == Answer::Made
+    }
+}
+
+fn try_with<R: System, H: LoopHost + Drop, M: Makes<H> + Drop>(
+    own: &HostRuntime,
+    rt: &R,
+    hoard: &mut Hoard,
+    maker: M,
+) -> Result<()> {
+    let trial = Looping {
+        rt,
+        maker,
+        given: None,
+    };
+    tried(own, hoard, "Live::new", trial)
+}
+
+/// Tries the call in a folder of its own.
+pub fn try_making(rt: &HostRuntime, hoard: &mut Hoard) -> Result<()> {
+    let Some(folder) = new_folder(rt, "looping") else {
+        bail!("the folder of the loop was refused");
+    };
+    let path = folder.as_str();
+    let done = try_with(rt, rt, hoard, Folder { rt, path });
+    if fs::remove_dir_all(rt, path).is_err() {
+        bail!("the folder of the loop stays");
+    }
+    done
+}

@@ -1,0 +1,23 @@
+/* The clock that goes on while the machine sleeps, with so many seconds more as the file of SLEPT_FILE says. tests/slept.py preloads it. */
+#define _GNU_SOURCE
+#include <fcntl.h>
+#include <stdlib.h>
+#include <sys/syscall.h>
+#include <time.h>
+#include <unistd.h>
+
+int clock_gettime(clockid_t clock, struct timespec *time)
+{
+    int answer = (int)syscall(SYS_clock_gettime, clock, time);
+    const char *path = getenv("SLEPT_FILE");
+    if (answer != 0 || clock != CLOCK_BOOTTIME || path == NULL)
+        return answer;
+    char text[32] = {0};
+    int file = open(path, O_RDONLY | O_CLOEXEC);
+    if (file >= 0) {
+        if (read(file, text, sizeof text - 1) > 0)
+            time->tv_sec += atol(text);
+        close(file);
+    }
+    return answer;
+}
