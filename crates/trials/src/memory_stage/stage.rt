@@ -16,7 +16,7 @@ pub type Stage = Host<MemoryStore, HandedEdge, Sink>;
 pub type Parts = (Header, MemoryStore, HandedEdge);
 
 /// How many lines a journal takes; more than are written.
-pub const LINES: usize = 100_000;
+pub const LINES: usize = 10_000;
 
 /// The clocks as launchers begin.
 pub const START: Reading = Reading {

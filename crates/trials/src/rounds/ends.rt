@@ -17,6 +17,8 @@ use std::fs;
 use std::io::Write;
 use std::os::unix::net::UnixStream;
 use std::str::from_utf8;
+use std::thread;
+use std::time::Duration;
 
 /// A job that runs at its load: its label, how long it has to end after TERM, in seconds, and what its shell does.
 pub struct Job {
@@ -43,7 +45,10 @@ pub struct Ends {
 }
 
 /// So many rounds a case has at most.
-const MOST: u32 = 60_000;
+const MOST: u32 = 6_000;
+
+/// How long it waits between two looks at what is to come, in milliseconds: an end by KILL is a second away.
+const BETWEEN: u64 = 10;
 
 const DONE: &str = "{\"code\":0,\"text\":\"\"}\n";
 
@@ -209,6 +214,7 @@ impl<R: System, H: LoopHost + Drop> Stage<'_, R, H> {
                 }
                 None => return false,
             }
+            thread::sleep(self.rt, Duration::from_millis(BETWEEN));
         }
         false
     }
@@ -226,6 +232,7 @@ impl<R: System, H: LoopHost + Drop> Stage<'_, R, H> {
             if fs::symlink_metadata(self.rt, path.as_str()).is_ok() {
                 return true;
             }
+            thread::sleep(self.rt, Duration::from_millis(BETWEEN));
         }
         false
     }
