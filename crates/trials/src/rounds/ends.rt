@@ -13,12 +13,11 @@ use launcher::{Host, Input};
 use live_loop::{Live, LoopHost, System, round};
 use replay::replay;
 use std::alloc::Global;
-use std::fs;
 use std::io::Write;
 use std::os::unix::net::UnixStream;
 use std::str::from_utf8;
-use std::thread;
 use std::time::Duration;
+use std::{fs, thread};
 
 /// A job that runs at its load: its label, how long it has to end after TERM, in seconds, and what its shell does.
 pub struct Job {
