@@ -40,7 +40,7 @@ pub record GoesUnstored (label : Label) (old : Table) (result : Result (Unit {0}
 
 -- The same of a reading, for whose minutes memory may be wanting: the table then stands for the states
 -- that it stood for. No job that the reading does not touch was visited
-pub record GoesOnTime (at : Reading) (old : Table) (result : Result (Unit {0}) Refusal)
+pub record GoesByReading (at : Reading) (old : Table) (result : Result (Unit {0}) Refusal)
     (new : Table) : Type 0 where
   pub answer : UnlessMemory result (IsOutcome (Tick at) old result new)
   pub kept : IsNextTableUnless result (Tick at) old new

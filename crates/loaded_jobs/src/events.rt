@@ -8,7 +8,7 @@ ghost use Rattle.history_model.specs.Items.{Answered};
 ghost use Rattle.history_model.specs.Machine.{OfJob, ShutDown, Sight};
 ghost use Rattle.history_model.specs.JobItems.{item_of};
 ghost use Rattle.history_model.specs.declared.Refusal.TheVariants.{NoMemory};
-ghost use Rattle.loaded_jobs.specs.Goes.{Goes, GoesUnstored, GoesOnTime};
+ghost use Rattle.loaded_jobs.specs.Goes.{Goes, GoesUnstored, GoesByReading};
 ghost use Rattle.loaded_jobs.specs.Minutes.{AreMinutes, has_calendars};
 ghost use Rattle.loaded_jobs.specs.Tables.{label_of};
 ghost use Rattle.loaded_jobs.specs.Begun.{IsBegun};
@@ -102,7 +102,7 @@ impl Jobs {
     /// Takes in a reading of the clocks.
     pub fn clock(&mut self, alloc: Global, at: Reading) -> Result<(), Refusal>
         requires { IsWhole self.old }
-        ensures goes { GoesOnTime at (seen_table self.old) result (seen_table self.new) }
+        ensures goes { GoesByReading at (seen_table self.old) result (seen_table self.new) }
         ensures memory { result ≡ Err NoMemory → has_calendars (seen_table self.old).rows ≡ true }
         ensures whole { IsWhole self.new }
     {

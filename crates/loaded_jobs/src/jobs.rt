@@ -1,6 +1,6 @@
 //! The fields of the table, and the parts of which its events are made.
 
-ghost use Rattle.std.specs.Prelude.{◌≡◌, ◌<◌, [], List, OnOk, OnErr, map, length, Some};
+ghost use Rattle.std.specs.Prelude.{◌≡◌, ◌<◌, List, OnOk, OnErr, map, length, Some};
 ghost use Rattle.std.specs.List.{filter, position};
 ghost use Rattle.history_model.specs.Search.{first};
 ghost use Rattle.history_model.specs.Machine.{Job, is_of, past_in};

@@ -1,6 +1,6 @@
 //! A reading of the clocks, which touches few jobs.
 
-ghost use Rattle.std.specs.Prelude.{◌≡◌, [], Ok, false};
+ghost use Rattle.std.specs.Prelude.{◌≡◌, Ok, false};
 ghost use Rattle.history_model.specs.Machine.{Tick};
 ghost use Rattle.history_model.specs.Refusals.{is_clock_refused};
 ghost use Rattle.loaded_jobs.specs.TableOutcomes.{IsOutcome, IsNextTable};
