@@ -26,10 +26,10 @@ pub(crate) enum Progress {
     Lost(LetGo),
 }
 
-/// As many pieces of a reply are sent at a time, each of them as long as what of a reply may wait.
+/// How many pieces of a reply are sent at a time, each of them as long as what of a reply may wait.
 const PIECES: u32 = 16;
 
-/// A client that takes nothing of its reply for as many seconds is let go.
+/// After how many seconds a client is let go that takes nothing of its reply.
 const STILL: u64 = 60;
 
 pub(crate) struct Connection {

@@ -34,13 +34,13 @@ use std::time::{Duration, Instant};
 /// A connection's job and its number.
 type Key = (JobNo, u64);
 
-/// As many connections of a job are held whose run is over.
+/// How many connections of a job are held whose run is over.
 const OVER: usize = 64;
 
-/// As many are held of all jobs together, if nothing else was said.
+/// How many are held of all jobs together, if nothing else was said.
 const ROOM: usize = 256;
 
-/// As many milliseconds replies are forwarded at a time. Then those of the other connections are left for the next time.
+/// For how many milliseconds replies are forwarded at a time. Then those of the other connections are left for the next time.
 const LONGEST: u64 = 5;
 
 /// A connection whose run is over, and since when its client has been still.
@@ -68,7 +68,7 @@ pub(crate) struct Connections {
     alloc: Global,
     folder: String,
     held: BTreeMap<Key, Connection>,
-    // As many are held at a time.
+    // How many are held at a time.
     room: usize,
     // The clock, as it was read last.
     now: Instant,
@@ -88,7 +88,7 @@ impl Connections {
         }
     }
 
-    /// From now on as many are held at a time.
+    /// How many are held at a time from now on.
     pub(crate) fn set_room(&mut self, room: usize) {
         self.room = room;
     }

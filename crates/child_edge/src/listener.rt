@@ -13,7 +13,7 @@ use std::io;
 use std::io::ErrorKind;
 use std::net::{Ipv4Addr, Net, SocketAddr};
 
-/// As many clients that are gone are passed over at a time.
+/// How many clients that are gone are passed over at a time.
 const GONE: u32 = 64;
 
 #[derive(Drop)]

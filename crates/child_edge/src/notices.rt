@@ -30,10 +30,10 @@ pub struct Notice {
     pub text: Text,
 }
 
-/// As many notices wait to be told; of further ones their number alone is kept.
+/// How many notices wait to be told; of further ones their number alone is kept.
 const ROOM: usize = 64;
 
-/// The reasons of as many paths are remembered; of further ones none is told.
+/// Of how many paths the reasons are remembered; of further ones none is told.
 const PATHS: usize = 1024;
 
 /// What was asked of the system for a job. Of each the reason is told when it is another than the last.
@@ -63,11 +63,11 @@ pub(crate) enum LetGo {
     Write(io::Error),
     /// Its reply could not be read.
     Read(io::Error),
-    /// As many connections of the job are held whose run is over, and it was still for longest.
+    /// So many connections of the job are held whose run is over, and it was still for longest.
     Job(usize),
-    /// As many connections are held of all jobs, and it was still for longest.
+    /// So many connections are held of all jobs, and it was still for longest.
     Room(usize),
-    /// As many connections are held of all jobs, each of which has its run still before it.
+    /// So many connections are held of all jobs, each of which has its run still before it.
     NoRoom(usize),
     /// Of the job as many wait and are served as may be beside those of others.
     Share,

@@ -127,7 +127,7 @@ impl<R: Processes> OsEdge<R> {
         self.notices.tells_runs = true;
     }
 
-    /// From now on as many connections of jobs' sockets are held at a time by the whole launcher, each with two descriptors:
+    /// How many connections of jobs' sockets the whole launcher holds at a time from now on, each with two descriptors:
     /// those that wait for their run, those whose run goes on, and those whose client has still to take what its run wrote. 256
     /// if this was never called. Of the last kind a job holds at most 64, whatever is said here. Takes no memory.
     pub fn set_room(&mut self, connections: usize)

@@ -15,7 +15,7 @@ use std::{io, mem};
 
 const SCRIPT: &str = "while read p; do kill -s TERM \"$p\"; echo $?; done";
 
-/// As many milliseconds a shell that is kept may take for its answer. One that was stopped is given up then.
+/// How many milliseconds a shell that is kept may take for its answer. One that was stopped is given up then.
 const PATIENCE: u64 = 500;
 
 #[derive(Drop)]

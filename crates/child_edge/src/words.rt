@@ -7,7 +7,7 @@ use std::fmt::Write;
 use std::io;
 use std::net::Ipv4Addr;
 
-/// As many bytes of a text are told: the longest path has no more.
+/// How many bytes of a text are told: the longest path has no more.
 const LONGEST: usize = 1_024;
 
 /// What stands in a hole.

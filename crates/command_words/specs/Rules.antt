@@ -29,7 +29,7 @@ word_rule id = record (new_rule id) { required = true; value_names = 1 }
 abbrev pub words_rule : Text → Rule
 words_rule id = record (new_rule id) { action = Some Append; required = true; value_names = 1 }
 
--- as many words as may be, as LABEL..
+-- any number of words, as LABEL..
 abbrev pub any_words_rule : Text → Rule
 any_words_rule id = record (new_rule id) { action = Some Append; value_names = 1 }
 

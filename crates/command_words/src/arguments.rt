@@ -89,7 +89,7 @@ pub fn words<'a>(alloc: Global, id: &'a str, value: &'a str, help: &'a str) -> A
         .help(help)
 }
 
-/// As many words as may be.
+/// Any number of words.
 pub fn any_words<'a>(alloc: Global, id: &'a str, value: &'a str, help: &'a str) -> Arg<'a>
     ensures rule { rule_of result ≡ any_words_rule id.now }
     ensures local { result.global ≡ false }

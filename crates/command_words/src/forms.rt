@@ -25,7 +25,7 @@ pub(crate) enum Form {
     Word,
     /// One word or more.
     Words,
-    /// As many words as may be.
+    /// Any number of words.
     AnyWords,
 }
 

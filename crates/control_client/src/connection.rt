@@ -9,7 +9,7 @@ use std::net::Net;
 use std::os::unix::net::UnixStream;
 use std::time::Duration;
 
-/// A reply has at most as many bytes before its newline.
+/// How many bytes a reply has at most before its newline.
 pub const REPLY: usize = 1_048_576;
 
 #[derive(Drop)]

@@ -22,10 +22,10 @@ pub(crate) enum Progress {
     Ended,
 }
 
-/// As many pieces are read in a round.
+/// How many pieces are read in a round.
 pub(crate) const PIECES: u32 = 4;
 
-/// As often a write is tried in a round.
+/// How often a write is tried in a round.
 const WRITES: u32 = 4;
 
 /// A client that takes nothing of its reply for so many milliseconds may be let go for a new one.

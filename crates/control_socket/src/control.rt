@@ -20,10 +20,10 @@ use std::io::{Error, ErrorKind, Read, Write};
 use std::net::Net;
 use std::{io, mem};
 
-/// As many clients are served at a time, if no lower number is set.
+/// How many clients are served at a time, if no lower number is set.
 pub const CLIENTS: usize = 64;
 
-/// As many bytes are read at once.
+/// How many bytes are read at once.
 const PIECE: usize = 16_384;
 
 /// What a client gets for which there is no place.
@@ -41,13 +41,13 @@ pub struct ControlSocket {
     lock: LockFile,
     token: Token,
     clients: Slab<Client>,
-    // As many are served at a time.
+    // How many are served at a time.
     most: usize,
     room: Vec<u8>,
     notices: Notices,
     // A descriptor that is kept for an accept which finds none free. None, as long as the system gives none.
     spare: Option<File>,
-    // As many rounds there were, and the `up` of the last.
+    // How many rounds there were, and the `up` of the last.
     rounds: u64,
     up: u64,
     // The next round begins with this key.
@@ -145,7 +145,7 @@ impl ControlSocket {
         registry.register(&mut self.listener, token, Interest::READABLE)
     }
 
-    /// From now on as many clients are served at a time, one at least and [`CLIENTS`] at most. None is let go by this.
+    /// How many clients are served at a time from now on, one at least and [`CLIENTS`] at most. None is let go by this.
     pub fn set_room(&mut self, clients: usize)
         ensures most { self.new.most ≡ min 64 (max 1 clients) }
         ensures clients { self.new.clients ≡ self.old.clients }

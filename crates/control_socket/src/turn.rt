@@ -33,7 +33,7 @@ pub trait Limit {
     }
 }
 
-/// As many lines of a client are answered in a round.
+/// How many lines of a client are answered in a round.
 pub const LINES: u32 = 16;
 
 /// A round, with what may still be answered in it.
@@ -45,10 +45,10 @@ pub(crate) struct Turn<'a, A, L> {
     pub(crate) number: u64,
     /// The milliseconds of the round's beginning.
     pub(crate) up: u64,
-    /// As many pieces of each client are read in this pass, and as many lines of it answered.
+    /// How many pieces of each client are read in this pass, and how many lines of it answered.
     pub(crate) pieces: u32,
     pub(crate) lines: u32,
-    /// So many further lines of the client whose turn it is.
+    /// How many further lines of the client whose turn it is are answered.
     pub(crate) left: u32,
     /// Whether there is time for a further line, and for a further client.
     pub(crate) has_time: bool,

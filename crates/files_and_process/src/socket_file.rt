@@ -7,7 +7,7 @@ use std::net::Net;
 use std::os::unix::fs::{FileTypeExt, MetadataExt, PermissionsExt};
 use std::{fs, io};
 
-/// As many clients are turned away after a bind. The system lets no more wait at a socket.
+/// How many clients are turned away at most after a bind: the system lets no more wait at a socket.
 const WAITING: u32 = 4_096;
 
 /// Which file a socket is: the number of its device, and that of the file on it. As long as the socket's listener lives, no

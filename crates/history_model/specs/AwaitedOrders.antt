@@ -5,7 +5,7 @@ use Rattle.history_model.specs.declared.Act.{Act}
 use Rattle.history_model.specs.declared.Act.TheVariants.{Spawn, Term, Kill, Close, Gone}
 use Rattle.history_model.specs.Items.{History, Ordered}
 use Rattle.history_model.specs.Search.{first}
-use Rattle.history_model.specs.Labels.{is_same}
+use Rattle.history_model.specs.Labels.{Label, is_same}
 use Rattle.history_model.specs.Machine.{Job, is_of, past_in}
 use Rattle.history_model.specs.Turns.{JobOrder}
 
@@ -21,17 +21,19 @@ weight Gone = 0
 -- the weights of the orders that wait, added up
 abbrev pub weigh_orders : List JobOrder → ℕ
 weigh_orders [] = 0
-weigh_orders (job_order ∷ rest) = weight job_order.1 + weigh_orders rest
+weigh_orders ((label, act) ∷ rest) = weight act + weigh_orders rest
 
 -- the order is the last thing that happened to the label's job
 abbrev pub IsFresh : List Job → JobOrder → Type 0
-IsFresh jobs job_order =
-    (t : History)
-    × (past_in (first (filter (is_of job_order.0) jobs)) ≡ Some (Ordered job_order.1 ∷ t))
+IsFresh jobs (label, act) =
+    (t : History) × (past_in (first (filter (is_of label) jobs)) ≡ Some (Ordered act ∷ t))
+
+-- the order is of a job with another label
+abbrev pub IsOfOther : Label → JobOrder → Type 0
+IsOfOther label (other, act) = is_same label other ≡ false
 
 -- and so each, of labels that differ
 abbrev pub AreFresh : List Job → List JobOrder → Type 0
 AreFresh jobs [] = Unit {0}
-AreFresh jobs (job_order ∷ rest) =
-    IsFresh jobs job_order × AllByRecursion (λ other. is_same job_order.0 other.0 ≡ false) rest
-    × AreFresh jobs rest
+AreFresh jobs ((label, act) ∷ rest) =
+    IsFresh jobs (label, act) × AllByRecursion (IsOfOther label) rest × AreFresh jobs rest

@@ -25,8 +25,8 @@ wants_answer (label, Gone) = false
 
 -- the event is an answer to the order
 abbrev pub is_answer : JobOrder → Event → Bool
-is_answer order (OfJob label (Answered answer)) =
-    is_same order.0 label && is_answer_to answer order.1
+is_answer (label, act) (OfJob other (Answered answer)) =
+    is_same label other && is_answer_to answer act
 is_answer order _ = false
 
 -- the orders that have an answer

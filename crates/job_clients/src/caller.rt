@@ -21,7 +21,7 @@ pub enum Gathered {
     Lost(Option<Loss>),
 }
 
-/// As many pieces are read in a round.
+/// How many pieces are read in a round.
 const PIECES: u32 = 16;
 
 /// A client of which nothing comes for so many milliseconds is let go.

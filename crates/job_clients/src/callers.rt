@@ -10,10 +10,10 @@ use socket_demand::Exchange;
 use std::alloc::{AllocError, Global};
 use std::mem;
 
-/// As many clients are heard at a time, if no lower number is set.
+/// How many clients are heard at a time, if no lower number is set.
 pub const CALLERS: usize = 256;
 
-/// As many clients of a job are heard at a time at most.
+/// How many clients of a job are heard at a time at most.
 const CALLERS_OF_A_JOB: usize = 64;
 
 /// What a client sends and takes wakes the poll under its key and this number.
@@ -61,7 +61,7 @@ impl Callers {
         })
     }
 
-    /// From now on as many are heard at a time, and a third of them, at most 64, of one job.
+    /// How many are heard at a time from now on, and a third of them, at most 64, of one job.
     pub fn set_room(&mut self, in_all: usize) {
         self.room = room_of(in_all);
     }

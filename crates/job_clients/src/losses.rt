@@ -20,7 +20,7 @@ pub enum Loss {
     /// There is no room for it.
     Crowded,
     NoMemory,
-    /// As many connections of the job wait as may wait.
+    /// No further connection of the job may wait: its queue is full.
     QueueFull,
     /// The system refused a read, or to have the poll wait for it.
     System(Error),
@@ -63,10 +63,10 @@ impl Loss {
     }
 }
 
-/// As many lines wait to be told. Where there is no room for one, the next loss of its kind is told.
+/// How many lines wait to be told. Where there is no room for one, the next loss of its kind is told.
 const ROOM: usize = 64;
 
-/// A reason that was told is told no second time within as many milliseconds, whoever comes through meanwhile.
+/// For how many milliseconds a reason that was told is told no second time, whoever comes through meanwhile.
 const QUIET: u64 = 60_000;
 
 /// The reasons that were told of a job's clients, by the bind that gave it its sockets, and the `up` of the first of them.

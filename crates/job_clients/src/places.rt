@@ -4,7 +4,7 @@ ghost use Rattle.std.specs.Prelude.{◌≡◌, ◌≤◌, ◌⊎◌, max, ◌/�
 ghost use Rattle.std.specs.Option.{IfSome, MatchOption};
 ghost use Rattle.job_clients.specs.Places.{IsFirstOld, IsPlace, by_first, gives_way, how_many_jobs, is_at_bound, is_below_share, is_full, is_rival, others_wait, place_by};
 
-/// A client that came as many milliseconds ago may have to go for a further one.
+/// After how many milliseconds a client may have to go for a further one.
 const OLD: u64 = 5_000;
 
 /// A client whose request still comes: its key, the bind that gave the job the socket to which it came, and the `up` at which it
@@ -16,7 +16,7 @@ pub struct Heard {
     pub came: u64,
 }
 
-/// As many clients are heard at a time: of a job, of all jobs, and of a job while clients of others wait for a place.
+/// How many clients are heard at a time: of a job, of all jobs, and of a job while clients of others wait for a place.
 #[derive(Clone, Copy)]
 pub struct CallerRoom {
     pub of_a_job: usize,
@@ -159,7 +159,7 @@ pub fn jobs_among(binds: &[u64]) -> usize
     jobs
 }
 
-/// As many places each of so many jobs can have, one at least.
+/// How many places each of so many jobs can have, one at least.
 pub fn share_of(in_all: usize, jobs: usize) -> usize
     ensures { result ≡ max 1 (in_all / max 1 jobs) }
 {

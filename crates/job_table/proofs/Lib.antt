@@ -1,2 +1,1 @@
-pub mod LeastMomentLemmas
 pub mod TakingLemmas

@@ -1,4 +1,3 @@
-pub mod NextMoments
 pub mod Ends
 pub mod LoadOfBytes
 pub mod Taking

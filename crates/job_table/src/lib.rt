@@ -22,7 +22,7 @@ use calendar_due::Zone;
 use history_model::{DemandKind, JobItem, JobNo, Obs, Order, Reading, Reasons, Refusal, Setting};
 pub use job_core::Moments;
 use job_defs::Def;
-use loaded_jobs::{Jobs, all_gone, list};
+use loaded_jobs::Jobs;
 pub use loaded_jobs::{NewSetting, Ready};
 use std::alloc::Global;
 use std::marker::Model;
@@ -118,7 +118,7 @@ impl JobTable {
         ensures up { result.up ≤ MAX_UP }
         ensures wall { result.wall ≤ MAX_WALL }
     {
-        self.jobs.reading
+        self.jobs.reading()
     }
 
     /// Lends what the last event gave.
@@ -132,8 +132,8 @@ impl JobTable {
         ensures triggers { self.now.reserved.held_triggers ≡ length (listed_in self.now.names) }
     {
         Step {
-            orders: &self.jobs.orders,
-            visited: self.jobs.visited,
+            orders: self.jobs.orders(),
+            visited: self.jobs.visited(),
             table: self,
         }
     }
@@ -207,10 +207,7 @@ impl JobTable {
         ensures text { IfOk result (λ text. IsReplyText ListJobs self.now (string_bytes text)) }
         ensures memory { IfErr result (λ refusal. refusal ≡ NoMemory) }
     {
-        match list(alloc, &self.jobs.seats) { // for the proof
-            Ok(text) => Ok(text),
-            Err(_) => Err(Refusal::NoMemory),
-        }
+        self.jobs.list(alloc)
     }
 
     /// The text of `print` of launchctl(1): what one job is doing, its runs and its last end, and whether it is disabled.
@@ -271,13 +268,13 @@ impl JobTable {
     pub fn is_shutting_down(&self) -> bool
         ensures { (s : State) → KeepsState self.now s → result ≡ s.is_shutting_down }
     {
-        self.jobs.is_shutting_down
+        self.jobs.is_shutting_down()
     }
 
     /// Whether no job is loaded.
     pub fn is_empty(&self) -> bool
         ensures { (s : State) → KeepsState self.now s → result ≡ is_none s.jobs }
     {
-        all_gone(&self.jobs.seats)
+        self.jobs.is_empty()
     }
 }

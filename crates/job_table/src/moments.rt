@@ -4,11 +4,10 @@ ghost use Rattle.std.specs.Prelude.{◌≡◌};
 ghost use Rattle.history_model.specs.Machine.{State};
 ghost use Rattle.loaded_jobs.specs.StandsFor.{KeepsState};
 ghost use Rattle.loaded_jobs.specs.Minutes.{has_calendars};
-ghost use Rattle.job_table.specs.NextMoments.{IsNextUp};
+ghost use Rattle.loaded_jobs.specs.NextMoments.{IsNextUp};
 ghost use Rattle.history_model.specs.News.{have_calendars};
 
 use crate::JobTable;
-use loaded_jobs::{Gone, is_some_with_calendar};
 
 impl JobTable {
     /// The least moment, in milliseconds of `up` and after the last reading, at which time alone may make an order of a loaded
@@ -17,8 +16,7 @@ impl JobTable {
     pub fn next_up(&self) -> Option<u64>
         ensures { (s : State) → KeepsState self.now s → IsNextUp s.jobs result }
     {
-        let (_job, moment) = self.jobs.index.timers.least()?;
-        Some(moment)
+        self.jobs.next_up()
     }
 
     /// Whether a loaded job has calendar entries, so that each civil minute may make an order due. It takes no memory.
@@ -26,9 +24,6 @@ impl JobTable {
         ensures jobs { (s : State) → KeepsState self.now s → result ≡ have_calendars s.jobs }
         ensures rows { result ≡ has_calendars self.now.rows }
     {
-        match self.jobs.gone {
-            Gone::Nobody => self.jobs.has_calendars,
-            _ => is_some_with_calendar(&self.jobs.seats),
-        }
+        self.jobs.has_calendars()
     }
 }

@@ -7,7 +7,6 @@ ghost use Rattle.loaded_jobs.specs.Nearest.{IsNearestOf, IsNextChild, listed_pat
 
 use crate::JobTable;
 use history_model::JobNo;
-use loaded_jobs::path_after;
 
 impl JobTable {
     /// The job with a child whose label comes next after the text in byte order, with its number and the child's run. Calls
@@ -24,11 +23,6 @@ impl JobTable {
         ensures { (s : State) → KeepsState self.now s →
             IsNearestOf text.now (listed_paths s.jobs) (option_map (λ path. path.now) result) }
     {
-        path_after(
-            &self.jobs.triggers,
-            &self.jobs.index.places,
-            &self.jobs.seats,
-            text,
-        )
+        self.jobs.path_after(text)
     }
 }

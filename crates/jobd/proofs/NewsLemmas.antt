@@ -8,7 +8,7 @@ use Rattle.std.specs.List.{list_any, AllByRecursion}
 use Rattle.history_model.specs.Moments.{next_moment}
 use Rattle.history_model.specs.Machine.{Job}
 use Rattle.history_model.proofs.BooleanLemmas.{or-second}
-use Rattle.job_table.specs.NextMoments.{is_moment, IsNextUp}
+use Rattle.loaded_jobs.specs.NextMoments.{is_moment, IsNextUp}
 use Rattle.history_model.specs.News.{is_moment_reached}
 
 module _ (up : ℕ) where

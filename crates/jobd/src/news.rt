@@ -7,7 +7,7 @@ ghost use Rattle.history_model.specs.Machine.{Job, State, Tick};
 ghost use Rattle.history_model.specs.LeftOut.{last_read};
 ghost use Rattle.history_model.specs.Moments.{next_moment};
 ghost use Rattle.loaded_jobs.specs.StandsFor.{KeepsState};
-ghost use Rattle.job_table.specs.NextMoments.{IsNextUp};
+ghost use Rattle.loaded_jobs.specs.NextMoments.{IsNextUp};
 ghost use Rattle.history_model.specs.News.{is_moment_reached as has_come, is_any_minute_crossed as is_some_minute, may_change};
 
 use history_model::{MAX_UP, MAX_WALL, Reading};

@@ -15,7 +15,7 @@ use std::alloc::{AllocError, Global};
 /// Under this token clients that come wake the poll.
 const COMING: Token = Token(1);
 
-/// As many clients of a job are taken in a round.
+/// How many clients of a job are taken in a round.
 const TAKEN: usize = 128;
 
 /// The clients whose request still comes, and the number of the next whole one. The numbers rise through all loads of all

@@ -21,7 +21,7 @@ use std::alloc::{AllocError, Global};
 /// Under this token the control socket and its clients wake the poll.
 const CONTROL: Token = Token(0);
 
-/// As many events are told at a time. The others are told in the next round.
+/// How many events are told at a time. The others are told in the next round.
 const EVENTS: usize = 128;
 
 /// A launcher with its control socket, the poll that both wait on, and what its rounds remember of one another.
@@ -37,7 +37,7 @@ pub struct Live<H> {
     pub(crate) has_journal_closed: bool,
     // The longest wait of the next round, in milliseconds.
     pub(crate) pause: u64,
-    // As many of the next rounds are quick.
+    // How many of the next rounds are quick.
     pub(crate) quick: u32,
     // The next round asks about the child of this job first, or of the next above it.
     pub(crate) next_child: JobNo,
@@ -189,9 +189,9 @@ impl<H> Live<H> {
         self.rooms.voice.is_leveled = true;
     }
 
-    /// From now on as many clients of jobs' sockets are heard at a time, at most 256 (which is the number if this was never
+    /// How many clients of jobs' sockets are heard at a time from now on, at most 256 (which is the number if this was never
     /// called), and a third of them, at most 64, of one job. While clients of a job with fewer wait for a place, the others have no more
-    /// than their share: as many as each job would have if all had as many. As many clients of the control socket are served, at most
+    /// than their share: as many as each job would have if all had as many. So many clients of the control socket are served, at most
     /// 64. Takes no memory.
     pub fn set_room(&mut self, clients: usize) {
         self.rooms.sockets.callers.set_room(clients);

@@ -11,16 +11,16 @@ use std::alloc::{AllocError, Global};
 use std::collections::BTreeMap;
 use std::mem;
 
-/// As many milliseconds of `up` lie between two rounds of looks.
+/// How many milliseconds of `up` lie between two rounds of looks.
 const BETWEEN: u64 = SECOND;
 
-/// As many milliseconds pass before it is asked again whether it is known what is at a path.
+/// How many milliseconds pass before it is asked again whether it is known what is at a path.
 const SOON: u64 = 2;
 
-/// As many bytes a path has at most.
+/// How many bytes a path has at most.
 const LONGEST_PATH: usize = 1_024;
 
-/// As many paths are asked about at most, and looked at, before the loop goes on to other things.
+/// How many paths are asked about at most, and looked at, before the loop goes on to other things.
 const ASKED: u32 = 1_024;
 
 const LOOKS: u32 = 256;

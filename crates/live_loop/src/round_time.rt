@@ -6,7 +6,7 @@ use control_socket::Limit;
 use std::rt::Clock;
 use std::time::{Duration, Instant};
 
-/// As many milliseconds a round polls children, and serves clients of one kind. Then the clock is read, and done what it orders.
+/// For how many milliseconds a round polls children, or serves clients of one kind. Then the clock is read, and what it orders is done.
 const LONGEST: u64 = 5;
 
 /// The time since children are polled, or clients are served.

@@ -22,11 +22,11 @@ use std::sync::Wait;
 use std::thread;
 use std::time::Duration;
 
-/// As many milliseconds of `up` a launcher with no job left waits for clients that don't take their reply, or ask on and on, and
+/// For how many milliseconds of `up` a launcher with no job left waits for clients that don't take their reply, or ask on and on, and
 /// for a standard error that takes nothing.
 const PATIENCE: u64 = SECOND;
 
-/// As many microseconds a quick round waits.
+/// How many microseconds a quick round waits.
 const QUICK_WAIT: u64 = 200;
 
 /// One round. It waits at most a tenth of a second, or 200 microseconds if it is one of the four behind a round in which a client's

@@ -12,7 +12,7 @@ use history_model::Text;
 use std::alloc::Global;
 use std::mem;
 
-/// As many lines a round tells at most.
+/// How many lines a round tells at most.
 const LINES: usize = 256;
 
 /// Tells what there is to tell, in a line each. Where standard error would wait, the rest is left for a later round.

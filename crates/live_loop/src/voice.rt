@@ -24,7 +24,7 @@ const TAKING: Token = Token(0);
 /// What tells of which kind it is.
 const ITS_FILE: &str = "/proc/self/fd/2";
 
-/// As many bytes go to a device at a time.
+/// How many bytes go to a device at a time.
 const PIECE: usize = 256;
 
 /// A poll that knows when standard error takes something. A pipe or a socket then takes 4,096 bytes without a wait, and a line has

@@ -22,7 +22,7 @@ pub fn next_pause(is_active: bool, pause: u64) -> u64
     }
 }
 
-/// As many rounds are quick after one in which a client's request came whole.
+/// How many rounds are quick after one in which a client's request came whole.
 const QUICK: u32 = 4;
 
 /// How many of the next rounds are quick, after one round more, of how many there were after those before it: four after a round

@@ -76,20 +76,29 @@ have-places es timers places marks alone placed fits = λ number moment there.
     let inside = slice_get_within es found.0 found.1 found.2 in
     (subst (λ n. n < length places) found.3 own.0, subst (λ n. place_in places n < place_room marks) found.3 (subst (λ p. p < place_room marks) (sym own.1) (omega (arith, inside, fits))))
 
-module _ (es : List Seat) (stay : AllStay es) (before at : Moment) (minutes : List CivilMinute) (timers fewer : Timers) (places : List ℕ) (ready1 ready : Places)
-    (timed : AreTimed timers before.up es) (alone : AreAlone timers (map name es)) (placed : ArePlaced places es)
-    (marked : (number : ℕ) → IsMarked at.up timers fewer places ready1 number)
-    (reached : (place : ℕ) → has_place ready1 place ≡ true → IsReachedAt at.up timers places place)
-    (spared : (place : ℕ) (seat : Seat) → slice_get es place ≡ Some seat → is_spared ready place ≡ true → (is_spared ready1 place ≡ true) × (is_minute_among seat.def.calendar minutes ≡ false))
-    (minute : (place : ℕ) → has_place ready place ≡ true → (has_place ready1 place ≡ true) ⊎ IsMinuteAt es minutes place)
+-- what the two parts of the marking give, if all up to this moment was taken out
+pub record AreMarked (es : List Seat) (at : Moment) (minutes : List CivilMinute) (up : ℕ) (timers fewer : Timers) (places : List ℕ) (ready1 ready : Places) : Type 0 where
+  pub reaches : at.up ≤ up
+  pub marked : (number : ℕ) → IsMarked up timers fewer places ready1 number
+  pub reached : (place : ℕ) → has_place ready1 place ≡ true → IsReachedAt up timers places place
+  pub spared : (place : ℕ) (seat : Seat) → slice_get es place ≡ Some seat → is_spared ready place ≡ true → (is_spared ready1 place ≡ true) × (is_minute_among seat.def.calendar minutes ≡ false)
+  pub minute : (place : ℕ) → has_place ready place ≡ true → (has_place ready1 place ≡ true) ⊎ IsMinuteAt es minutes place
+
+-- what is later than a moment is later than each before it
+before-it : (up later : ℕ) (o : Option ℕ) → up ≤ later → IsLater later o → IsLater up o
+before-it up later None order is = tt
+before-it up later (Some moment) order is = omega (arith, order, is)
+
+module _ (es : List Seat) (stay : AllStay es) (before at : Moment) (minutes : List CivilMinute) (up : ℕ) (timers fewer : Timers) (places : List ℕ) (ready1 ready : Places)
+    (timed : AreTimed timers before.up es) (alone : AreAlone timers (map name es)) (placed : ArePlaced places es) (m : AreMarked es at minutes up timers fewer places ready1 ready)
   where
     -- a job that is spared has its moment, and that is later
-    spare-moment : (k : ℕ) (e : Seat) → slice_get es k ≡ Some e → is_spared ready k ≡ true → IsLater at.up (moment_in timers e.number) × (moment_in fewer e.number ≡ moment_in timers e.number)
-    spare-moment k e there spares = go (marked e.number) where
-      go : IsMarked at.up timers fewer places ready1 e.number → IsLater at.up (moment_in timers e.number) × (moment_in fewer e.number ≡ moment_in timers e.number)
+    spare-moment : (k : ℕ) (e : Seat) → slice_get es k ≡ Some e → is_spared ready k ≡ true → IsLater up (moment_in timers e.number) × (moment_in fewer e.number ≡ moment_in timers e.number)
+    spare-moment k e there spares = go (m.marked e.number) where
+      go : IsMarked up timers fewer places ready1 e.number → IsLater up (moment_in timers e.number) × (moment_in fewer e.number ≡ moment_in timers e.number)
       go (inl both) = both
       go (inr mark) =
-          let none : is_spared ready1 k ≡ true = (spared k e there spares).0 in
+          let none : is_spared ready1 k ≡ true = (m.spared k e there spares).0 in
           let some : is_spared ready1 k ≡ false = ap (is_spared ready1) (sym (placed k e there).1) ∙ ap not mark.0 in
           let clash : true ≡ false = sym none ∙ some in absurd (cc clash)
 
@@ -98,8 +107,8 @@ module _ (es : List Seat) (stay : AllStay es) (before at : Moment) (minutes : Li
 
     pub is-spare : (k : ℕ) (e : Seat) → slice_get es k ≡ Some e → is_spared ready k ≡ true → IsSpare before at minutes e
     is-spare k e there spares = record {
-      later = subst (IsLater at.up) (next-of k e there) (spare-moment k e there spares).0;
-      apart = (spared k e there spares).1;
+      later = before-it at.up up _ m.reaches (subst (IsLater up) (next-of k e there) (spare-moment k e there spares).0);
+      apart = (m.spared k e there spares).1;
     }
 
     pub spare-timed : before.up ≤ at.up → (k : ℕ) (e : Seat) → slice_get es k ≡ Some e → is_spared ready k ≡ true → moment_in fewer e.number ≡ moment_for e at.up
@@ -108,16 +117,16 @@ module _ (es : List Seat) (stay : AllStay es) (before at : Moment) (minutes : Li
         ∙ sym (ap (λ b. cond b None (next_by e.core.facts at.up)) (stay-get es k e stay there))
 
     pub alone-still : AreAlone fewer (map name es)
-    alone-still = λ number moment there. go number moment (marked number) there where
-      go : (number moment : ℕ) → IsMarked at.up timers fewer places ready1 number → moment_in fewer number ≡ Some moment → is_some (definition_of_number (map name es) number) ≡ true
+    alone-still = λ number moment there. go number moment (m.marked number) there where
+      go : (number moment : ℕ) → IsMarked up timers fewer places ready1 number → moment_in fewer number ≡ Some moment → is_some (definition_of_number (map name es) number) ≡ true
       go number moment (inl both) there = alone number moment (sym both.1 ∙ there)
       go number moment (inr mark) there = let clash : None ≡ Some moment = sym mark.1 ∙ there in absurd (cc clash)
 
     pub mark-at : (place : ℕ) → has_place ready place ≡ true → place < length es
-    mark-at place there = go (minute place there) where
+    mark-at place there = go (m.minute place there) where
       go : (has_place ready1 place ≡ true) ⊎ IsMinuteAt es minutes place → place < length es
       go (inl first) =
-          let reason = reached place first in
+          let reason = m.reached place first in
           let found = holder es reason.0 (alone reason.0 reason.1 reason.3) in
           let own = placed found.0 found.1 found.2 in
           let inside = slice_get_within es found.0 found.1 found.2 in
@@ -125,39 +134,34 @@ module _ (es : List Seat) (stay : AllStay es) (before at : Moment) (minutes : Li
           subst (λ p. p < length es) (sym same) inside
       go (inr minute_at) = slice_get_within es place minute_at.0 minute_at.1
 
-    -- a job with a mark has a moment that is reached, or a minute among these
-    pub mark-reason : (k : ℕ) (e : Seat) → slice_get es k ≡ Some e → is_spared ready k ≡ false → IsReason before at minutes e
-    mark-reason k e there some = by_part (minute k (not-false (has_place ready k) some)) where
+    -- a job with a mark has a moment that is reached, or a minute among these, if no more was taken out than the reading reaches
+    pub mark-reason : up ≤ at.up → (k : ℕ) (e : Seat) → slice_get es k ≡ Some e → is_spared ready k ≡ false → IsReason before at minutes e
+    mark-reason within k e there some = by_part (m.minute k (not-false (has_place ready k) some)) where
       by_part : (has_place ready1 k ≡ true) ⊎ IsMinuteAt es minutes k → IsReason before at minutes e
       by_part (inl first) =
-          let reason = reached k first in
+          let reason = m.reached k first in
           let found = holder es reason.0 (alone reason.0 reason.1 reason.3) in
           let same_place : k ≡ found.0 = sym reason.2 ∙ ap (place_in places) (sym found.3) ∙ (placed found.0 found.1 found.2).1 in
           let same_entry : Some e ≡ Some found.1 = sym there ∙ ap (slice_get es) same_place ∙ found.2 in
           let seat : e ≡ found.1 = cc in
           let number : e.number ≡ reason.0 = ap (λ x. x.number) seat ∙ found.3 in
-          inl (reason.1, sym (next-of k e there) ∙ ap (moment_in timers) number ∙ reason.3, reason.4)
+          let due = reason.4 in
+          inl (reason.1, sym (next-of k e there) ∙ ap (moment_in timers) number ∙ reason.3, omega (arith, due, within))
       by_part (inr at_minute) =
           let found : Some e ≡ Some at_minute.0 = sym there ∙ at_minute.1 in
           let seat : e ≡ at_minute.0 = cc in
           inr (ap (λ x. is_minute_among x.def.calendar minutes) seat ∙ at_minute.2)
 
--- what the two parts of the marking give
-pub record AreMarked (es : List Seat) (at : Moment) (minutes : List CivilMinute) (timers fewer : Timers) (places : List ℕ) (ready1 ready : Places) : Type 0 where
-  pub marked : (number : ℕ) → IsMarked at.up timers fewer places ready1 number
-  pub reached : (place : ℕ) → has_place ready1 place ≡ true → IsReachedAt at.up timers places place
-  pub spared : (place : ℕ) (seat : Seat) → slice_get es place ≡ Some seat → is_spared ready place ≡ true → (is_spared ready1 place ≡ true) × (is_minute_among seat.def.calendar minutes ≡ false)
-  pub minute : (place : ℕ) → has_place ready place ≡ true → (has_place ready1 place ≡ true) ⊎ IsMinuteAt es minutes place
-
-pub are-marked : (es lent : List Seat) (at : Moment) (minutes : List CivilMinute) (timers fewer : Timers) (places slice : List ℕ) (ready1 ready : Places) → slice ≡ places → lent ≡ es →
-    ((number : ℕ) → IsMarked at.up timers fewer slice ready1 number) →
-    ((place : ℕ) → has_place ready1 place ≡ true → IsReachedAt at.up timers slice place) →
+pub are-marked : (es lent : List Seat) (at : Moment) (minutes : List CivilMinute) (up : ℕ) (timers fewer : Timers) (places slice : List ℕ) (ready1 ready : Places) → slice ≡ places → lent ≡ es →
+    ((number : ℕ) → IsMarked up timers fewer slice ready1 number) →
+    ((place : ℕ) → has_place ready1 place ≡ true → IsReachedAt up timers slice place) →
     ((place : ℕ) (seat : Seat) → slice_get lent place ≡ Some seat → is_spared ready place ≡ true → (is_spared ready1 place ≡ true) × (is_minute_among seat.def.calendar minutes ≡ false)) →
     ((place : ℕ) → has_place ready place ≡ true → (has_place ready1 place ≡ true) ⊎ IsMinuteAt lent minutes place) →
-    AreMarked es at minutes timers fewer places ready1 ready
-are-marked es lent at minutes timers fewer places slice ready1 ready same all marked reached spared minute = record {
-  marked = λ number. subst (λ ps. IsMarked at.up timers fewer ps ready1 number) same (marked number);
-  reached = λ place there. subst (λ ps. IsReachedAt at.up timers ps place) same (reached place there);
+    at.up ≤ up → AreMarked es at minutes up timers fewer places ready1 ready
+are-marked es lent at minutes up timers fewer places slice ready1 ready same all marked reached spared minute reaches = record {
+  reaches = reaches;
+  marked = λ number. subst (λ ps. IsMarked up timers fewer ps ready1 number) same (marked number);
+  reached = λ place there. subst (λ ps. IsReachedAt up timers ps place) same (reached place there);
   spared = λ place seat there none. spared place seat (ap (λ xs. slice_get xs place) all ∙ there) none;
   minute = λ place there. subst (λ xs. (has_place ready1 place ≡ true) ⊎ IsMinuteAt xs minutes place) all (minute place there);
 }

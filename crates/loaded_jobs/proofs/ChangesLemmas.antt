@@ -4,6 +4,7 @@ use Rattle.std.specs.Prelude.{Result, Ok, Err, is_ok}
 use Rattle.std.specs.List.{flat_map}
 use Rattle.history_model.specs.declared.Refusal.{Refusal}
 use Rattle.history_model.specs.declared.TheConstants.{MAX_UP}
+use Rattle.history_model.specs.Items.{History}
 use Rattle.history_model.specs.Labels.{Label}
 use Rattle.history_model.specs.Machine.{State, UnloadJob}
 use Rattle.history_model.specs.Acceptance.{refusal_in}
@@ -14,6 +15,9 @@ use Rattle.loaded_jobs.specs.SettingChanges.{withdrawn, set_of}
 use Rattle.loaded_jobs.specs.Seats.{rows, name}
 use Rattle.loaded_jobs.specs.TableOutcomes.{plain_outcome}
 use Rattle.loaded_jobs.specs.Alike.{IsAlike}
+use Rattle.loaded_jobs.specs.Counts.{counts, Counts, IsCounted}
+use Rattle.loaded_jobs.specs.Numbers.{row_names, KeepsNames}
+use Rattle.loaded_jobs.specs.Touching.{is_for_job}
 use Rattle.loaded_jobs.specs.Sound.{seen_table}
 use Rattle.loaded_jobs.specs.declared.jobs.Jobs.{Jobs}
 use Rattle.loaded_jobs.proofs.EventsLemmas.{alike-state}
@@ -55,6 +59,24 @@ never-refused new label true s (Ok done) is allowed answer bad = cc
 never-refused new label true s (Err refusal) is allowed answer bad =
     let e = UnloadJob label false true in
     let clash : Some refusal ≡ None = ap (λ (o : Outcome). o.refusal) (sym answer ∙ ap (λ o. outcome_by o s e) (allowed refl)) in absurd (cc clash)
+
+-- the frame of an unload that was accepted, and of one that was refused
+pub counted-ok : (old new : Table) (result : Result (Unit {0}) Refusal) → is_ok result ≡ true → Counts result old new → IsCounted (counts old.rows) new.rows new.gone new.visited
+counted-ok old new (Ok done) good counted = counted
+counted-ok old new (Err refusal) good counted = cc
+
+pub names-ok : (old new : Table) (result : Result (Unit {0}) Refusal) → is_ok result ≡ true → KeepsNames result old new → new.names ≡ row_names old.rows
+names-ok old new (Ok done) good names = names
+names-ok old new (Err refusal) good names = cc
+
+pub rows-err : (old new : Table) (result : Result (Unit {0}) Refusal) → is_ok result ≡ false → Counts result old new → new.rows ≡ old.rows
+rows-err old new (Ok done) bad counted = cc
+rows-err old new (Err refusal) bad same = same
+
+-- whom a setting with an unload is not for, the unload is not for
+pub apart-unload : (label other : Label) (past : History) (disabled b store : Bool) → b ≡ true → is_for_job (set_of label disabled b store) other past ≡ false → is_for_job (UnloadJob label false true) other past ≡ false
+apart-unload label other past disabled true store is apart = apart
+apart-unload label other past disabled false store is apart = cc
 
 -- an unload disables: a setting's event says nothing else of it
 pub set_same : (label : Label) (disabled unload store : Bool) → set_of label (disabled || unload) unload store ≡ set_of label disabled unload store

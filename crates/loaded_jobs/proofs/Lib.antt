@@ -26,6 +26,7 @@ pub mod SkippingLemmas
 pub mod VisitingLemmas
 pub mod MarkingLemmas
 pub mod MomentsLemmas
+pub mod LeastMomentLemmas
 pub mod VisitAtLemmas
 pub mod IndexLemmas
 pub mod AdvanceLemmas

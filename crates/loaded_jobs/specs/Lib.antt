@@ -9,6 +9,7 @@ pub mod Triggers
 pub mod Seats
 pub mod Sound
 pub mod Alike
+pub mod Begun
 pub mod Touch
 pub mod Numbers
 pub mod Room
@@ -20,6 +21,7 @@ pub mod Leaving
 pub mod Listed
 pub mod Here
 pub mod Nearest
+pub mod NextMoments
 pub mod Visiting
 pub mod Visits
 pub mod AskedJobs

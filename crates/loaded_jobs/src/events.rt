@@ -1,22 +1,17 @@
 //! What happens to the loaded jobs.
 
-ghost use Rattle.std.specs.Prelude.{◌≡◌, ◌≤◌, Ok, Err, OnOk, IfOk, IfErr, Bool, true, false};
+ghost use Rattle.std.specs.Prelude.{◌≡◌, ◌≤◌, Ok, Err, IfOk, IfErr, true};
 ghost use Rattle.history_model.specs.declared.TheConstants.{MAX_WALL};
 ghost use Rattle.history_model.specs.Acceptance.{is_heard};
 ghost use Rattle.history_model.specs.Refusals.{is_clock_refused};
 ghost use Rattle.history_model.specs.Items.{Answered};
-ghost use Rattle.history_model.specs.Machine.{OfJob, UnloadJob, ShutDown, Tick, Sight};
+ghost use Rattle.history_model.specs.Machine.{OfJob, ShutDown, Sight};
 ghost use Rattle.history_model.specs.JobItems.{item_of};
 ghost use Rattle.history_model.specs.declared.Refusal.TheVariants.{NoMemory};
-ghost use Rattle.loaded_jobs.specs.Goes.{Goes};
-ghost use Rattle.loaded_jobs.specs.TableOutcomes.{IsOutcome, IsNextTable, UnlessMemory, IsNextTableUnless};
+ghost use Rattle.loaded_jobs.specs.Goes.{Goes, GoesUnstored, GoesByReading};
 ghost use Rattle.loaded_jobs.specs.Minutes.{AreMinutes, has_calendars};
 ghost use Rattle.loaded_jobs.specs.Tables.{label_of};
-ghost use Rattle.loaded_jobs.specs.Seats.{AllStay};
-ghost use Rattle.loaded_jobs.specs.Counts.{counts, Counts, IsCounted};
-ghost use Rattle.loaded_jobs.specs.Numbers.{row_names, KeepsNames};
-ghost use Rattle.loaded_jobs.specs.Room.{HasSameRoom};
-ghost use Rattle.loaded_jobs.specs.Touching.{SparesUntouched, SparesOthers};
+ghost use Rattle.loaded_jobs.specs.Begun.{IsBegun};
 ghost use Rattle.job_core.specs.Memory.{NeedsNoMemory};
 
 use crate::jobs::Jobs;
@@ -28,7 +23,7 @@ use history_model::{
 use std::alloc::Global;
 
 impl Jobs {
-    ghost use Rattle.loaded_jobs.specs.Sound.{seen_table, IsSound, IsWhole};
+    ghost use Rattle.loaded_jobs.specs.Sound.{seen_table, IsWhole};
     ghost use Rattle.loaded_jobs.specs.Alike.{IsAlike};
 
     /// Tells the job with this label what happened to it, then asks it.
@@ -64,18 +59,10 @@ impl Jobs {
 
     /// Removes the job with this label. No setting is written, so the store is not asked.
     pub fn unload(&mut self, label: &str) -> Result<(), Refusal>
-        requires sound { IsWhole self.old }
-        ensures answer { (store : Bool) →
-            IsOutcome (UnloadJob label.now false store) (seen_table self.old) result (seen_table self.new) }
-        ensures kept { (store : Bool) →
-            IsNextTable (UnloadJob label.now false store) (seen_table self.old) (seen_table self.new) }
-        ensures counted { Counts result (seen_table self.old) (seen_table self.new) }
-        ensures spared { SparesOthers (UnloadJob label.now false true) (seen_table self.old)
-            (seen_table self.new) }
-        ensures names { KeepsNames result (seen_table self.old) (seen_table self.new) }
-        ensures room { HasSameRoom (seen_table self.old) (seen_table self.new) }
+        requires { IsWhole self.old }
+        ensures goes { GoesUnstored label.now (seen_table self.old) result (seen_table self.new) }
         ensures memory { NeedsNoMemory result }
-        ensures sound { IsWhole self.new }
+        ensures whole { IsWhole self.new }
         ensures alike { IsAlike self.old self.new }
     {
         if !is_label(label) {
@@ -114,16 +101,10 @@ impl Jobs {
 
     /// Takes in a reading of the clocks.
     pub fn clock(&mut self, alloc: Global, at: Reading) -> Result<(), Refusal>
-        requires sound { IsWhole self.old }
-        ensures answer { UnlessMemory result
-            (IsOutcome (Tick at) (seen_table self.old) result (seen_table self.new)) }
+        requires { IsWhole self.old }
+        ensures goes { GoesByReading at (seen_table self.old) result (seen_table self.new) }
         ensures memory { result ≡ Err NoMemory → has_calendars (seen_table self.old).rows ≡ true }
-        ensures kept { IsNextTableUnless result (Tick at) (seen_table self.old) (seen_table self.new) }
-        ensures counted { Counts result (seen_table self.old) (seen_table self.new) }
-        ensures untouched { OnOk result (SparesUntouched at (seen_table self.old) (seen_table self.new)) }
-        ensures names { KeepsNames result (seen_table self.old) (seen_table self.new) }
-        ensures room { HasSameRoom (seen_table self.old) (seen_table self.new) }
-        ensures sound { IsWhole self.new }
+        ensures whole { IsWhole self.new }
     {
         if is_clock_refused(self.reading, at) {
             return Err(Refusal::ClockRefused);
@@ -136,8 +117,7 @@ impl Jobs {
 
     /// The civil minutes that a reading crosses, or none if no loaded job has calendar entries.
     fn crossed(&self, alloc: Global, at: Reading) -> Result<Vec<CivilMinute>, Refusal>
-        requires sound { IsSound self.now }
-        requires stay { AllStay self.now.seats.items }
+        requires begun { IsBegun self.now }
         requires in_range { at.wall ≤ MAX_WALL }
         ensures minutes { IfOk result (λ minutes. AreMinutes (seen_table self.now) at minutes.items) }
         ensures memory { IfErr result (λ refusal. (refusal ≡ NoMemory)

@@ -1,6 +1,6 @@
 //! The fields of the table, and the parts of which its events are made.
 
-ghost use Rattle.std.specs.Prelude.{◌≡◌, ◌<◌, [], List, OnOk, OnErr, map, length, Some};
+ghost use Rattle.std.specs.Prelude.{◌≡◌, ◌<◌, List, OnOk, OnErr, map, length, Some};
 ghost use Rattle.std.specs.List.{filter, position};
 ghost use Rattle.history_model.specs.Search.{first};
 ghost use Rattle.history_model.specs.Machine.{Job, is_of, past_in};
@@ -9,7 +9,7 @@ ghost use Rattle.history_model.specs.Acceptance.{refusal_at};
 ghost use Rattle.history_model.specs.Step.{heard_one};
 ghost use Rattle.history_model.specs.JobItems.{item_of};
 ghost use Rattle.loaded_jobs.specs.StandsFor.{KeepsJobs};
-ghost use Rattle.loaded_jobs.specs.Numbers.{row_names, KeepsNames};
+ghost use Rattle.loaded_jobs.specs.Numbers.{KeepsNames};
 ghost use Rattle.loaded_jobs.specs.Room.{HasSameRoom};
 ghost use Rattle.loaded_jobs.specs.Seats.{rows, name, has_label, AllStay};
 ghost use Rattle.loaded_jobs.specs.Counts.{counts, Counts};
@@ -18,6 +18,7 @@ ghost use Rattle.loaded_jobs.specs.Loads.{refused_with};
 ghost use Rattle.loaded_jobs.specs.Touched.{IsChangedAt, IsHandedAt};
 ghost use Rattle.loaded_jobs.specs.Telling.{IsTold};
 ghost use Rattle.loaded_jobs.specs.AskedJobs.{CanAsk, AsksReached};
+ghost use Rattle.loaded_jobs.specs.Begun.{IsBegun, HasBegun};
 ghost use Rattle.loaded_jobs.specs.Hearing.{Brings};
 ghost use Rattle.loaded_jobs.specs.Touch.{item_for, reaches, nothing_for, is_at};
 ghost use Rattle.std.specs.Option.{ForSome};
@@ -37,21 +38,21 @@ use timer_heap::TimerHeap;
 
 /// The loaded jobs in byte order of labels, what decides over them, and the orders of the last event.
 pub struct Jobs {
-    pub reading: Reading,
-    pub zone: Zone,
-    pub settings: Settings,
-    pub is_shutting_down: bool,
-    pub seats: Vec<Seat>,
-    pub numbers: Slab<()>,
-    pub orders: Vec<Order>,
-    pub visited: u32,
-    pub index: Index,
+    pub(crate) reading: Reading,
+    pub(crate) zone: Zone,
+    pub(crate) settings: Settings,
+    pub(crate) is_shutting_down: bool,
+    pub(crate) seats: Vec<Seat>,
+    pub(crate) numbers: Slab<()>,
+    pub(crate) orders: Vec<Order>,
+    pub(crate) visited: u32,
+    pub(crate) index: Index,
     /// Which jobs may have gone at the last event.
-    pub gone: Gone,
+    pub(crate) gone: Gone,
     /// A job that is loaded, or that went at the last event, has calendar entries.
-    pub has_calendars: bool,
+    pub(crate) has_calendars: bool,
     /// What touches those jobs, in order.
-    pub triggers: Vec<Listed>,
+    pub(crate) triggers: Vec<Listed>,
 }
 
 // for the proof: who lets it go calls this, in place of letting each part go
@@ -78,11 +79,11 @@ impl Drop for Jobs {
 #[derive(Drop)]
 pub struct Index {
     /// The next moment of each job, by its number.
-    pub timers: TimerHeap,
+    pub(crate) timers: TimerHeap,
     /// The places that the present event marked; empty between events.
-    pub marked: PlaceSet,
+    pub(crate) marked: PlaceSet,
     /// The place of each job, by its number.
-    pub places: Vec<u32>,
+    pub(crate) places: Vec<u32>,
 }
 
 impl Jobs {
@@ -92,14 +93,7 @@ impl Jobs {
     /// Drops the jobs that went at the last event, and its orders.
     pub fn begin(&mut self)
         requires { IsWhole self.old }
-        ensures whole { IsWhole self.new }
-        ensures sound { IsSound self.new }
-        ensures stay { AllStay self.new.seats.items }
-        ensures rows { rows self.new.seats.items ≡ rows self.old.seats.items }
-        ensures names { map name self.new.seats.items ≡ row_names (rows self.old.seats.items) }
-        ensures orders { self.new.orders.items ≡ [] }
-        ensures alike { IsAlike self.old self.new }
-        ensures room { HasSameRoom (seen_table self.old) (seen_table self.new) }
+        ensures { HasBegun self.old self.new }
     {
         self.orders.clear();
         self.drop_left();
@@ -109,9 +103,7 @@ impl Jobs {
     /// Tells the job at this place what happened to it, and asks it alone. Refusals: NoSuchJob, if there is no place, and
     /// those of the job.
     pub fn tell(&mut self, found: Option<usize>, item: JobItem) -> Result<(), Refusal>
-        requires whole { IsWhole self.old }
-        requires stay { AllStay self.old.seats.items }
-        requires empty { self.old.orders.items ≡ [] }
+        requires begun { IsBegun self.old }
         requires inside { ForSome found (λ place. place < length self.old.seats.items) }
         ensures told { (label : Label) → found ≡ position (has_label label) self.old.seats.items →
             IsTold label (item_of item) (seen_table self.old) result (seen_table self.new) }

@@ -24,10 +24,6 @@ mod trigger;
 mod triggers;
 mod visits;
 
-pub use all_seats::{all_gone, is_some_with_calendar};
-pub use gone_jobs::Gone;
 pub use jobs::Jobs;
 pub use loading::Ready;
-pub use questions::list;
 pub use settings_change::NewSetting;
-pub use triggers::path_after;

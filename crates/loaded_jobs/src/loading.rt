@@ -1,7 +1,7 @@
 //! The load of a job, in two parts: what can be refused, and what cannot.
 
 ghost use Rattle.std.specs.Prelude.{◌≡◌, ◌≤◌, ◌<◌, ◌+◌, ◌*◌, ◌∷◌, [], Bool, false, Some, None, Ok, IfOk, IfErr, OnOk, is_some, map, length, not, ◌&&◌, ◌||◌, count_by};
-ghost use Rattle.history_model.specs.declared.TheConstants.{MAX_JOBS, MAX_UP};
+ghost use Rattle.history_model.specs.declared.TheConstants.{MAX_JOBS};
 ghost use Rattle.history_model.specs.Items.{Loaded};
 ghost use Rattle.history_model.specs.FactsOfPast.{Keeps};
 ghost use Rattle.loaded_jobs.specs.declared.seat.TheConstants.{ORDERS};
@@ -10,25 +10,22 @@ ghost use Rattle.place_set.specs.Places.{place_room};
 ghost use Rattle.timer_heap.specs.Timers.{room};
 ghost use Rattle.slab.specs.Slab.{HasRoomFor, get, Updates};
 ghost use Rattle.history_model.specs.declared.Refusal.TheVariants.{NoMemory};
-ghost use Rattle.history_model.specs.Machine.{State, Load, past_of};
+ghost use Rattle.history_model.specs.Machine.{State, past_of};
 ghost use Rattle.history_model.specs.Acceptance.{refusal_in, refusal_there};
 ghost use Rattle.history_model.specs.Search.{or_else};
-ghost use Rattle.history_model.specs.MachineLaws.{AreInOrder};
-ghost use Rattle.history_model.specs.Definitions.{definition, given};
-ghost use Rattle.loaded_jobs.specs.Tables.{labels_in};
+ghost use Rattle.history_model.specs.Definitions.{definition};
 ghost use Rattle.loaded_jobs.specs.StandsFor.{KeepsState};
 ghost use Rattle.loaded_jobs.specs.TableOutcomes.{IsSameFor, Means};
-ghost use Rattle.loaded_jobs.specs.Loads.{load_of, refusal_outside, refused_with, IsAdmitted, IsReady, Loads, IsAbsent, IsMade, enabled_if};
-ghost use Rattle.loaded_jobs.specs.Counts.{counts, IsCounted};
+ghost use Rattle.loaded_jobs.specs.Goes.{GoesWithJob};
+ghost use Rattle.loaded_jobs.specs.Loads.{load_of, refusal_outside, refused_with, IsAdmitted, IsReady, IsAbsent, IsMade, enabled_if};
 ghost use Rattle.history_model.specs.News.{is_some_entry};
 ghost use Rattle.loaded_jobs.specs.Periods.{HasPositivePeriod};
 ghost use Rattle.loaded_jobs.specs.Triggers.{triggers_of, under, AreOrdered};
 ghost use Rattle.loaded_jobs.specs.declared.trigger.Listed.{Listed};
 ghost use Rattle.loaded_jobs.specs.declared.trigger.Trigger.{Trigger};
-ghost use Rattle.loaded_jobs.specs.Numbers.{IsNamedBeside};
-ghost use Rattle.loaded_jobs.specs.Room.{HasSameRoom, held_after};
-ghost use Rattle.loaded_jobs.specs.Touching.{SparesOthers};
-ghost use Rattle.loaded_jobs.specs.Seats.{name, AllStay, place_for, seats_with};
+ghost use Rattle.loaded_jobs.specs.Room.{HasSameRoom};
+ghost use Rattle.loaded_jobs.specs.Begun.{IsBegun};
+ghost use Rattle.loaded_jobs.specs.Seats.{name, place_for, seats_with};
 
 use crate::index::{grow, place_all};
 use crate::jobs::Jobs;
@@ -108,8 +105,7 @@ impl Jobs {
 
     /// Looks for the refusals of a load, but for those of the outside.
     fn admit(&self, def: &Def, writes_setting: bool, force: bool) -> Result<(), Refusal>
-        requires sound { IsSound self.now }
-        requires stay { AllStay self.now.seats.items }
+        requires { IsBegun self.now }
         ensures answer { (s : State) (bind store : Bool) → KeepsState (seen_table self.now) s →
             refusal_in s (load_of def.now writes_setting force bind store)
             ≡ or_else (refused_with result) (refusal_outside def.now writes_setting bind store) }
@@ -134,8 +130,7 @@ impl Jobs {
 
     /// Why a load of a label that is loaded is refused.
     pub fn refusal_there(&self, label: &str) -> Option<Refusal>
-        requires sound { IsSound self.now }
-        requires stay { AllStay self.now.seats.items }
+        requires { IsBegun self.now }
         ensures answer { (s : State) → KeepsState (seen_table self.now) s →
             result ≡ refusal_there (past_of s label.now) }
         ensures absent { result ≡ None → IsAbsent label.now (map name self.now.seats.items) }
@@ -246,20 +241,8 @@ impl Jobs {
     pub fn load(&mut self, ready: Ready)
         requires sound { IsWhole self.old }
         requires ready { IsReady (seen_table self.old) ready }
-        ensures loads { Loads (seen_table self.old) ready (seen_table self.new) }
-        ensures counted { IsCounted (counts (seen_table self.old).rows) (seen_table self.new).rows
-            (seen_table self.new).gone (seen_table self.new).visited }
-        ensures spared { (force bind store : Bool) →
-            SparesOthers
-            (Load (Ok (given ready.seat.def)) (is_some ready.setting) force bind store)
-            (seen_table self.old) (seen_table self.new) }
-        ensures names { IsNamedBeside ready (seen_table self.old) (seen_table self.new) }
-        ensures held { length (seen_table self.new).settings
-            ≡ held_after ready.setting (seen_table self.old).settings }
-        ensures triggers { (seen_table self.new).reserved.held_triggers
-            ≡ (seen_table self.old).reserved.held_triggers + length ready.triggers.items }
-        ensures room { HasSameRoom (seen_table self.old) (seen_table self.new) }
-        ensures sound { IsWhole self.new }
+        ensures goes { GoesWithJob ready (seen_table self.old) (seen_table self.new) }
+        ensures whole { IsWhole self.new }
     {
         let Ready {
             seat,

@@ -1,4 +1,4 @@
-//! Which job with a child comes next in byte order.
+//! What comes next in byte order: a job with a child, a listed path.
 
 ghost use Rattle.std.specs.Prelude.{◌≡◌, true, false, List, is_some, map};
 ghost use Rattle.std.specs.Option.{option_map};
@@ -10,16 +10,17 @@ ghost use Rattle.history_model.specs.Machine.{Job, State};
 ghost use Rattle.history_model.specs.MachineLaws.{AreInOrder};
 ghost use Rattle.loaded_jobs.specs.StandsFor.{KeepsJobs, KeepsState};
 ghost use Rattle.loaded_jobs.specs.Seats.{name, rows};
-ghost use Rattle.loaded_jobs.specs.Nearest.{IsNearestOf, IsNextChild, with_child};
+ghost use Rattle.loaded_jobs.specs.Nearest.{IsNearestOf, IsNextChild, listed_paths, with_child};
 ghost use Rattle.loaded_jobs.specs.Tables.{labels_in};
 
 use crate::jobs::Jobs;
 use crate::places::{place_before, place_here};
 use crate::seat::Seat;
+use crate::triggers::path_after;
 use history_model::JobNo;
 
 impl Jobs {
-    ghost use Rattle.loaded_jobs.specs.Sound.{seen_table, IsSound};
+    ghost use Rattle.loaded_jobs.specs.Sound.{seen_table, IsSound, IsWhole};
 
     /// The next job with a child.
     pub fn child_after(&self, text: &str) -> Option<(&str, JobNo, u64)>
@@ -31,6 +32,15 @@ impl Jobs {
         let place = place_here(&self.seats, label)?;
         let seat = &self.seats[place];
         Some((label, seat.number, seat.core.shown().runs))
+    }
+
+    /// The next path of all that the loaded definitions list.
+    pub fn path_after(&self, text: &str) -> Option<&str>
+        requires { IsWhole self.now }
+        ensures { (s : State) → KeepsState (seen_table self.now) s →
+            IsNearestOf text.now (listed_paths s.jobs) (option_map (λ path. path.now) result) }
+    {
+        path_after(&self.triggers, &self.index.places, &self.seats, text)
     }
 }
 

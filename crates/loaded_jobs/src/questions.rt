@@ -4,39 +4,99 @@ ghost use Rattle.std.specs.Prelude.{◌≡◌, true, false, ◌++◌, List, Some
 ghost use Rattle.std.specs.List.{flat_map};
 ghost use Rattle.std.specs.String.{string_bytes};
 ghost use Rattle.history_model.specs.declared.Reading.{Reading};
-ghost use Rattle.history_model.specs.Machine.{Job, State, PrintJob, past_of};
+ghost use Rattle.history_model.specs.declared.Refusal.TheVariants.{NoMemory};
+ghost use Rattle.history_model.specs.Machine.{Job, State, ListJobs, PrintJob, past_of};
 ghost use Rattle.history_model.specs.Acceptance.{refusal_in};
-ghost use Rattle.loaded_jobs.specs.TableOutcomes.{Means};
+ghost use Rattle.loaded_jobs.specs.TableOutcomes.{IsReplyText, Means};
 ghost use Rattle.history_model.specs.Texts.{line_text, shown_text, printed};
 ghost use Rattle.history_model.specs.Items.{History};
 ghost use Rattle.history_model.specs.FactsOfPast.{Keeps};
 ghost use Rattle.history_model.specs.Shown.{shown_of};
-ghost use Rattle.loaded_jobs.specs.StandsFor.{KeepsJobs, KeepsState};
+ghost use Rattle.history_model.specs.News.{have_calendars};
+ghost use Rattle.loaded_jobs.specs.StandsFor.{KeepsJobs, KeepsState, is_none};
+ghost use Rattle.loaded_jobs.specs.Minutes.{has_calendars};
+ghost use Rattle.loaded_jobs.specs.NextMoments.{IsNextUp};
 ghost use Rattle.loaded_jobs.specs.Seats.{rows};
 
+use crate::all_seats::{all_gone, is_some_with_calendar};
+use crate::gone_jobs::Gone;
 use crate::jobs::Jobs;
 use crate::seat::Seat;
 use crate::settings::is_disabled;
 use crate::texts::{job, line};
-use history_model::{Refusal, is_label};
+use history_model::{Order, Reading, Refusal, is_label};
 use std::alloc::{AllocError, Global};
 
-/// The text of `list`: a line of heads, then a line for each loaded job.
-pub fn list(alloc: Global, seats: &[Seat]) -> Result<String, AllocError>
-    ensures { IfOk result (λ text. (at : Reading) (jobs : List Job) →
-        KeepsJobs at (rows seats.now) jobs →
-        string_bytes text ≡ codes "PID\tStatus\tLabel\n" ++ flat_map shown_text jobs) }
-{
-    let mut text = String::new(alloc);
-    text.push_str("PID\tStatus\tLabel\n")?;
-    for seat in seats {
-        add_line(alloc, &mut text, seat)?;
-    }
-    Ok(text)
-}
-
 impl Jobs {
-    ghost use Rattle.loaded_jobs.specs.Sound.{seen_table, IsSound};
+    ghost use Rattle.loaded_jobs.specs.Sound.{seen_table, IsSound, IsWhole};
+
+    /// The last reading.
+    pub fn reading(&self) -> Reading
+        ensures { result ≡ (seen_table self.now).reading }
+    {
+        self.reading
+    }
+
+    /// The orders that the last event gave, in byte order of labels.
+    pub fn orders(&self) -> &[Order]
+        ensures { result.now ≡ (seen_table self.now).orders }
+    {
+        &self.orders
+    }
+
+    /// How many jobs the last event visited.
+    pub fn visited(&self) -> u32
+        ensures { result ≡ (seen_table self.now).visited }
+    {
+        self.visited
+    }
+
+    /// Whether a shutdown was accepted.
+    pub fn is_shutting_down(&self) -> bool
+        ensures { result ≡ (seen_table self.now).is_shutting_down }
+    {
+        self.is_shutting_down
+    }
+
+    /// Whether no job is loaded.
+    pub fn is_empty(&self) -> bool
+        ensures { (s : State) → KeepsState (seen_table self.now) s → result ≡ is_none s.jobs }
+    {
+        all_gone(&self.seats)
+    }
+
+    /// Whether a loaded job has calendar entries. Unless a job went at the last event, no job is looked at.
+    pub fn has_calendars(&self) -> bool
+        requires { IsWhole self.now }
+        ensures jobs { (s : State) → KeepsState (seen_table self.now) s → result ≡ have_calendars s.jobs }
+        ensures rows { result ≡ has_calendars (seen_table self.now).rows }
+    {
+        match self.gone {
+            Gone::Nobody => self.has_calendars,
+            _ => is_some_with_calendar(&self.seats),
+        }
+    }
+
+    /// The least of the loaded jobs' next moments; none, if no job has one.
+    pub fn next_up(&self) -> Option<u64>
+        requires { IsWhole self.now }
+        ensures { (s : State) → KeepsState (seen_table self.now) s → IsNextUp s.jobs result }
+    {
+        let (_job, moment) = self.index.timers.least()?;
+        Some(moment)
+    }
+
+    /// The text of `list`: a line of heads, then a line for each loaded job.
+    pub fn list(&self, alloc: Global) -> Result<String, Refusal>
+        requires { IsSound self.now }
+        ensures text { IfOk result (λ text. IsReplyText ListJobs (seen_table self.now) (string_bytes text)) }
+        ensures memory { IfErr result (λ refusal. refusal ≡ NoMemory) }
+    {
+        match list(alloc, &self.seats) { // for the proof
+            Ok(text) => Ok(text),
+            Err(_) => Err(Refusal::NoMemory),
+        }
+    }
 
     /// The text of `print`: what is shown of the one job with this label.
     pub fn print(&self, alloc: Global, label: &str) -> Result<String, Refusal>
@@ -59,6 +119,20 @@ impl Jobs {
             Err(_) => Err(Refusal::NoMemory),
         }
     }
+}
+
+/// A line of heads, then a line for each job that is not gone.
+fn list(alloc: Global, seats: &[Seat]) -> Result<String, AllocError>
+    ensures { IfOk result (λ text. (at : Reading) (jobs : List Job) →
+        KeepsJobs at (rows seats.now) jobs →
+        string_bytes text ≡ codes "PID\tStatus\tLabel\n" ++ flat_map shown_text jobs) }
+{
+    let mut text = String::new(alloc);
+    text.push_str("PID\tStatus\tLabel\n")?;
+    for seat in seats {
+        add_line(alloc, &mut text, seat)?;
+    }
+    Ok(text)
 }
 
 /// Adds the line of a job, unless it is gone.

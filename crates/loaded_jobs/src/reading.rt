@@ -1,12 +1,12 @@
 //! A reading of the clocks, which touches few jobs.
 
-ghost use Rattle.std.specs.Prelude.{◌≡◌, ◌≤◌, [], Ok, true, false};
+ghost use Rattle.std.specs.Prelude.{◌≡◌, Ok, false};
 ghost use Rattle.history_model.specs.Machine.{Tick};
 ghost use Rattle.history_model.specs.Refusals.{is_clock_refused};
 ghost use Rattle.loaded_jobs.specs.TableOutcomes.{IsOutcome, IsNextTable};
 ghost use Rattle.loaded_jobs.specs.Touching.{SparesUntouched};
 ghost use Rattle.loaded_jobs.specs.Minutes.{AreMinutes};
-ghost use Rattle.loaded_jobs.specs.Seats.{AllStay};
+ghost use Rattle.loaded_jobs.specs.Begun.{IsBegun};
 ghost use Rattle.loaded_jobs.specs.Counts.{counts, IsCounted};
 ghost use Rattle.loaded_jobs.specs.Numbers.{row_names};
 ghost use Rattle.loaded_jobs.specs.Room.{HasSameRoom};
@@ -26,10 +26,7 @@ impl Jobs {
     /// Takes in a reading that is not refused, and the civil minutes that it crosses: the jobs that it touches hear it and give their orders,
     /// and nothing is done for any other. It tells which jobs may have gone.
     pub fn advance(&mut self, at: Reading, minutes: &[CivilMinute]) -> Gone
-        requires sound { IsSound self.old }
-        requires indexed { IsIndexed self.old }
-        requires stay { AllStay self.old.seats.items }
-        requires empty { self.old.orders.items ≡ [] }
+        requires begun { IsBegun self.old }
         requires accepted { is_clock_refused self.old.reading at ≡ false }
         requires minutes { AreMinutes (seen_table self.old) at minutes.now }
         ensures answer { IsOutcome (Tick at) (seen_table self.old) (Ok tt) (seen_table self.new) }
@@ -38,7 +35,7 @@ impl Jobs {
             (seen_table self.new).gone (seen_table self.new).visited }
         ensures names { (seen_table self.new).names ≡ row_names (seen_table self.old).rows }
         ensures room { HasSameRoom (seen_table self.old) (seen_table self.new) }
-        ensures untouched { SparesUntouched at (seen_table self.old) (seen_table self.new) }
+        ensures spared { SparesUntouched at (seen_table self.old) (seen_table self.new) }
         ensures sound { IsSound self.new }
         ensures stay { StayBut result self.new.seats.items }
         ensures indexed { IsIndexed self.new }

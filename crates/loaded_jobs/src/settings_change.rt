@@ -1,6 +1,6 @@
 //! A setting in two parts: what can be refused, and what cannot.
 
-ghost use Rattle.std.specs.Prelude.{◌≡◌, Bool, true, false, ◌||◌, [], Some, None, IfOk, IfErr, length, map};
+ghost use Rattle.std.specs.Prelude.{◌≡◌, Bool, true, false, ◌||◌, [], Some, None, IfOk, IfErr, map};
 ghost use Rattle.history_model.specs.declared.Ask.TheVariants as asks;
 ghost use Rattle.history_model.specs.Items.{Asked};
 ghost use Rattle.std.specs.List.{flat_map};
@@ -10,11 +10,13 @@ ghost use Rattle.history_model.specs.Step.{with_orders, orders_of};
 ghost use Rattle.history_model.specs.Acceptance.{refusal_in, refusal_at, refusal_stored};
 ghost use Rattle.loaded_jobs.specs.StandsFor.{KeepsState, acts_in};
 ghost use Rattle.loaded_jobs.specs.TableOutcomes.{IsSameFor, Means};
-ghost use Rattle.loaded_jobs.specs.SettingChanges.{set_of, IsReadySet, Changes, withdrawn};
-ghost use Rattle.loaded_jobs.specs.Seats.{rows, gone, name, AllStay};
+ghost use Rattle.loaded_jobs.specs.Goes.{GoesWithSetting};
+ghost use Rattle.loaded_jobs.specs.SettingChanges.{set_of, IsReadySet, withdrawn};
+ghost use Rattle.loaded_jobs.specs.Begun.{IsBegun};
+ghost use Rattle.loaded_jobs.specs.Seats.{rows, gone, name};
 ghost use Rattle.loaded_jobs.specs.Counts.{counts, IsCounted};
 ghost use Rattle.loaded_jobs.specs.Numbers.{row_names};
-ghost use Rattle.loaded_jobs.specs.Room.{HasSameRoom, held_with};
+ghost use Rattle.loaded_jobs.specs.Room.{HasSameRoom};
 ghost use Rattle.loaded_jobs.specs.Touching.{SparesOthers};
 
 use crate::jobs::Jobs;
@@ -30,7 +32,7 @@ pub struct NewSetting {
 }
 
 impl Jobs {
-    ghost use Rattle.loaded_jobs.specs.Sound.{seen_table, IsSound, IsWhole};
+    ghost use Rattle.loaded_jobs.specs.Sound.{seen_table, IsWhole};
     ghost use Rattle.loaded_jobs.specs.Alike.{IsAlike};
 
     /// Makes a setting ready: looks for each refusal but the store's, and takes all the memory.
@@ -82,8 +84,7 @@ impl Jobs {
 
     /// Looks for the refusals of an unload, but for the store's.
     fn admit_unload(&self, label: &str) -> Result<(), Refusal>
-        requires sound { IsSound self.now }
-        requires stay { AllStay self.now.seats.items }
+        requires { IsBegun self.now }
         ensures { (s : State) → KeepsState (seen_table self.now) s →
             result ≡ reply (refusal_at (past_of s label.now) (Asked asks.Unload)) }
     {
@@ -98,17 +99,8 @@ impl Jobs {
     pub fn change(&mut self, ready: NewSetting)
         requires sound { IsWhole self.old }
         requires ready { IsReadySet (seen_table self.old) ready }
-        ensures changes { Changes (seen_table self.old) ready (seen_table self.new) }
-        ensures counted { IsCounted (counts (seen_table self.old).rows) (seen_table self.new).rows
-            (seen_table self.new).gone (seen_table self.new).visited }
-        ensures spared { (store : Bool) →
-            SparesOthers (set_of ready.setting.label ready.setting.disabled ready.unload store)
-            (seen_table self.old) (seen_table self.new) }
-        ensures names { (seen_table self.new).names ≡ row_names (seen_table self.old).rows }
-        ensures held { length (seen_table self.new).settings
-            ≡ held_with ready.setting.label (seen_table self.old).settings }
-        ensures room { HasSameRoom (seen_table self.old) (seen_table self.new) }
-        ensures sound { IsWhole self.new }
+        ensures goes { GoesWithSetting ready (seen_table self.old) (seen_table self.new) }
+        ensures whole { IsWhole self.new }
     {
         let NewSetting { setting, unload } = ready;
         self.withdraw(setting.label.as_str(), unload);

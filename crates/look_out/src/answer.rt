@@ -3,7 +3,7 @@
 ghost use Rattle.std.specs.Prelude.{◌≡◌, ◌<◌, ◌^◌, Some};
 ghost use Rattle.look_out.specs.Answers.{code_of, number_of};
 
-/// As many bytes has each answer: so many questions, so many answers, and no byte of one is taken for another's.
+/// How many bytes each answer has: so many questions, so many answers, and no byte of one is taken for another's.
 pub const LENGTH: usize = 9;
 
 #[derive(Clone, Copy, PartialEq, Eq)]

@@ -7,7 +7,7 @@ use crate::answer::Answer;
 use std::alloc::{AllocError, Global};
 use std::io;
 
-/// As many questions are on their way at most.
+/// How many questions are on their way at most.
 pub(crate) const MOST: usize = 1_024;
 
 /// What became of a question.

@@ -15,7 +15,7 @@ use std::os::fd::AsFd;
 use std::os::unix::net::UnixStream;
 use std::rt::Env;
 
-/// As many bytes of questions are read at a time.
+/// How many bytes of questions are read at a time.
 const ROOM: usize = 4_096;
 
 /// What a look-out has: what it holds open, and the question that still comes.

@@ -16,7 +16,7 @@ pub const NAME: &str = "jobd-look-out";
 /// This program's own file, also if another is at its path by now.
 const OWN_FILE: &str = "/proc/self/exe";
 
-/// As many milliseconds a question may take to be taken.
+/// How many milliseconds a question may take to be taken.
 const PATIENCE: u64 = 500;
 
 #[derive(Drop)]

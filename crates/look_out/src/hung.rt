@@ -6,16 +6,16 @@ use std::alloc::Global;
 use std::fs::Files;
 use std::process::{Child, OpenProcess};
 
-/// As many helpers are left at most, each at another place.
+/// How many helpers are left at most, each at another place.
 pub const MOST: usize = 16;
 
-/// As many places are remembered at most.
+/// How many places are remembered at most.
 const PLACES: usize = 256;
 
-/// As many milliseconds a place is left in peace that hung.
+/// For how many milliseconds a place is left in peace that hung.
 const PEACE: u64 = 10_000;
 
-/// As many milliseconds an answer may take, and at least.
+/// How many milliseconds an answer may take, and how many at least.
 pub(crate) const PATIENCE: u64 = 500;
 
 const LEAST: u64 = 8;
@@ -28,7 +28,7 @@ struct HungPlace<P: OpenProcess + Drop> {
     child: Option<Child<P>>,
     // From this moment on it is asked again.
     again: u64,
-    // As many milliseconds the next start there waits.
+    // How many milliseconds the next start there waits.
     patience: u64,
 }
 
@@ -79,7 +79,7 @@ impl<P: OpenProcess + Drop> Hung<P> {
         is_shut || (left >= MOST && may_hang(rt, self.alloc, path))
     }
 
-    /// As many milliseconds are waited for an answer about the path.
+    /// How many milliseconds are waited for an answer about the path.
     pub(crate) fn patience(&self, path: &str) -> u64 {
         let mut patience = PATIENCE;
         for one in self.places.iter() {

@@ -12,13 +12,13 @@ use std::net::Net;
 use std::process::{OpenProcess, Processes};
 use std::{io, mem};
 
-/// As many bytes of questions are on their way at most.
+/// How many bytes of questions are on their way at most.
 const ON_THE_WAY: usize = 32_768;
 
-/// As many bytes of answers are read at a time.
+/// How many bytes of answers are read at a time.
 const ROOM: usize = 9_216;
 
-/// As many times in a row a look-out may end before the question that it has is given up.
+/// How many times in a row a look-out may end before the question that it has is given up.
 const LOSSES: u32 = 2;
 
 /// The questions about paths, and the look-out that is asked: none before the first question.

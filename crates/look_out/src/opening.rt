@@ -14,7 +14,7 @@ use std::os::unix::fs::{FileTypeExt, MetadataExt};
 use std::rt::Env;
 use std::{env, fs, io};
 
-/// As many bytes of a program are read: the system reads as many to see what kind it is.
+/// How many bytes of a program are read: the system reads as many to see what kind it is.
 const HEAD: usize = 256;
 
 /// Opens the path, and holds it: from its beginning, or to be appended to.

@@ -37,7 +37,7 @@ pub enum Asked {
 pub struct Openings<P: OpenProcess + Drop> {
     alloc: Global,
     helper: Option<Helper<P>>,
-    // As many answers are still to come that nobody waits for.
+    // How many answers are still to come that nobody waits for.
     owed: usize,
     // What it holds can be opened.
     is_open: bool,

@@ -1,6 +1,6 @@
 //! What a look-out is asked: a letter, a space, a text, and a NUL that ends it.
 
-/// As many bytes has the text of a question at most: no path that the system takes is longer, and a search path seldom is.
+/// How many bytes the text of a question has at most: no path that the system takes is longer, and a search path seldom is.
 pub const LONGEST: usize = 32_768;
 
 /// What is asked about a path.

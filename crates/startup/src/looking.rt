@@ -14,7 +14,7 @@ use std::{fs, io};
 /// A store's file has at most so many bytes, and so has the log beside it.
 const MOST_BYTES: u64 = 67_108_864;
 
-/// As many pages of the copy are kept a second time.
+/// How many pages of the copy are kept a second time.
 const CACHE_PAGES: usize = 8;
 
 /// What a file is that may be a store.

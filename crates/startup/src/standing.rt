@@ -8,13 +8,13 @@ use files_and_process::own_process::{Signal, Standing, sees_children};
 use std::alloc::Global;
 use std::io;
 
-/// As many descriptors are needed: a dozen that the launcher holds, and what a start, TERM and a client take beside them.
+/// How many descriptors are needed: a dozen that the launcher holds, and what a start, TERM and a client take beside them.
 const FEWEST: u64 = 32;
 
-/// As many connections are held, and as many clients heard, at most.
+/// How many connections are held, and how many clients heard, at most.
 const MOST: u64 = 256;
 
-/// As many connections of jobs' sockets are held, each with two descriptors, and as many of their clients are heard at a time:
+/// How many connections of jobs' sockets are held, each with two descriptors; so many of their clients are heard at a time:
 /// connections take half of the descriptors that are left, and those clients a quarter. None, if the limit is not known.
 pub fn room_of(standing: &Standing) -> Option<usize> {
     let left = standing.descriptors?.saturating_sub(FEWEST);

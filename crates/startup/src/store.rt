@@ -17,7 +17,7 @@ use std::alloc::Global;
 use std::hash::{BuildHasher, RandomState};
 use std::io;
 
-/// As many pages of the store are kept in memory.
+/// How many pages of the store are kept in memory.
 const CACHE_PAGES: usize = 64;
 
 /// The log beside the store is moved into the store once it has so many pages, which is a megabyte.

@@ -14,16 +14,16 @@ use std::io::ErrorKind;
 enum Trial {
     /// The journal in pieces of that many bytes is answered whole.
     Pieces,
-    /// As many reads of so many bytes, and then one that fails so, leave the outcome lines of the lines before.
+    /// So many reads of so many bytes, and then one that fails so, leave the outcome lines of the lines before.
     Reads(usize, ErrorKind),
-    /// As many written bytes, and then a write that fails so, or takes no byte, leave these bytes.
+    /// So many written bytes, and then a write that fails so, or takes no byte, leave these bytes.
     Writes(Option<ErrorKind>),
-    /// As many reads of one byte, and no more, leave the outcome lines of the lines before.
+    /// So many reads of one byte, and no more, leave the outcome lines of the lines before.
     Counts,
     /// As few reads as a reader of pieces of that many bytes makes, and one at its end, are enough for the whole journal: reads are
     /// counted, and not bytes.
     LongReads,
-    /// A journal that ends after as many bytes is answered as far as it goes. Its last line needs no newline, and is no event if it is cut.
+    /// A journal that ends after so many bytes is answered as far as it goes. Its last line needs no newline, and is no event if it is cut.
     Fronts,
 }
 

@@ -5,7 +5,7 @@ use std::io::{Error, ErrorKind};
 use std::os::unix::fs::{MetadataExt, OpenOptionsExt};
 use std::{fs, io};
 
-/// As often a lock is tried whose file somebody else has just made or removed.
+/// How often a lock is tried whose file somebody else has just made or removed.
 const TRIES: u32 = 3;
 
 /// A lock that is held.

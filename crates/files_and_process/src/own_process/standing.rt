@@ -16,9 +16,9 @@ pub enum Signal {
 /// What the system says of this process. Where it says nothing, nothing is known.
 #[derive(Clone, Copy)]
 pub struct Standing {
-    /// As many descriptors it may have open at a time.
+    /// How many descriptors it may have open at a time.
     pub descriptors: Option<u64>,
-    /// As many bytes a file may have that it writes.
+    /// How many bytes a file may have that it writes.
     pub file_size: Option<u64>,
     /// The number of the user whose rights it has.
     pub user: Option<u32>,

@@ -5,7 +5,7 @@ use std::alloc::AllocError;
 use std::rt::Env;
 use std::{env, io};
 
-/// As many bytes has the longest word with which Linux starts a program (`MAX_ARG_STRLEN`).
+/// How many bytes the longest word has with which Linux starts a program (`MAX_ARG_STRLEN`).
 const LONGEST: usize = 131_072;
 
 /// The words that this program was started with, its own name first. It fails for want of memory, and if one of them is not UTF-8.

@@ -56,11 +56,11 @@ impl Answers for Echo {
 /// Time for so many lines in each round. The clock goes on only by the steps of the test.
 #[derive(Drop)]
 pub struct Budget {
-    /// As many lines a round.
+    /// How many lines are answered in a round.
     pub lines: u32,
     /// The milliseconds that the clock says.
     pub up: u64,
-    /// As many further lines in this round.
+    /// How many further lines in this round.
     pub left: u32,
 }
 

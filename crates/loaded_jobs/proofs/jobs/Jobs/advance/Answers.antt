@@ -61,50 +61,51 @@ pub mark_due-requires-clause-places : goal.mark_due-requires-clause-places
 mark_due-requires-clause-places c =
     let old = c.args.self.now in
     subst (λ ps. HavePlaces old.index.timers ps old.index.marked) (sym c.deref.ensures.value)
-    (have-places old.seats.items old.index.timers old.index.places.items old.index.marked c.requires.indexed.alone c.requires.indexed.placed c.requires.indexed.marks)
+    (have-places old.seats.items old.index.timers old.index.places.items old.index.marked c.requires.begun.whole.indexed.alone c.requires.begun.whole.indexed.placed c.requires.begun.whole.indexed.marks)
 
 pub mark_minutes-requires-clause-order : goal.mark_minutes-requires-clause-order
-mark_minutes-requires-clause-order c = subst AreOrdered (sym c.deref-2.ensures.value) c.requires.sound.listed.order
+mark_minutes-requires-clause-order c = subst AreOrdered (sym c.deref-2.ensures.value) c.requires.begun.whole.sound.listed.order
 
 pub mark_minutes-requires-clause-places : goal.mark_minutes-requires-clause-places
 mark_minutes-requires-clause-places c =
-    let fits = c.requires.indexed.marks in
+    let fits = c.requires.begun.whole.indexed.marks in
     let same = c.mark_due.ensures.room in
-    have-marks c.deref-3.result.now c.args.self.now.seats.items c.deref-2.result.now c.mark_due.new.ready (subst (λ ps. ArePlaced ps c.args.self.now.seats.items) (sym c.deref-3.ensures.value) c.requires.indexed.placed)
-    (subst (λ ls. AreListed ls (map name c.args.self.now.seats.items)) (sym c.deref-2.ensures.value) c.requires.sound.listed) (omega (arith, fits, same))
+    have-marks c.deref-3.result.now c.args.self.now.seats.items c.deref-2.result.now c.mark_due.new.ready (subst (λ ps. ArePlaced ps c.args.self.now.seats.items) (sym c.deref-3.ensures.value) c.requires.begun.whole.indexed.placed)
+    (subst (λ ls. AreListed ls (map name c.args.self.now.seats.items)) (sym c.deref-2.ensures.value) c.requires.begun.whole.sound.listed) (omega (arith, fits, same))
 
 pub visit_ready-visited-requires-clause-can : goal.visit_ready-visited-requires-clause-can
 visit_ready-visited-requires-clause-can c =
     let old = c.args.self.now in
-    let indexed = c.requires.indexed in
+    let indexed = c.requires.begun.whole.indexed in
     let rises = later old.reading c.args.at c.requires.accepted in
     let lent = c.deref_mut.ensures.value in
-    let m = are-marked old.seats.items c.args.self.now.seats.items c.args.at c.args.minutes.now old.index.timers c.mark_due.new.timers old.index.places.items c.deref.result.now c.mark_due.new.ready c.mark_minutes.new.ready
-    c.deref.ensures.value refl c.mark_due.ensures.marked c.mark_due.ensures.marks (c.mark_minutes.ensures.spared c.args.self.now.seats.items (subst (λ ls. AreListed ls (map name c.args.self.now.seats.items)) (sym c.deref-2.ensures.value) c.requires.sound.listed) (subst (λ ps. ArePlaced ps c.args.self.now.seats.items) (sym c.deref-3.ensures.value) c.requires.indexed.placed)) (c.mark_minutes.ensures.marks c.args.self.now.seats.items (subst (λ ls. AreListed ls (map name c.args.self.now.seats.items)) (sym c.deref-2.ensures.value) c.requires.sound.listed) (subst (λ ps. ArePlaced ps c.args.self.now.seats.items) (sym c.deref-3.ensures.value) c.requires.indexed.placed)) in
+    let m = are-marked old.seats.items c.args.self.now.seats.items c.args.at c.args.minutes.now _ old.index.timers c.mark_due.new.timers old.index.places.items c.deref.result.now c.mark_due.new.ready c.mark_minutes.new.ready
+    c.deref.ensures.value refl c.mark_due.ensures.marked c.mark_due.ensures.marks (c.mark_minutes.ensures.spared c.args.self.now.seats.items (subst (λ ls. AreListed ls (map name c.args.self.now.seats.items)) (sym c.deref-2.ensures.value) c.requires.begun.whole.sound.listed) (subst (λ ps. ArePlaced ps c.args.self.now.seats.items) (sym c.deref-3.ensures.value) c.requires.begun.whole.indexed.placed)) (c.mark_minutes.ensures.marks c.args.self.now.seats.items (subst (λ ls. AreListed ls (map name c.args.self.now.seats.items)) (sym c.deref-2.ensures.value) c.requires.begun.whole.sound.listed) (subst (λ ps. ArePlaced ps c.args.self.now.seats.items) (sym c.deref-3.ensures.value) c.requires.begun.whole.indexed.placed))
+    (let top = (later old.reading c.args.at c.requires.accepted).1 in omega (arith, top)) in
     record {
-      before_in_range = c.requires.sound.in_range;
+      before_in_range = c.requires.begun.whole.sound.in_range;
       in_range = rises.1;
       brings = reading-brings old.reading c.args.at c.args.minutes;
-      stay = subst AllStay (sym lent) c.requires.stay;
-      few = (let few = c.requires.sound.few in let long = ap length lent in omega (arith, few, long));
-      once = subst (λ xs. IsOnce (map name xs)) (sym lent) c.requires.sound.once;
+      stay = subst AllStay (sym lent) c.requires.begun.stay;
+      few = (let few = c.requires.begun.whole.sound.few in let long = ap length lent in omega (arith, few, long));
+      once = subst (λ xs. IsOnce (map name xs)) (sym lent) c.requires.begun.whole.sound.once;
       numbers = λ number named. subst (λ r. number < r) (sym c.mark_due.ensures.timers) (indexed.space number (ap (λ xs. is_some (definition_of_number (map name xs) number)) (sym lent) ∙ named));
       inside =
           λ place there. subst (λ xs. place < length xs) (sym c.deref_mut.ensures.value)
-          (mark-at old.seats.items c.requires.stay old.reading c.args.at c.args.minutes.now old.index.timers c.mark_due.new.timers old.index.places.items c.mark_due.new.ready c.mark_minutes.new.ready
-          indexed.timed indexed.alone indexed.placed m.marked m.reached m.spared m.minute place (not-false (has_place c.mark_minutes.new.ready place) there));
+          (mark-at old.seats.items c.requires.begun.stay old.reading c.args.at c.args.minutes.now _ old.index.timers c.mark_due.new.timers old.index.places.items c.mark_due.new.ready c.mark_minutes.new.ready
+          indexed.timed indexed.alone indexed.placed m place (not-false (has_place c.mark_minutes.new.ready place) there));
       spared =
           subst (AreSpared (is_spared c.mark_minutes.new.ready) old.reading (item_for (touch.Reading c.args.at c.args.minutes)) 0) (sym c.deref_mut.ensures.value)
           (spared-all old.reading c.args.at c.args.minutes (later old.reading c.args.at c.requires.accepted).0 c.mark_minutes.new.ready 0 old.seats.items
-          (λ k e there none. is-spare old.seats.items c.requires.stay old.reading c.args.at c.args.minutes.now old.index.timers c.mark_due.new.timers old.index.places.items c.mark_due.new.ready c.mark_minutes.new.ready
-          indexed.timed indexed.alone indexed.placed m.marked m.reached m.spared m.minute k e there (subst (λ p. is_spared c.mark_minutes.new.ready p ≡ true) (omega arith) none)));
+          (λ k e there none. is-spare old.seats.items c.requires.begun.stay old.reading c.args.at c.args.minutes.now _ old.index.timers c.mark_due.new.timers old.index.places.items c.mark_due.new.ready c.mark_minutes.new.ready
+          indexed.timed indexed.alone indexed.placed m k e there (subst (λ p. is_spared c.mark_minutes.new.ready p ≡ true) (omega arith) none)));
       timed =
-          λ k e there none. spare-timed old.seats.items c.requires.stay old.reading c.args.at c.args.minutes.now old.index.timers c.mark_due.new.timers old.index.places.items c.mark_due.new.ready c.mark_minutes.new.ready
-          indexed.timed indexed.alone indexed.placed m.marked m.reached m.spared m.minute (later old.reading c.args.at c.requires.accepted).0 k e (ap (λ xs. slice_get xs k) (sym c.deref_mut.ensures.value) ∙ there) none;
+          λ k e there none. spare-timed old.seats.items c.requires.begun.stay old.reading c.args.at c.args.minutes.now _ old.index.timers c.mark_due.new.timers old.index.places.items c.mark_due.new.ready c.mark_minutes.new.ready
+          indexed.timed indexed.alone indexed.placed m (later old.reading c.args.at c.requires.accepted).0 k e (ap (λ xs. slice_get xs k) (sym c.deref_mut.ensures.value) ∙ there) none;
       alone =
           subst (λ xs. AreAlone c.mark_due.new.timers (map name xs)) (sym c.deref_mut.ensures.value)
-          (alone-still old.seats.items c.requires.stay old.reading c.args.at c.args.minutes.now old.index.timers c.mark_due.new.timers old.index.places.items c.mark_due.new.ready c.mark_minutes.new.ready
-          indexed.timed indexed.alone indexed.placed m.marked m.reached m.spared m.minute);
+          (alone-still old.seats.items c.requires.begun.stay old.reading c.args.at c.args.minutes.now _ old.index.timers c.mark_due.new.timers old.index.places.items c.mark_due.new.ready c.mark_minutes.new.ready
+          indexed.timed indexed.alone indexed.placed m);
     }
 
 pub returns-clause-counted : goal.returns-clause-counted
@@ -113,7 +114,7 @@ returns-clause-counted c =
     let after = c.visit_ready-visited.new.seats in
     let whole = lent-back after (drop (length after) es) c.args.self.now.seats.len (omega arith) in
     subst (λ all. IsCounted (counts (rows es)) (rows all) (gone all) c.visit_ready-visited.result.0) (sym whole)
-    (visits-counted (is_spared c.mark_minutes.new.ready) es after c.visit_ready-visited.result.0 c.requires.stay c.requires.sound.once
+    (visits-counted (is_spared c.mark_minutes.new.ready) es after c.visit_ready-visited.result.0 c.requires.begun.stay c.requires.begun.whole.sound.once
     (subst (λ all. AreVisitedOnce (is_spared c.mark_minutes.new.ready) 0 all after) c.deref_mut.ensures.value c.visit_ready-visited.ensures.visits.visits) c.visit_ready-visited.ensures.visits.visited)
 
 pub returns-clause-indexed : goal.returns-clause-indexed
@@ -123,7 +124,7 @@ returns-clause-indexed c =
     let after = c.visit_ready-visited.new.seats in
     let whole = lent-back after (drop (length after) es) old.seats.len (omega arith) in
     let names = ap (map name) whole ∙ c.visit_ready-visited.ensures.visits.names ∙ ap (map name) c.deref_mut.ensures.value in
-    let indexed = c.requires.indexed in
+    let indexed = c.requires.begun.whole.indexed in
     let long : length after ≡ length es = omega arith in
     let fits = indexed.marks in
     record {
@@ -149,19 +150,19 @@ returns-clause-sound c =
     record {
       in_range = (later c.args.self.now.reading c.args.at c.requires.accepted).1;
       wall = (later c.args.self.now.reading c.args.at c.requires.accepted).2;
-      once = subst IsOnce (sym names) c.requires.sound.once;
-      held = held-names _ _ c.args.self.now.numbers (sym names) c.requires.sound.held;
-      free = subst (AreFree c.args.self.now.numbers) (sym names) c.requires.sound.free;
+      once = subst IsOnce (sym names) c.requires.begun.whole.sound.once;
+      held = held-names _ _ c.args.self.now.numbers (sym names) c.requires.begun.whole.sound.held;
+      free = subst (AreFree c.args.self.now.numbers) (sym names) c.requires.begun.whole.sound.free;
       known = subst (λ ns. list_all (is_known ns) c.visit_ready-visited.new.orders.items ≡ true) (sym names)
           (c.visit_ready-visited.ensures.visits.known (map name es) (ap (list_all (is_named (map name es))) c.deref_mut.ensures.value ∙ all-named es)
-          (ap (list_all (is_known (map name es))) c.requires.empty));
-      few = omega arith;
-      room = omega arith;
+          (ap (list_all (is_known (map name es))) c.requires.begun.empty));
+      few = (let few = c.requires.begun.whole.sound.few in omega (arith, few));
+      room = (let enough = c.requires.begun.whole.sound.room in omega (arith, enough));
       named = named-of _ _ _ (returns-clause-indexed c);
-      periods = subst HavePeriods (sym names) c.requires.sound.periods;
-      calendars = c.requires.sound.calendars ∙ ap some_calendar (sym names);
-      listed = subst (AreListed c.args.self.now.triggers.items) (sym names) c.requires.sound.listed;
-      order = subst (λ ns. AreInOrder (labels_in ns)) (sym names) c.requires.sound.order;
+      periods = subst HavePeriods (sym names) c.requires.begun.whole.sound.periods;
+      calendars = c.requires.begun.whole.sound.calendars ∙ ap some_calendar (sym names);
+      listed = subst (AreListed c.args.self.now.triggers.items) (sym names) c.requires.begun.whole.sound.listed;
+      order = subst (λ ns. AreInOrder (labels_in ns)) (sym names) c.requires.begun.whole.sound.order;
     }
 
 pub returns-clause-names : goal.returns-clause-names
@@ -170,7 +171,7 @@ returns-clause-names c =
     let after = c.visit_ready-visited.new.seats in
     let whole = lent-back after (drop (length after) es) c.args.self.now.seats.len (omega arith) in
     ap (map name) whole ∙ c.visit_ready-visited.ensures.visits.names ∙ ap (map name) c.deref_mut.ensures.value
-    ∙ names-begun es es c.requires.stay refl
+    ∙ names-begun es es c.requires.begun.stay refl
 
 -- the table that is left
 abbrev going-as : goal.After-at-1 → Jobs
@@ -192,9 +193,10 @@ done c s keeps =
     let ready = c.mark_minutes.new.ready in
     let whole = lent-back after (drop (length after) es) old.seats.len (omega arith) in
     let names = ap (map name) whole ∙ c.visit_ready-visited.ensures.visits.names ∙ ap (map name) c.deref_mut.ensures.value in
-    let indexed = c.requires.indexed in
-    let m = are-marked es c.args.self.now.seats.items at c.args.minutes.now old.index.timers c.mark_due.new.timers old.index.places.items c.deref.result.now c.mark_due.new.ready ready
-    c.deref.ensures.value refl c.mark_due.ensures.marked c.mark_due.ensures.marks (c.mark_minutes.ensures.spared c.args.self.now.seats.items (subst (λ ls. AreListed ls (map name c.args.self.now.seats.items)) (sym c.deref-2.ensures.value) c.requires.sound.listed) (subst (λ ps. ArePlaced ps c.args.self.now.seats.items) (sym c.deref-3.ensures.value) c.requires.indexed.placed)) (c.mark_minutes.ensures.marks c.args.self.now.seats.items (subst (λ ls. AreListed ls (map name c.args.self.now.seats.items)) (sym c.deref-2.ensures.value) c.requires.sound.listed) (subst (λ ps. ArePlaced ps c.args.self.now.seats.items) (sym c.deref-3.ensures.value) c.requires.indexed.placed)) in
+    let indexed = c.requires.begun.whole.indexed in
+    let m = are-marked es c.args.self.now.seats.items at c.args.minutes.now _ old.index.timers c.mark_due.new.timers old.index.places.items c.deref.result.now c.mark_due.new.ready ready
+    c.deref.ensures.value refl c.mark_due.ensures.marked c.mark_due.ensures.marks (c.mark_minutes.ensures.spared c.args.self.now.seats.items (subst (λ ls. AreListed ls (map name c.args.self.now.seats.items)) (sym c.deref-2.ensures.value) c.requires.begun.whole.sound.listed) (subst (λ ps. ArePlaced ps c.args.self.now.seats.items) (sym c.deref-3.ensures.value) c.requires.begun.whole.indexed.placed)) (c.mark_minutes.ensures.marks c.args.self.now.seats.items (subst (λ ls. AreListed ls (map name c.args.self.now.seats.items)) (sym c.deref-2.ensures.value) c.requires.begun.whole.sound.listed) (subst (λ ps. ArePlaced ps c.args.self.now.seats.items) (sym c.deref-3.ensures.value) c.requires.begun.whole.indexed.placed))
+    (let top = (later old.reading at c.requires.accepted).1 in omega (arith, top)) in
     let item : Job → Option Item = λ job. Some (Read at (calendar_fires s.zone (definition_of job.past).calendar s.reading.wall at.wall)) in
     let own : KeepsJobs old.reading (rows es) s.jobs = own-jobs old s keeps in
     let crosses : has_calendars (rows es) ≡ true → c.args.minutes.now ≡ map s.zone (crossed s.reading.wall at.wall) =
@@ -204,16 +206,16 @@ done c s keeps =
     readings-fine old.reading at (λ job. calendar_fires s.zone (definition_of job.past).calendar s.reading.wall at.wall) c.requires.accepted in
     let rests : AreAtRest (is_spared ready) 0 (heard item s.jobs) =
     rest-all old.reading at c.args.minutes (later old.reading at c.requires.accepted).0 ready item fine 0 es s.jobs
-    (λ k e there none. is-spare es c.requires.stay old.reading at c.args.minutes.now old.index.timers c.mark_due.new.timers old.index.places.items c.mark_due.new.ready ready
-    indexed.timed indexed.alone indexed.placed m.marked m.reached m.spared m.minute k e there (subst (λ p. is_spared ready p ≡ true) (omega arith) none))
-    (subst (λ rs. AreFor (item_for (touch.Reading at c.args.minutes)) item rs s.jobs) (rows-all es c.requires.stay) for) (subst (λ rs. KeepsJobs old.reading rs s.jobs) (rows-all es c.requires.stay) own) keeps.rests in
+    (λ k e there none. is-spare es c.requires.begun.stay old.reading at c.args.minutes.now _ old.index.timers c.mark_due.new.timers old.index.places.items c.mark_due.new.ready ready
+    indexed.timed indexed.alone indexed.placed m k e there (subst (λ p. is_spared ready p ≡ true) (omega arith) none))
+    (subst (λ rs. AreFor (item_for (touch.Reading at c.args.minutes)) item rs s.jobs) (rows-all es c.requires.begun.stay) for) (subst (λ rs. KeepsJobs old.reading rs s.jobs) (rows-all es c.requires.begun.stay) own) keeps.rests in
     let lent = c.deref_mut.ensures.value in
     let for_lent = subst (λ xs. AreFor (item_for (touch.Reading at c.args.minutes)) item (rows xs) s.jobs) (sym lent) for in
     let own_lent = subst (λ xs. KeepsJobs old.reading (rows xs) s.jobs) (sym lent) own in
     let kept : KeepsJobs at (rows after) (filter_map stays (heard item s.jobs)) = c.visit_ready-visited.ensures.visits.kept s.jobs item for_lent fine rests own_lent in
     let orders : c.visit_ready-visited.new.orders.items ≡ numbered_all (rows es) (heard item s.jobs) =
-    c.visit_ready-visited.ensures.visits.orders s.jobs item for_lent fine rests own_lent ∙ (λ i. c.requires.empty i ++ numbered_all (rows (lent i)) (heard item s.jobs)) in
-    accepted (seen_table old) (seen_table (going-as c)) s (Tick at) [] c.requires.sound.in_range keeps
+    c.visit_ready-visited.ensures.visits.orders s.jobs item for_lent fine rests own_lent ∙ (λ i. c.requires.begun.empty i ++ numbered_all (rows (lent i)) (heard item s.jobs)) in
+    accepted (seen_table old) (seen_table (going-as c)) s (Tick at) [] c.requires.begun.whole.sound.in_range keeps
     (ap (λ b. refused_if b ClockRefused None) (ap (λ r. is_clock_refused r at) (sym keeps.reading) ∙ c.requires.accepted))
     (record {
       reading = refl;
@@ -221,7 +223,7 @@ done c s keeps =
       settings = keeps.settings;
       shutdown = keeps.shutdown;
       jobs = subst (λ xs. KeepsJobs at (rows xs) (filter_map stays (heard item s.jobs))) (sym whole) kept;
-      orders = heard-labelled old.reading item _ es c.visit_ready-visited.new.orders.items s.jobs names c.requires.stay c.requires.sound.once own orders;
+      orders = heard-labelled old.reading item _ es c.visit_ready-visited.new.orders.items s.jobs names c.requires.begun.stay c.requires.begun.whole.sound.once own orders;
     }) refl
 
 pub returns-clause-answer : goal.returns-clause-answer
@@ -230,28 +232,29 @@ returns-clause-answer c = λ s keeps. (done c s keeps).outcome
 pub returns-clause-kept : goal.returns-clause-kept
 returns-clause-kept c = λ s keeps. (done c s keeps).kept
 
-pub returns-clause-untouched : goal.returns-clause-untouched
-returns-clause-untouched c = λ s keeps label past found none.
+pub returns-clause-spared : goal.returns-clause-spared
+returns-clause-spared c = λ s keeps label past found none.
     let old = c.args.self.now in
     let es = old.seats.items in
     let after = c.visit_ready-visited.new.seats in
     let whole = lent-back after (drop (length after) es) old.seats.len (omega arith) in
     let own : KeepsJobs old.reading (rows es) s.jobs = own-jobs old s keeps in
-    let indexed = c.requires.indexed in
-    let m = are-marked es c.args.self.now.seats.items c.args.at c.args.minutes.now old.index.timers c.mark_due.new.timers old.index.places.items c.deref.result.now c.mark_due.new.ready c.mark_minutes.new.ready
-    c.deref.ensures.value refl c.mark_due.ensures.marked c.mark_due.ensures.marks (c.mark_minutes.ensures.spared c.args.self.now.seats.items (subst (λ ls. AreListed ls (map name c.args.self.now.seats.items)) (sym c.deref-2.ensures.value) c.requires.sound.listed) (subst (λ ps. ArePlaced ps c.args.self.now.seats.items) (sym c.deref-3.ensures.value) c.requires.indexed.placed)) (c.mark_minutes.ensures.marks c.args.self.now.seats.items (subst (λ ls. AreListed ls (map name c.args.self.now.seats.items)) (sym c.deref-2.ensures.value) c.requires.sound.listed) (subst (λ ps. ArePlaced ps c.args.self.now.seats.items) (sym c.deref-3.ensures.value) c.requires.indexed.placed)) in
+    let indexed = c.requires.begun.whole.indexed in
+    let m = are-marked es c.args.self.now.seats.items c.args.at c.args.minutes.now _ old.index.timers c.mark_due.new.timers old.index.places.items c.deref.result.now c.mark_due.new.ready c.mark_minutes.new.ready
+    c.deref.ensures.value refl c.mark_due.ensures.marked c.mark_due.ensures.marks (c.mark_minutes.ensures.spared c.args.self.now.seats.items (subst (λ ls. AreListed ls (map name c.args.self.now.seats.items)) (sym c.deref-2.ensures.value) c.requires.begun.whole.sound.listed) (subst (λ ps. ArePlaced ps c.args.self.now.seats.items) (sym c.deref-3.ensures.value) c.requires.begun.whole.indexed.placed)) (c.mark_minutes.ensures.marks c.args.self.now.seats.items (subst (λ ls. AreListed ls (map name c.args.self.now.seats.items)) (sym c.deref-2.ensures.value) c.requires.begun.whole.sound.listed) (subst (λ ps. ArePlaced ps c.args.self.now.seats.items) (sym c.deref-3.ensures.value) c.requires.begun.whole.indexed.placed))
+    (let top = (later old.reading c.args.at c.requires.accepted).1 in omega (arith, top)) in
     let crosses : has_calendars (rows es) ≡ true → c.args.minutes.now ≡ map s.zone (crossed old.reading.wall c.args.at.wall) =
     λ some. c.requires.minutes some ∙ (λ i. map (keeps.zone i) (crossed old.reading.wall c.args.at.wall)) in
     let visits = subst (λ all. AreVisitedOnce (is_spared c.mark_minutes.new.ready) 0 all after) c.deref_mut.ensures.value c.visit_ready-visited.ensures.visits.visits in
     ap (λ xs. count_in (counts (rows xs)) label) whole
-    ∙ spared-count s.zone old.reading c.args.at c.mark_minutes.new.ready 0 es after s.jobs label past c.requires.stay visits
-    (subst (λ rs. KeepsJobs old.reading rs s.jobs) (rows-all es c.requires.stay) own)
-    (marks-touch s.zone old.reading c.args.at c.args.minutes.now c.mark_minutes.new.ready 0 es s.jobs c.requires.sound.periods
-    (λ k e there marked. mark-reason es c.requires.stay old.reading c.args.at c.args.minutes.now old.index.timers c.mark_due.new.timers old.index.places.items c.mark_due.new.ready c.mark_minutes.new.ready
-    indexed.timed indexed.alone indexed.placed m.marked m.reached m.spared m.minute k e there (subst (λ p. is_spared c.mark_minutes.new.ready p ≡ false) (omega arith) marked))
-    (λ some. crosses (ap has_calendars (rows-all es c.requires.stay) ∙ some)) (subst (λ rs. KeepsJobs old.reading rs s.jobs) (rows-all es c.requires.stay) own))
+    ∙ spared-count s.zone old.reading c.args.at c.mark_minutes.new.ready 0 es after s.jobs label past c.requires.begun.stay visits
+    (subst (λ rs. KeepsJobs old.reading rs s.jobs) (rows-all es c.requires.begun.stay) own)
+    (marks-touch s.zone old.reading c.args.at c.args.minutes.now c.mark_minutes.new.ready 0 es s.jobs c.requires.begun.whole.sound.periods
+    (λ k e there marked. mark-reason es c.requires.begun.stay old.reading c.args.at c.args.minutes.now _ old.index.timers c.mark_due.new.timers old.index.places.items c.mark_due.new.ready c.mark_minutes.new.ready
+    indexed.timed indexed.alone indexed.placed m (omega arith) k e there (subst (λ p. is_spared c.mark_minutes.new.ready p ≡ false) (omega arith) marked))
+    (λ some. crosses (ap has_calendars (rows-all es c.requires.begun.stay) ∙ some)) (subst (λ rs. KeepsJobs old.reading rs s.jobs) (rows-all es c.requires.begun.stay) own))
     found none
-    ∙ ap (λ rs. count_in (counts rs) label) (sym (rows-all es c.requires.stay))
+    ∙ ap (λ rs. count_in (counts rs) label) (sym (rows-all es c.requires.begun.stay))
 
 pub returns-clause-stay : goal.returns-clause-stay
 returns-clause-stay c =

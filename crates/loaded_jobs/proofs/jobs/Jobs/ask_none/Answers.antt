@@ -8,4 +8,4 @@ use Rattle.loaded_jobs.proofs.jobs.Jobs.ask_none.Goals as goal
 pub returns-clause-counted : goal.returns-clause-counted
 returns-clause-counted c =
     let es = c.begin.new.self.seats.items in
-    subst (λ rs. IsCounted (counts rs) (rows es) (gone es) 0) c.begin.ensures.rows (idle es c.begin.ensures.stay c.begin.ensures.sound.once)
+    subst (λ rs. IsCounted (counts rs) (rows es) (gone es) 0) c.begin.ensures.rows (idle es c.begin.ensures.begun.stay c.begin.ensures.begun.whole.sound.once)

@@ -11,45 +11,29 @@ use Rattle.loaded_jobs.proofs.jobs.Jobs.begin.Goals as goal
 pub drop_left-requires-clause-sound : goal.drop_left-requires-clause-sound
 drop_left-requires-clause-sound c = emptied-sound c.args.self.now c.clear.new.self c.requires.sound c.clear.ensures.items c.clear.ensures.capacity
 
-pub returns-clause-sound : goal.returns-clause-sound
-returns-clause-sound c = gone-sound c.drop_left.new.self Nobody c.drop_left.ensures.sound
-
-pub returns-clause-whole : goal.returns-clause-whole
-returns-clause-whole c = record {
-  sound = gone-sound c.drop_left.new.self Nobody c.drop_left.ensures.sound;
-  indexed = c.drop_left.ensures.indexed;
-  stay = subst AllStay (sym c.drop_left.ensures.seats) (tidy-stay c.args.self.now.seats.items);
+pub returns : goal.returns
+returns c = record {
+  begun = record {
+    whole = record {
+      sound = gone-sound c.drop_left.new.self Nobody c.drop_left.ensures.sound;
+      indexed = c.drop_left.ensures.indexed;
+      stay = subst AllStay (sym c.drop_left.ensures.seats) (tidy-stay c.args.self.now.seats.items);
+    };
+    stay = subst AllStay (sym c.drop_left.ensures.seats) (tidy-stay c.args.self.now.seats.items);
+    empty = ap (λ orders. orders.items) c.drop_left.ensures.orders ∙ c.clear.ensures.items;
+  };
+  rows = ap rows c.drop_left.ensures.seats ∙ tidy-rows c.args.self.now.seats.items;
+  names = ap (map name) c.drop_left.ensures.seats
+      ∙ names-begun (filter seat_stays c.args.self.now.seats.items) c.args.self.now.seats.items (tidy-stay c.args.self.now.seats.items) (tidy-rows c.args.self.now.seats.items);
+  alike = let alike = c.drop_left.ensures.alike in record { reading = alike.reading; zone = alike.zone; settings = alike.settings; shutdown = alike.shutdown };
+  room = let room = c.drop_left.ensures.room in record {
+    jobs = room.jobs;
+    orders = room.orders ∙ c.clear.ensures.capacity;
+    settings = room.settings;
+    numbers = room.numbers;
+    moments = room.moments;
+    marks = room.marks;
+    places = room.places;
+    triggers = room.triggers;
+  };
 }
-
-pub returns-clause-stay : goal.returns-clause-stay
-returns-clause-stay c = subst AllStay (sym c.drop_left.ensures.seats) (tidy-stay c.args.self.now.seats.items)
-
-pub returns-clause-rows : goal.returns-clause-rows
-returns-clause-rows c = ap rows c.drop_left.ensures.seats ∙ tidy-rows c.args.self.now.seats.items
-
-pub returns-clause-names : goal.returns-clause-names
-returns-clause-names c =
-    ap (map name) c.drop_left.ensures.seats
-    ∙ names-begun (filter seat_stays c.args.self.now.seats.items) c.args.self.now.seats.items (tidy-stay c.args.self.now.seats.items) (tidy-rows c.args.self.now.seats.items)
-
-pub returns-clause-orders : goal.returns-clause-orders
-returns-clause-orders c = ap (λ orders. orders.items) c.drop_left.ensures.orders ∙ c.clear.ensures.items
-
-pub returns-clause-alike : goal.returns-clause-alike
-returns-clause-alike c =
-    let alike = c.drop_left.ensures.alike in
-    record { reading = alike.reading; zone = alike.zone; settings = alike.settings; shutdown = alike.shutdown }
-
-pub returns-clause-room : goal.returns-clause-room
-returns-clause-room c =
-    let room = c.drop_left.ensures.room in
-    record {
-      jobs = room.jobs;
-      orders = room.orders ∙ c.clear.ensures.capacity;
-      settings = room.settings;
-      numbers = room.numbers;
-      moments = room.moments;
-      marks = room.marks;
-      places = room.places;
-      triggers = room.triggers;
-    }

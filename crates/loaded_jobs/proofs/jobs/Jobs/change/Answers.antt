@@ -11,6 +11,7 @@ use Rattle.history_model.proofs.StepLemmas.{refused-None, or_else-None}
 use Rattle.loaded_jobs.specs.StandsFor.{KeepsSettings, KeepsState, acts_in}
 use Rattle.loaded_jobs.specs.SettingChanges.{set_of, IsChanged, withdrawn}
 use Rattle.loaded_jobs.specs.Sound.{seen_table}
+use Rattle.loaded_jobs.specs.Room.{held_with}
 use Rattle.loaded_jobs.specs.Touching.{SparesOthers}
 use Rattle.loaded_jobs.specs.declared.jobs.Jobs.{Jobs}
 use Rattle.loaded_jobs.proofs.SettingLemmas.{keeps-cons}
@@ -70,17 +71,32 @@ done c s store b keeps none disables kept orders = go b none disables kept order
           outcome = ap (λ o. outcome_by o s e) none ∙ (λ i. record { refusal = None; orders = sym orders i; text = [] });
         }
 
-pub returns-clause-changes : goal.returns-clause-changes
-returns-clause-changes c = λ s store keeps none.
-    let label = c.args.ready.setting.label in
-    let unload = c.args.ready.unload in
-    let allowed : unload ≡ true → refusal_in s (UnloadJob c.as_str.result.now false true) ≡ None =
-    λ is. subst (λ l. refusal_in s (UnloadJob l false true) ≡ None) (sym c.as_str.ensures) (accepts-unload s label c.args.ready.setting.disabled unload store none is) in
-    done c s store unload keeps none c.requires.ready.disables
-    (subst (λ l. KeepsState (seen_table c.withdraw.new.self) (with_orders (withdrawn l unload s))) c.as_str.ensures (c.withdraw.ensures.kept s keeps allowed))
-    (subst (λ l. acts_in (seen_table c.withdraw.new.self) ≡ flat_map orders_of (withdrawn l unload s).jobs) c.as_str.ensures (c.withdraw.ensures.orders s keeps allowed))
-
-pub returns-clause-spared : goal.returns-clause-spared
-returns-clause-spared c = λ store.
-    subst (λ l. SparesOthers (set_of l c.args.ready.setting.disabled c.args.ready.unload store) (seen_table c.args.self.now) (seen_table c.withdraw.new.self)) c.as_str.ensures
-    (c.withdraw.ensures.spared c.args.ready.setting.disabled store)
+pub returns-clause-goes : goal.returns-clause-goes
+returns-clause-goes c = record {
+  kept = λ s store keeps none.
+      let label = c.args.ready.setting.label in
+      let unload = c.args.ready.unload in
+      let allowed : unload ≡ true → refusal_in s (UnloadJob c.as_str.result.now false true) ≡ None =
+      λ is. subst (λ l. refusal_in s (UnloadJob l false true) ≡ None) (sym c.as_str.ensures) (accepts-unload s label c.args.ready.setting.disabled unload store none is) in
+      done c s store unload keeps none c.requires.ready.disables
+      (subst (λ l. KeepsState (seen_table c.withdraw.new.self) (with_orders (withdrawn l unload s))) c.as_str.ensures (c.withdraw.ensures.kept s keeps allowed))
+      (subst (λ l. acts_in (seen_table c.withdraw.new.self) ≡ flat_map orders_of (withdrawn l unload s).jobs) c.as_str.ensures (c.withdraw.ensures.orders s keeps allowed));
+  counted = c.withdraw.ensures.counted;
+  spared = λ store.
+      subst (λ l. SparesOthers (set_of l c.args.ready.setting.disabled c.args.ready.unload store) (seen_table c.args.self.now) (seen_table c.withdraw.new.self)) c.as_str.ensures
+      (c.withdraw.ensures.spared c.args.ready.setting.disabled store);
+  names = c.withdraw.ensures.names;
+  room =
+      let room = c.withdraw.ensures.room in
+      record {
+        jobs = room.jobs;
+        orders = room.orders;
+        settings = c.set.ensures.room ∙ room.settings;
+        numbers = room.numbers;
+        moments = room.moments;
+        marks = room.marks;
+        places = room.places;
+        triggers = room.triggers;
+      };
+  held = c.set.ensures.held ∙ ap (λ held. held_with c.args.ready.setting.label held.items) c.withdraw.ensures.alike.settings;
+}

@@ -1,10 +1,23 @@
--- What the reading spares is said of the table before the event, of which the beginning changes no row.
-use Rattle.std.proofs.Common.{ap, ◌∙◌}
-use Rattle.loaded_jobs.specs.Counts.{counts, count_in}
+-- What the reading does is said of the table before the event, of which the beginning changes no row.
+use Rattle.std.proofs.Common.{ap, subst, ◌∙◌}
+use Rattle.loaded_jobs.specs.Counts.{counts, count_in, IsCounted}
+use Rattle.loaded_jobs.specs.Numbers.{row_names}
+use Rattle.loaded_jobs.specs.Seats.{rows, gone}
 use Rattle.loaded_jobs.proofs.EventsLemmas.{alike-state}
+use Rattle.loaded_jobs.proofs.TellingLemmas.{same-room}
 use Rattle.loaded_jobs.proofs.jobs.Jobs.clock.Goals as goal
 
-pub returns-clause-untouched : goal.returns-clause-untouched
-returns-clause-untouched c = λ s keeps label past there spared.
-    c.advance-self.ensures.untouched s (alike-state c.args.self.now c.begin.new.self s c.begin.ensures.alike keeps c.begin.ensures.rows) label past there spared
-    ∙ ap (λ rs. count_in (counts rs) label) c.begin.ensures.rows
+pub returns-clause-goes : goal.returns-clause-goes
+returns-clause-goes c =
+    let begun = c.begin.new.self in
+    let after = c.advance-self.new.self in
+    record {
+      answer = λ s keeps. c.advance-self.ensures.answer s (alike-state c.args.self.now begun s c.begin.ensures.alike keeps c.begin.ensures.rows);
+      kept = λ s keeps. c.advance-self.ensures.kept s (alike-state c.args.self.now begun s c.begin.ensures.alike keeps c.begin.ensures.rows);
+      counted = subst (λ rs. IsCounted (counts rs) (rows after.seats.items) (gone after.seats.items) after.visited) c.begin.ensures.rows c.advance-self.ensures.counted;
+      spared = λ s keeps label past there untouched.
+          c.advance-self.ensures.spared s (alike-state c.args.self.now begun s c.begin.ensures.alike keeps c.begin.ensures.rows) label past there untouched
+          ∙ ap (λ rs. count_in (counts rs) label) c.begin.ensures.rows;
+      names = c.advance-self.ensures.names ∙ ap row_names c.begin.ensures.rows;
+      room = same-room c.begin.ensures.room c.advance-self.ensures.room;
+    }

@@ -41,7 +41,7 @@ done c s keeps =
 pub place_of_number-found-requires : goal.place_of_number-found-requires
 place_of_number-found-requires c =
     subst (λ ps. ArePlaced ps c.deref.result.now) (sym c.deref-2.ensures.value)
-    (subst (ArePlaced c.begin.new.self.index.places.items) (sym c.deref.ensures.value) c.begin.ensures.whole.indexed.placed)
+    (subst (ArePlaced c.begin.new.self.index.places.items) (sym c.deref.ensures.value) c.begin.ensures.begun.whole.indexed.placed)
 
 pub tell-requires-clause-inside : goal.tell-requires-clause-inside
 tell-requires-clause-inside c =

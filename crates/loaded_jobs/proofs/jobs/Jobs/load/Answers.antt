@@ -2,7 +2,7 @@
 use Rattle.std.proofs.Common.{◌≡◌, ℕ, List, ◌≤◌, ◌<◌, suc, Some, map, refl, ap, sym, subst, ◌∙◌, [], ◌∷◌, drop, length, arith}
 use Rattle.std.specs.Prelude.{is_some, Ok}
 use Rattle.std.specs.List.{filter, position, AllByRecursion}
-use Rattle.std.specs.Vec.{with_items}
+use Rattle.std.specs.Vec.{with_items, vec_len}
 use Rattle.calendar_due.specs.ZoneRules.{minute_at}
 use Rattle.history_model.specs.Search.{first}
 use Rattle.history_model.specs.Labels.{Label}
@@ -104,72 +104,89 @@ ask_at-requires-clause-inside c =
     let at : c.place_before-place.result ≡ k = (at-place c.args.self.now.seats.items _ c.args.ready.seat.def.label _ _ c.place_before-place.ensures c.label.ensures c.deref.ensures.value) in
     omega (arith, low, more, at)
 
-pub returns-clause-loads : goal.returns-clause-loads
-returns-clause-loads c = λ s force bind store keeps none.
-    let old = c.args.self.now in
-    let es = old.seats.items in
-    let new = c.args.ready.seat in
-    let label = new.def.label in
-    let e = Load (Ok (given new.def)) (is_some c.args.ready.setting) force bind store in
-    let t : Jobs = record c.enter.new.self { index = record c.enter.new.self.index { places = with_items c.enter.new.self.index.places c.place_all.new.places } } in
-    let alike = c.enter.ensures.alike in
-    let job : Job = record { label = label; past = Loaded (definition new.def) s.reading ∷ [] } in
-    let this : KeepsJob old.reading (row new) job = record {
-      label = refl;
-      definition = refl;
-      keeps = subst (λ at. Keeps new.core.facts (Loaded (definition new.def) at ∷ [])) keeps.reading c.requires.ready.loaded;
-      present = keeps.reading;
-    } in
-    let stay = stay-names es c.requires.ready.tidy in
-    let before = own-jobs old s keeps in
-    let jobs = entered-kept old.reading new job this es s.jobs stay c.requires.ready.stays before in
-    let here : KeepsJobs t.reading (rows t.seats.items) (with_job job s.jobs) =
-    subst (λ at. KeepsJobs at (rows t.seats.items) (with_job job s.jobs)) (sym alike.reading)
-    (subst (λ all. KeepsJobs old.reading (rows all) (with_job job s.jobs)) (sym c.enter.ensures.seats) jobs) in
-    let rests : RestBut (is_at c.place_before-place.result) 0 (rows t.seats.items) (with_job job s.jobs) =
-    subst (λ place. RestBut (is_at place) 0 (rows t.seats.items) (with_job job s.jobs)) (sym (at-place c.args.self.now.seats.items _ c.args.ready.seat.def.label _ _ c.place_before-place.ensures c.label.ensures c.deref.ensures.value))
-    (rest-entered old.reading new job this (rows t.seats.items) es s.jobs (position (is_above label) es) (subst (λ rs. KeepsJobs old.reading rs s.jobs) (rows-all es stay) before) refl keeps.rests) in
-    let after : IsHead t (taken s e) = record {
-      reading = alike.reading ∙ keeps.reading;
-      zone = ap minute_at alike.zone ∙ keeps.zone;
-      settings = λ l. ap (λ held. first (filter (sets l) held.items)) alike.settings ∙ c.set_if.ensures.kept l
-          ∙ settings-after c.args.ready.setting label old.settings.items s.settings c.requires.ready.setting keeps.settings l;
-      shutdown = alike.shutdown ∙ keeps.shutdown;
-    } in
-    let done = accepted (seen_table old) (seen_table c.ask_at.new.self) s e (load_text new.def.not_acted_on) c.requires.sound.sound.in_range keeps none
-    (heard-already t c.ask_at.new.self (taken s e) c.place_before-place.result c.ask_at.ensures.alike after here rests c.ask_at.ensures.kept c.ask_at.ensures.orders) refl in
-    record { kept = done.kept; outcome = done.outcome }
-
-pub returns-clause-counted : goal.returns-clause-counted
-returns-clause-counted c =
-    let es = c.args.self.now.seats.items in
-    let new = c.args.ready.seat in
-    let t = c.enter.new.self in
-    let same : (label : Label) → count_in (counts (rows t.seats.items)) label ≡ count_in (counts (rows es)) label = λ label. ap (λ all. count_in (counts (rows all)) label) c.enter.ensures.seats
-    ∙ counts-placed new es (place_for new.def.label es) label (stay-names es c.requires.ready.tidy) c.requires.ready.stays c.requires.ready.absent c.requires.ready.fresh in
-    counted-from (counts (rows t.seats.items)) (counts (rows es)) _ _ _ same c.ask_at.ensures.counted
-
--- no job of another label was asked
-pub returns-clause-spared : goal.returns-clause-spared
-returns-clause-spared c = λ force bind store s keeps label past found apart.
-    let es = c.args.self.now.seats.items in
-    let new = c.args.ready.seat in
-    let k = place_for new.def.label es in
-    let t = c.enter.new.self in
-    c.ask_at.ensures.spared label
-    (new-apart new es t.seats.items k c.place_before-place.result label c.enter.ensures.seats (at-place c.args.self.now.seats.items _ c.args.ready.seat.def.label _ _ c.place_before-place.ensures c.label.ensures c.deref.ensures.value)
-    (place-low (is_above new.def.label) es (position (is_above new.def.label) es) refl) apart)
-    ∙ ap (λ all. count_in (counts (rows all)) label) c.enter.ensures.seats
-    ∙ counts-placed new es k label (stay-names es c.requires.ready.tidy) c.requires.ready.stays c.requires.ready.absent c.requires.ready.fresh
-
-pub returns-clause-names : goal.returns-clause-names
-returns-clause-names c =
-    let es = c.args.self.now.seats.items in
-    let new = c.args.ready.seat in
-    let names = c.ask_at.ensures.names ∙ ap (map name) c.enter.ensures.seats in
-    let each = named-placed new es (place_for new.def.label es) (subst IsOnce names c.ask_at.ensures.whole.sound.once) in
-    record {
-      numbered = numbered c.ask_at.new.self c.ask_at.ensures.whole.sound;
-      others = subst (λ ns. AllByRecursion (λ (r : Row). definition_of_number ns r.number ≡ Some r.described) (rows es)) (sym names) each.1;
-      own = subst (λ ns. definition_of_number ns new.number ≡ Some new.def) (sym names) each.0;
-    }
+pub returns-clause-goes : goal.returns-clause-goes
+returns-clause-goes c = record {
+  kept = λ s force bind store keeps none.
+      let old = c.args.self.now in
+      let es = old.seats.items in
+      let new = c.args.ready.seat in
+      let label = new.def.label in
+      let e = Load (Ok (given new.def)) (is_some c.args.ready.setting) force bind store in
+      let t : Jobs = record c.enter.new.self { index = record c.enter.new.self.index { places = with_items c.enter.new.self.index.places c.place_all.new.places } } in
+      let alike = c.enter.ensures.alike in
+      let job : Job = record { label = label; past = Loaded (definition new.def) s.reading ∷ [] } in
+      let this : KeepsJob old.reading (row new) job = record {
+        label = refl;
+        definition = refl;
+        keeps = subst (λ at. Keeps new.core.facts (Loaded (definition new.def) at ∷ [])) keeps.reading c.requires.ready.loaded;
+        present = keeps.reading;
+      } in
+      let stay = stay-names es c.requires.ready.tidy in
+      let before = own-jobs old s keeps in
+      let jobs = entered-kept old.reading new job this es s.jobs stay c.requires.ready.stays before in
+      let here : KeepsJobs t.reading (rows t.seats.items) (with_job job s.jobs) =
+      subst (λ at. KeepsJobs at (rows t.seats.items) (with_job job s.jobs)) (sym alike.reading)
+      (subst (λ all. KeepsJobs old.reading (rows all) (with_job job s.jobs)) (sym c.enter.ensures.seats) jobs) in
+      let rests : RestBut (is_at c.place_before-place.result) 0 (rows t.seats.items) (with_job job s.jobs) =
+      subst (λ place. RestBut (is_at place) 0 (rows t.seats.items) (with_job job s.jobs)) (sym (at-place c.args.self.now.seats.items _ c.args.ready.seat.def.label _ _ c.place_before-place.ensures c.label.ensures c.deref.ensures.value))
+      (rest-entered old.reading new job this (rows t.seats.items) es s.jobs (position (is_above label) es) (subst (λ rs. KeepsJobs old.reading rs s.jobs) (rows-all es stay) before) refl keeps.rests) in
+      let after : IsHead t (taken s e) = record {
+        reading = alike.reading ∙ keeps.reading;
+        zone = ap minute_at alike.zone ∙ keeps.zone;
+        settings = λ l. ap (λ held. first (filter (sets l) held.items)) alike.settings ∙ c.set_if.ensures.kept l
+            ∙ settings-after c.args.ready.setting label old.settings.items s.settings c.requires.ready.setting keeps.settings l;
+        shutdown = alike.shutdown ∙ keeps.shutdown;
+      } in
+      let done = accepted (seen_table old) (seen_table c.ask_at.new.self) s e (load_text new.def.not_acted_on) c.requires.sound.sound.in_range keeps none
+      (heard-already t c.ask_at.new.self (taken s e) c.place_before-place.result c.ask_at.ensures.alike after here rests c.ask_at.ensures.kept c.ask_at.ensures.orders) refl in
+      record { kept = done.kept; outcome = done.outcome };
+  counted =
+      let es = c.args.self.now.seats.items in
+      let new = c.args.ready.seat in
+      let t = c.enter.new.self in
+      let same : (label : Label) → count_in (counts (rows t.seats.items)) label ≡ count_in (counts (rows es)) label = λ label. ap (λ all. count_in (counts (rows all)) label) c.enter.ensures.seats
+      ∙ counts-placed new es (place_for new.def.label es) label (stay-names es c.requires.ready.tidy) c.requires.ready.stays c.requires.ready.absent c.requires.ready.fresh in
+      counted-from (counts (rows t.seats.items)) (counts (rows es)) _ _ _ same c.ask_at.ensures.counted;
+  spared = λ force bind store s keeps label past found apart.
+      let es = c.args.self.now.seats.items in
+      let new = c.args.ready.seat in
+      let k = place_for new.def.label es in
+      let t = c.enter.new.self in
+      c.ask_at.ensures.spared label
+      (new-apart new es t.seats.items k c.place_before-place.result label c.enter.ensures.seats (at-place c.args.self.now.seats.items _ c.args.ready.seat.def.label _ _ c.place_before-place.ensures c.label.ensures c.deref.ensures.value)
+      (place-low (is_above new.def.label) es (position (is_above new.def.label) es) refl) apart)
+      ∙ ap (λ all. count_in (counts (rows all)) label) c.enter.ensures.seats
+      ∙ counts-placed new es k label (stay-names es c.requires.ready.tidy) c.requires.ready.stays c.requires.ready.absent c.requires.ready.fresh;
+  names =
+      let es = c.args.self.now.seats.items in
+      let new = c.args.ready.seat in
+      let names = c.ask_at.ensures.names ∙ ap (map name) c.enter.ensures.seats in
+      let each = named-placed new es (place_for new.def.label es) (subst IsOnce names c.ask_at.ensures.whole.sound.once) in
+      record {
+        numbered = numbered c.ask_at.new.self c.ask_at.ensures.whole.sound;
+        others = subst (λ ns. AllByRecursion (λ (r : Row). definition_of_number ns r.number ≡ Some r.described) (rows es)) (sym names) each.1;
+        own = subst (λ ns. definition_of_number ns new.number ≡ Some new.def) (sym names) each.0;
+      };
+  room =
+      let first = c.enter.ensures.room in
+      let then = c.ask_at.ensures.room in
+      let after = c.place_all.new.places in
+      let t = c.enter.new.self in
+      let lent = lent-back after (drop (length after) t.index.places.items) t.index.places.len (omega arith) in
+      record {
+        jobs = then.jobs ∙ first.jobs;
+        orders = then.orders ∙ first.orders;
+        settings = then.settings ∙ first.settings ∙ c.set_if.ensures.room;
+        numbers = then.numbers ∙ first.numbers;
+        moments = then.moments ∙ first.moments;
+        marks = then.marks ∙ first.marks;
+        places = then.places ∙ ap length lent ∙ c.place_all.ensures.length ∙ ap length c.deref_mut.ensures.value ∙ first.places;
+        triggers = then.triggers ∙ first.triggers;
+      };
+  held = ap (λ held. length held.items) (c.ask_at.ensures.alike.settings ∙ c.enter.ensures.alike.settings) ∙ c.set_if.ensures.held;
+  triggers =
+      let same = ap vec_len c.ask_at.ensures.triggers in
+      let more = c.enter.ensures.triggers in
+      let long = c.args.ready.triggers.ok.0 in
+      omega (arith, same, more, long);
+}

@@ -32,8 +32,8 @@ returns-clause-ready c = go c.made.result c.made.ensures.made c.made.ensures.tri
     go (Ok ready) made own =
         let es = c.begin.new.self.seats.items in
         record {
-          tidy = subst (λ all. length (rows all) ≡ length (map name all)) (sym c.reserve.ensures.seats) (names-stay es c.begin.ensures.stay);
-          empty = c.reserve.ensures.orders ∙ c.begin.ensures.orders;
+          tidy = subst (λ all. length (rows all) ≡ length (map name all)) (sym c.reserve.ensures.seats) (names-stay es c.begin.ensures.begun.stay);
+          empty = c.reserve.ensures.orders ∙ c.begin.ensures.begun.empty;
           number = made.number;
           numbers = c.in_ok-reserve.ensures.numbers;
           few = let few = c.in_default.ensures.few in let count = c.reserve.ensures.count in omega (arith, few, count);

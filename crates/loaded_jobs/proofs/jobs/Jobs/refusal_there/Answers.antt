@@ -37,4 +37,4 @@ returns-clause-answer c = λ s keeps.
     ap (λ b. Some (if b then Removing else AlreadyLoaded)) (sym c.if-is_removing.false ∙ removing) ∙ ap refusal_there (sym there.is)
 
 pub place_of-requires : goal.place_of-requires
-place_of-requires c = subst (λ es. AreInOrder (labels_in (map name es))) (sym c.deref.ensures.value) c.requires.sound.order
+place_of-requires c = subst (λ es. AreInOrder (labels_in (map name es))) (sym c.deref.ensures.value) c.requires.whole.sound.order

@@ -20,11 +20,11 @@ use Rattle.loaded_jobs.proofs.jobs.Jobs.saw.Goals as goal
 
 pub ask_touched-requires-clause-can : goal.ask_touched-requires-clause-can
 ask_touched-requires-clause-can c = record {
-  sound = c.begin.ensures.sound;
-  stay = c.begin.ensures.stay;
-  empty = c.begin.ensures.orders;
-  placed = c.begin.ensures.whole.indexed.placed;
-  timed = λ k e there apart. c.begin.ensures.whole.indexed.timed k e there;
+  sound = c.begin.ensures.begun.whole.sound;
+  stay = c.begin.ensures.begun.stay;
+  empty = c.begin.ensures.begun.empty;
+  placed = c.begin.ensures.begun.whole.indexed.placed;
+  timed = λ k e there apart. c.begin.ensures.begun.whole.indexed.timed k e there;
 }
 
 pub ask_touched-requires-clause-brings : goal.ask_touched-requires-clause-brings
@@ -57,7 +57,7 @@ returns-clause-goes c = record {
   spared = λ s keeps label past found apart.
       let begun = c.begin.new.self in
       let start = alike-state c.args.self.now begun s c.begin.ensures.alike keeps c.begin.ensures.rows in
-      unlisted-spared c.args.path c.args.obs begun c.ask_touched.new.self s label past (own-jobs begun s start) c.begin.ensures.stay c.begin.ensures.sound.once c.ask_touched.ensures.spared found apart
+      unlisted-spared c.args.path c.args.obs begun c.ask_touched.new.self s label past (own-jobs begun s start) c.begin.ensures.begun.stay c.begin.ensures.begun.whole.sound.once c.ask_touched.ensures.spared found apart
       ∙ ap (λ rs. count_in (counts rs) label) c.begin.ensures.rows;
   names = c.ask_touched.ensures.names ∙ c.begin.ensures.names;
   room = same-room c.begin.ensures.room c.ask_touched.ensures.room;

@@ -24,11 +24,11 @@ use Rattle.loaded_jobs.proofs.jobs.Jobs.shut_down.Goals as goal
 
 pub ask_touched-requires-clause-can : goal.ask_touched-requires-clause-can
 ask_touched-requires-clause-can c = record {
-  sound = c.begin.ensures.sound;
-  stay = c.begin.ensures.stay;
-  empty = c.begin.ensures.orders;
-  placed = c.begin.ensures.whole.indexed.placed;
-  timed = λ k e there apart. c.begin.ensures.whole.indexed.timed k e there;
+  sound = c.begin.ensures.begun.whole.sound;
+  stay = c.begin.ensures.begun.stay;
+  empty = c.begin.ensures.begun.empty;
+  placed = c.begin.ensures.begun.whole.indexed.placed;
+  timed = λ k e there apart. c.begin.ensures.begun.whole.indexed.timed k e there;
 }
 
 pub ask_touched-requires-clause-brings : goal.ask_touched-requires-clause-brings

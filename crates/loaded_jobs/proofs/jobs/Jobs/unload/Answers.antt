@@ -14,7 +14,7 @@ use Rattle.loaded_jobs.specs.Sound.{seen_table}
 use Rattle.loaded_jobs.specs.Telling.{IsTold}
 use Rattle.loaded_jobs.proofs.EventsLemmas.{unstored}
 use Rattle.loaded_jobs.proofs.OutcomesLemmas.{IsDone}
-use Rattle.loaded_jobs.proofs.TellingLemmas.{told-done, counts-from, names-from, place-inside}
+use Rattle.loaded_jobs.proofs.TellingLemmas.{told-done, counts-from, names-from, same-room, place-inside}
 use Rattle.loaded_jobs.proofs.jobs.Jobs.unload.Goals as goal
 
 told : (c : goal.After-tell) → IsTold c.args.label.now (Asked Unload) (seen_table c.begin.new.self) c.tell.result (seen_table c.tell.new.self)
@@ -25,23 +25,18 @@ done : (c : goal.After-tell) (store : Bool) (s : State) → KeepsState (seen_tab
 done c store s keeps =
     let label = c.args.label.now in
     told-done c.args.self.now c.begin.new.self c.tell.new.self s (UnloadJob label false store) label (Asked Unload) c.tell.result c.begin.ensures.alike c.begin.ensures.rows c.tell.ensures.alike
-    c.requires.sound.sound.in_range (told c) refl (unstored (is_label label) BadRequest _ (sym c.is_label.ensures ∙ c.if-not-is_label.false)) refl keeps
+    c.requires.sound.in_range (told c) refl (unstored (is_label label) BadRequest _ (sym c.is_label.ensures ∙ c.if-not-is_label.false)) refl keeps
 
 pub tell-requires-clause-inside : goal.tell-requires-clause-inside
 tell-requires-clause-inside c =
     place-inside (has_label c.args.label.now) c.begin.new.self.seats.items c.place_of-found.result (c.place_of-found.ensures ∙ ap (position (has_label c.args.label.now)) c.deref.ensures.value)
 
-pub returns-clause-answer : goal.returns-clause-answer
-returns-clause-answer c = λ store s keeps. (done c store s keeps).outcome
-
-pub returns-clause-kept : goal.returns-clause-kept
-returns-clause-kept c = λ store s keeps. (done c store s keeps).kept
-
-pub returns-clause-counted : goal.returns-clause-counted
-returns-clause-counted c = counts-from c.tell.result (seen_table c.args.self.now) (seen_table c.begin.new.self) (seen_table c.tell.new.self) c.begin.ensures.rows c.tell.ensures.counted
-
-pub returns-clause-names : goal.returns-clause-names
-returns-clause-names c = names-from c.tell.result (seen_table c.args.self.now) (seen_table c.begin.new.self) (seen_table c.tell.new.self) c.begin.ensures.rows c.tell.ensures.names
-
-pub returns-clause-spared : goal.returns-clause-spared
-returns-clause-spared c = λ s keeps label past found apart. (told c).spared label apart ∙ ap (λ rs. count_in (counts rs) label) c.begin.ensures.rows
+pub returns-clause-goes : goal.returns-clause-goes
+returns-clause-goes c = record {
+  answer = λ store s keeps. (done c store s keeps).outcome;
+  kept = λ store s keeps. (done c store s keeps).kept;
+  counted = counts-from c.tell.result (seen_table c.args.self.now) (seen_table c.begin.new.self) (seen_table c.tell.new.self) c.begin.ensures.rows c.tell.ensures.counted;
+  spared = λ s keeps label past found apart. (told c).spared label apart ∙ ap (λ rs. count_in (counts rs) label) c.begin.ensures.rows;
+  names = names-from c.tell.result (seen_table c.args.self.now) (seen_table c.begin.new.self) (seen_table c.tell.new.self) c.begin.ensures.rows c.tell.ensures.names;
+  room = same-room c.begin.ensures.room c.tell.ensures.room;
+}

@@ -16,7 +16,7 @@ use Rattle.loaded_jobs.specs.Seats.{row, rows, name}
 use Rattle.loaded_jobs.specs.Index.{AreTimed, AreAlone, moment_for}
 use Rattle.loaded_jobs.specs.Minutes.{has_calendars}
 use Rattle.history_model.specs.News.{is_some_entry, have_calendars}
-use Rattle.job_table.specs.NextMoments.{is_moment, IsNextUp}
+use Rattle.loaded_jobs.specs.NextMoments.{is_moment, IsNextUp}
 use Rattle.loaded_jobs.specs.declared.seat.Seat.{Seat}
 use Rattle.loaded_jobs.proofs.AdvanceLemmas.{holder}
 use Rattle.history_model.proofs.LawfulLemmas.{eqb-self}
