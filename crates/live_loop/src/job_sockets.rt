@@ -78,8 +78,9 @@ impl JobSockets {
         ensures asks { Asks H.Asked host.old host.new }
         ensures conn { self.new.conn ≡ self.old.conn }
     {
-        self.room = host.room();
-        self.callers.set_room(self.room);
+        let room = host.room();
+        self.room = room;
+        self.callers.set_room(room);
         // Sockets that the poll refuses are tried in each round.
         if !host.register(registry, COMING) {
             self.may_have_come = true;
