@@ -595,7 +595,8 @@ def replies_that_nobody_takes(stage):
 def room_for_three(stage):
     """With room for three connections the client goes that has been still for longest, and none that waits; of those who wait a job has no
     more than its share."""
-    launcher = stage.serve(shell="ulimit -n 40")
+    # (42 - 32 - 2) / 4 + 1, beside two sockets.
+    launcher = stage.serve(shell="ulimit -n 42")
     launcher.load(gated_job(stage))
     launcher.load(socket_job(stage, "big", ["/bin/sh", "-c", "exec head -c 400000 /dev/zero"]))
     slow, big = [], []
