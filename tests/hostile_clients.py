@@ -30,6 +30,8 @@ second after TERM (it may be late by half a second):
     forty_crowds      1,000 of forty jobs send nothing, and come again as they are let go: those of a further job are served, none is closed
     settings_at_once  a client sends 7,200 settings at once, and again and again
     silent_control    64 silent clients of the control socket and eight with half a request, replaced as they are let go
+    spent_descriptors 790 sockets at 1,024 descriptors, clients that half-close and leave: each that waits is served, a job starts and gets TERM
+    unread_at_a_limit 400 sockets at 1,024 descriptors, clients that do not read: a job starts and gets TERM
     a_still_minute    a caller that sends nothing, and one that does not read, are let go after a minute
 
 --soak plays such clients of both kinds of sockets all together; from the first tenth of the time on the memory grows by 2 MiB at
@@ -283,6 +285,81 @@ def forty_crowds(stage, launcher):
     return told
 
 
+def scarce_launcher(stage, number, sockets):
+    """A further launcher with 1,024 descriptors and so many sockets of jobs, which answer with their request or write without end; and where they are."""
+    os.mkdir(stage.at(f"spool.{number}"), 0o700)
+    launcher = stage.serve(shell="ulimit -n 1024", socket=f"socket.{number}", store=f"store.{number}", spool=f"spool.{number}")
+    launcher.load(shell_job("lasting", "exec sleep 1000", RunAtLoad=True))
+    paths = []
+    while len(paths) < sockets:
+        label = f"many.{number}.{len(paths)}"
+        places = [stage.at(f"{label}.{place}") for place in range(min(8, sockets - len(paths)))]
+        job = socket_job(stage, label, ["/bin/sh", "-c", "if [ \"$(cat)\" = zeros ]; then exec head -c 400000 /dev/zero; fi; echo served"])
+        launcher.load({**job, "Sockets": {f"s{place}": {"SockPathName": path} for place, path in enumerate(places)}})
+        paths += places
+    return launcher, paths
+
+
+def starts_and_ends(stage, launcher, label, slack):
+    """Milliseconds until a job that is loaded now has run, and until one that runs has got TERM."""
+    start = time.monotonic()
+    launcher.load(shell_job(label, f"echo run > {stage.at(label)}", RunAtLoad=True, StandardErrorPath=stage.at(f"{label}.err")))
+    wait_for(lambda: os.path.exists(stage.at(label)), f"no job starts: {launcher.said()[-300:]!r}", 10 * slack)
+    started = 1000 * (time.monotonic() - start)
+    start = time.monotonic()
+    launcher.ask({"req": "stop", "job": "lasting"})
+    launcher.tells("lasting", "last exit = signal 15", 10 * slack)
+    return f"a start after {started:.0f} ms, TERM after {1000 * (time.monotonic() - start):.0f} ms"
+
+
+def spent_descriptors(stage, launcher):
+    slack = stage.given.slack
+    scarce, paths = scarce_launcher(stage, 1, 790)
+    before, most = descriptors(scarce.pid), Descriptors(scarce.pid)
+    most.start()
+    for _ in range(3):
+        for path in paths:
+            try:
+                begin(path, b"gone").close()
+            except OSError:
+                pass
+    told = starts_and_ends(stage, scarce, "new.1", slack)
+    waiting = lambda: [name for name in os.listdir(stage.at("spool.1")) if name.endswith(".request")]
+    held, start = len(waiting()), time.monotonic()
+    wait_for(lambda: not waiting(), lambda: f"{len(waiting())} connections wait for ever", 60 * slack)
+    took = time.monotonic() - start
+    wait_for(lambda: call(paths[-1], b"x") == b"served\n", "an honest client is not served", 10 * slack)
+    most.end()
+    after = settles(scarce.pid, before + 1, 10 * slack)
+    refused = scarce.lines("Too many open files")
+    scarce.shut_down()
+    check(after <= before + 1 and not refused, f"{after} descriptors after it, {before} before; it was refused {refused[:3]}")
+    return f"{told}; {held} connections waited, all served {took:.1f} s later; descriptors {before} before, {most.most} at most, {after} after"
+
+
+def unread_at_a_limit(stage, launcher):
+    slack = stage.given.slack
+    scarce, paths = scarce_launcher(stage, 2, 400)
+    before, most = descriptors(scarce.pid), Descriptors(scarce.pid)
+    most.start()
+    unread = []
+    for path in paths:
+        try:
+            unread.append(begin(path, b"zeros"))
+        except OSError:
+            pass
+    told = starts_and_ends(stage, scarce, "new.2", slack)
+    for client in unread:
+        client.close()
+    wait_for(lambda: call(paths[-1], b"x") == b"served\n", "an honest client is not served", 60 * slack)
+    most.end()
+    after = settles(scarce.pid, before + 1, 30 * slack)
+    refused = scarce.lines("Too many open files")
+    scarce.shut_down()
+    check(after <= before + 1 and not refused, f"{after} descriptors after it, {before} before; it was refused {refused[:3]}")
+    return f"{told}; descriptors {before} before, {most.most} at most, {after} after"
+
+
 def settings_at_once(stage, launcher):
     crowds = [(pipelining, launcher.path, b'{"req":"disable","job":"x"}\n' * 7200)]
     honest = {"list": (asks(launcher.path), 0.02), "print": (asks(launcher.path, b'{"req":"print","job":"cat"}\n'), 0.02)}
@@ -369,7 +446,8 @@ def soak(stage, launcher):
 
 TRIALS = [
     half_a_line, byte_by_byte, long_line, full_line, hundred, never_reads, random_bytes, long_request, leaves_early,
-    replies_unread, silent_callers, slow_callers, slow_at_four, forty_crowds, settings_at_once, silent_control, a_still_minute,
+    replies_unread, silent_callers, slow_callers, slow_at_four, forty_crowds, spent_descriptors, unread_at_a_limit,
+    settings_at_once, silent_control, a_still_minute,
 ]
 CROWDED = TRIALS[9:]
 

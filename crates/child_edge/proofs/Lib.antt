@@ -1,2 +1,3 @@
 pub mod CallsLemmas
+mod RoomExamples
 mod VariableLemmas

@@ -1,4 +1,6 @@
 pub mod Calls
 pub mod Command
+pub mod Listeners
 pub mod MemoryEdges
+pub mod Rooms
 pub mod Sights

@@ -2,7 +2,7 @@
 //!
 //! Three kinds are held: those that wait for their run, those whose run goes on, and those whose run is over and whose client
 //! has still to take what it wrote. Three bounds are kept. Of each job at most 64 of the third kind are held. Of all jobs together
-//! as many as `room` are held, of all three kinds, since each of them takes two descriptors. Beyond these a connection of the
+//! as many are held as there is room for, of all three kinds, since each of them takes two descriptors. Beyond these a connection of the
 //! third kind is let go: the one whose client has been still for longest. One whose run is still to come or goes on is never
 //! let go for another. So that clients who wait for one slow job leave room for those of others, a job has no more of the first
 //! two kinds than its share: fewer than there is room left beside those of all jobs. A job alone has half the room, two have a
@@ -37,10 +37,7 @@ type Key = (JobNo, u64);
 /// How many connections of a job are held whose run is over.
 const OVER: usize = 64;
 
-/// How many are held of all jobs together, if nothing else was said.
-const ROOM: usize = 256;
-
-/// For how many milliseconds replies are forwarded at a time. Then those of the other connections are left for the next time.
+/// As many milliseconds replies are forwarded at a time. Then those of the other connections are left for the next time.
 const LONGEST: u64 = 5;
 
 /// A connection whose run is over, and since when its client has been still.
@@ -68,8 +65,6 @@ pub(crate) struct Connections {
     alloc: Global,
     folder: String,
     held: BTreeMap<Key, Connection>,
-    // How many are held at a time.
-    room: usize,
     // The clock, as it was read last.
     now: Instant,
     // The next time begins with the reply of this connection, or of the next above it.
@@ -82,15 +77,9 @@ impl Connections {
             alloc,
             folder,
             held: BTreeMap::new(alloc),
-            room: ROOM,
             now,
             first: (0, 0),
         }
-    }
-
-    /// How many are held at a time from now on.
-    pub(crate) fn set_room(&mut self, room: usize) {
-        self.room = room;
     }
 
     // A clock that can't be read stands still.
@@ -101,7 +90,7 @@ impl Connections {
     }
 
     /// Spools the request and holds the connection. A number that is in use is refused; so is one more connection where the job
-    /// has its share, or where as many as may be are held, none of which can be let go. After an `Err` the client is let go,
+    /// has its share, or where as many are held as there is room for, none of which can be let go. After an `Err` the client is let go,
     /// which is told, and no file is left.
     pub(crate) fn take<R: Clock + Files<File = File>>(
         &mut self,
@@ -109,6 +98,7 @@ impl Connections {
         notices: &mut Notices,
         key: Key,
         label: Option<&str>,
+        room: usize,
         client: Client,
         mut exchange: Exchange,
     ) -> io::Result<()> {
@@ -117,7 +107,7 @@ impl Connections {
             return Err(io::Error::from(ErrorKind::AlreadyExists));
         }
         self.read_clock(rt);
-        if let Some(why) = self.want_of_room(rt, notices, key.0) {
+        if let Some(why) = self.want_of_room(rt, notices, key.0, room) {
             notices.let_go(key.0, label, why);
             drop((client, exchange));
             return Err(io::Error::from(ErrorKind::Other));
@@ -192,12 +182,13 @@ impl Connections {
         rt: &R,
         notices: &mut Notices,
         job: JobNo,
+        room: usize,
     ) -> Option<LetGo> {
         let held = self.tally(job);
-        if held.served >= self.room.saturating_sub(held.of_all) && held.served > 0 {
+        if held.served >= room.saturating_sub(held.of_all) && held.served > 0 {
             return Some(LetGo::Share);
         }
-        if self.held.len() < self.room {
+        if self.held.len() < room {
             if held.served == 0 && held.over == 0 {
                 notices.all_done(job, OF_ROOM);
             }
@@ -205,10 +196,10 @@ impl Connections {
         }
         match held.stillest {
             Some(still) => {
-                self.close(rt, notices, still.key, Some(LetGo::Room(self.room)));
+                self.close(rt, notices, still.key, Some(LetGo::Room(room)));
                 None
             }
-            None => Some(LetGo::NoRoom(self.room)),
+            None => Some(LetGo::NoRoom(room)),
         }
     }
 

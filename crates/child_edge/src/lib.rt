@@ -3,6 +3,7 @@
 #![tactic(auto)]
 
 mod asking;
+mod bound;
 mod children;
 mod clearing;
 mod client;
@@ -21,6 +22,8 @@ mod notices;
 mod os;
 mod paths;
 mod plain;
+mod reserve;
+mod room;
 mod shell;
 mod sockets;
 mod spool;
@@ -36,4 +39,5 @@ pub use memory::MemoryEdge;
 pub use notices::{Notice, NoticeKind};
 pub use os::OsEdge;
 pub use plain::{EdgeCall, EdgeFault, Scripted};
+pub use room::room_for;
 pub use system::System;

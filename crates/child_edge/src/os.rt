@@ -10,6 +10,7 @@ use crate::failure::Failure;
 use crate::fault::fault_of;
 use crate::held::Held;
 use crate::notices::{Asked, Notices};
+use crate::reserve::Reserve;
 use crate::shell::KeptShell;
 use crate::sockets::Sockets;
 use crate::start::Start;
@@ -43,6 +44,9 @@ pub struct OsEdge<R: Processes> {
     hung: Hung<R::Started>,
     // That what the look-out holds can't be opened was told.
     is_shut_told: bool,
+    // Let go for a start, a TERM, the first question of a round of looks, and a look of the edge's own.
+    reserve: Reserve,
+    is_first_question: bool,
     sockets: Sockets,
     connections: Connections,
     notices: Notices,
@@ -62,6 +66,8 @@ impl<R: Drop + Processes> Drop for OsEdge<R> {
             openings: _,
             hung: _,
             is_shut_told: _,
+            reserve: _,
+            is_first_question: _,
             sockets: _,
             connections: _,
             notices: _,
@@ -95,6 +101,8 @@ impl<R: Clock + Drop + Processes> OsEdge<R> {
             openings: Openings::new(alloc),
             hung: Hung::new(alloc),
             is_shut_told: false,
+            reserve: Reserve::new(alloc),
+            is_first_question: false,
             sockets: Sockets::new(alloc),
             connections: Connections::new(alloc, spool, made),
             notices: Notices::new(alloc),
@@ -127,13 +135,12 @@ impl<R: Processes> OsEdge<R> {
         self.notices.tells_runs = true;
     }
 
-    /// How many connections of jobs' sockets the whole launcher holds at a time from now on, each with two descriptors:
-    /// those that wait for their run, those whose run goes on, and those whose client has still to take what its run wrote. 256
-    /// if this was never called. Of the last kind a job holds at most 64, whatever is said here. Takes no memory.
-    pub fn set_room(&mut self, connections: usize)
-        ensures { self.new ≡ self.old }
-    {
-        self.connections.set_room(connections);
+    /// As many clients there is room for now, beside the sockets of jobs that are held: see [`room_for`](crate::room_for). As many
+    /// connections of jobs' sockets are held at a time by the whole launcher, each with two descriptors: those that wait for their run,
+    /// those whose run goes on, and those whose client has still to take what its run wrote. Of the last kind a job holds at most 64.
+    /// Takes no memory.
+    pub fn room(&self) -> usize {
+        self.sockets.room()
     }
 
     /// The next client that waits at one of the job's sockets, if there is one. A client that the system does not let in is
@@ -223,9 +230,19 @@ impl<R: Processes> OsEdge<R> {
 }
 
 impl<R: Clock + Files<File = File> + Processes> OsEdge<R> {
+    /// This process may have as many descriptors, or nobody knows how many: from now on room for clients is reckoned by that, and a
+    /// bind that would leave none is refused. From now on too, what a start, a TERM and a look need of descriptors is held back, by the
+    /// null device, opened: no client takes it.
+    pub fn set_limit(&mut self, descriptors: Option<u64>)
+        ensures { self.new ≡ self.old }
+    {
+        self.sockets.set_limit(descriptors);
+        self.reserve.take(&self.rt);
+    }
+
     /// Holds a connection whose request came whole, under the job and a number that it has had for no other: its request
     /// is spooled, and the run that is started with the number serves it. If as many of the job wait or are served as there is
-    /// room left beside those of all jobs, the new one is refused. If as many are held as [`set_room`](OsEdge::set_room) says, the
+    /// room left beside those of all jobs, the new one is refused. If as many are held as there is [`room`](OsEdge::room) for, the
     /// one is let go for it whose run is over and whose client has been still for longest; if none has its run over, the new one
     /// is refused. After an `Err`, which is counted as a failure and told, the client is let go and nothing is left.
     pub fn take(
@@ -239,11 +256,12 @@ impl<R: Clock + Files<File = File> + Processes> OsEdge<R> {
         ensures success { OnOk result (self.new ≡ self.old) }
     {
         let label = self.sockets.label(job);
+        let room = self.sockets.room();
         let notices = &mut self.notices;
         let key = (job, conn);
         let answer = self
             .connections
-            .take(&self.rt, notices, key, label, client, exchange);
+            .take(&self.rt, notices, key, label, room, client, exchange);
         self.answered(answer)
     }
 
@@ -265,6 +283,18 @@ impl<R: Clock + Files<File = File> + Processes> OsEdge<R> {
         self.shell.end();
         self.looks.let_go();
         self.openings.let_go();
+    }
+
+    // Looks without a look-out.
+    fn look_alone(&mut self, path: &str) -> io::Result<Obs>
+    where
+        R: AllocGlobal + Clone + Drop,
+        ensures { self.new ≡ self.old }
+    {
+        self.reserve.let_go();
+        let answer = paths::look(&self.rt, path);
+        self.reserve.take(&self.rt);
+        answer
     }
 
     // Starts the run over what a look-out holds for it, and has that forgotten.
@@ -342,7 +372,9 @@ impl<R: AllocGlobal + Clock + Files<File = File> + Net + Processes> ChildEdge fo
             def,
             conn,
         };
+        self.reserve.let_go();
         let answer = self.launch(start);
+        self.reserve.take(&self.rt);
         self.notices.started(start, answer);
         match answer {
             Ok(pid) => Ok(pid),
@@ -351,7 +383,9 @@ impl<R: AllocGlobal + Clock + Files<File = File> + Net + Processes> ChildEdge fo
     }
 
     fn term(&mut self, job: JobNo, run: u64) -> Result<(), EdgeFault> {
+        self.reserve.let_go();
         let answer = self.children.term(&self.rt, &mut self.shell, (job, run));
+        self.reserve.take(&self.rt);
         self.signalled((job, run), Asked::Term, "TERM", answer)
     }
 
@@ -375,12 +409,14 @@ impl<R: AllocGlobal + Clock + Files<File = File> + Net + Processes> ChildEdge fo
     }
 }
 
-impl<R: AllocGlobal + Clock + Clone + Drop + Files + Net + Processes> PathEdge for OsEdge<R> {
+impl<R: AllocGlobal + Clock + Clone + Drop + Files<File = File> + Net + Processes> PathEdge
+    for OsEdge<R> {
     // it keeps no record of its looks
     ghost Looks = { λ path answer old new. Unit {0} };
 
     fn begin_looks(&mut self) {
         self.looks.begin_round();
+        self.is_first_question = true;
     }
 
     fn ask(&mut self, path: &str) -> bool {
@@ -388,15 +424,24 @@ impl<R: AllocGlobal + Clock + Clone + Drop + Files + Net + Processes> PathEdge f
         self.looks.ask(&self.rt, &mut self.hung, path, up)
     }
 
+    // The first question of a round starts the look-out, if there is none.
     fn is_seen(&mut self, path: &str) -> bool {
         let up = clock::up(&self.rt, self.made);
-        self.looks.is_seen(&self.rt, &mut self.hung, path, up)
+        if self.is_first_question {
+            self.reserve.let_go();
+        }
+        let is_seen = self.looks.is_seen(&self.rt, &mut self.hung, path, up);
+        if self.is_first_question {
+            self.reserve.take(&self.rt);
+            self.is_first_question = false;
+        }
+        is_seen
     }
 
     fn look(&mut self, path: &str) -> Result<Obs, EdgeFault> {
         let _is_seen = PathEdge::is_seen(self, path);
         let answer = match self.looks.take(path) {
-            Seen::Unstarted => paths::look(&self.rt, path),
+            Seen::Unstarted => self.look_alone(path),
             seen => paths::sight_of_seen(seen),
         };
         self.notices.looked(path, answer);

@@ -1,11 +1,16 @@
-//! The listening sockets that are bound, by job.
+//! The listening sockets that are bound, by job, and how many clients there is room for beside them.
+
+ghost use Rattle.std.specs.Prelude.{◌≡◌, ◌<◌, length, IsErr};
+ghost use Rattle.child_edge.specs.Listeners.{how_many, and_more};
+ghost use Rattle.child_edge.specs.Rooms.{room_by};
 
 use crate::Client;
 use crate::asking::is_silent;
+use crate::bound::Bound;
 use crate::listener::Listener;
 use crate::maps::key_from;
 use crate::notices::{Asked, Notices};
-use crate::words::Hole::Error;
+use crate::room::room_for;
 use crate::words::cannot_bind;
 use history_model::definition::{Address, Def, Socket};
 use history_model::{JobNo, MAX_JOBS, Text};
@@ -20,23 +25,35 @@ use std::net::Net;
 use std::process::{OpenProcess, Processes};
 use std::rt::Clock;
 
-/// The sockets of a job, its label, by which bind it has them, and how many of them a poll knows.
-#[derive(Drop)]
-struct Bound {
-    label: Text,
-    listeners: Vec<Listener>,
-    bind: u64,
-    registered: usize,
-}
-
+/// The sockets of each job. As much room there is for clients as the limit leaves beside the sockets that are held now.
 #[derive(Drop)]
 pub(crate) struct Sockets {
     alloc: Global,
     jobs: BTreeMap<JobNo, Bound>,
+    // As many descriptors this process may have, if that is known.
+    limit: Option<u64>,
+    room: usize,
     // How many binds were made.
     binds: u64,
     // A poll may not know each socket.
     may_be_unknown: bool,
+    ghost reckoned: { room ≡ room_by limit (how_many jobs) },
+}
+
+// As many sockets are held.
+fn count_of(jobs: &BTreeMap<JobNo, Bound>) -> u64
+    ensures { result ≡ how_many jobs.now }
+{
+    jobs.values().fold(0u64, |count, bound| {
+        count.saturating_add(bound.listeners.len() as u64)
+    })
+}
+
+// As much room there is beside the sockets that are held.
+fn room_beside(jobs: &BTreeMap<JobNo, Bound>, limit: Option<u64>) -> usize
+    ensures { result ≡ room_by limit (how_many jobs.now) }
+{
+    room_for(limit, count_of(jobs))
 }
 
 /// Which socket of a definition was refused, by its place in it, and why. A place past the last is none of them.
@@ -57,19 +74,43 @@ impl BindFault {
 
 impl Sockets {
     pub(crate) fn new(alloc: Global) -> Sockets {
+        let jobs = BTreeMap::new(alloc);
+        let room = room_beside(&jobs, None);
         Sockets {
             alloc,
-            jobs: BTreeMap::new(alloc),
+            jobs,
+            limit: None,
+            room,
             binds: 0,
             may_be_unknown: false,
         }
     }
 
+    /// From now on the room is reckoned by this limit on descriptors, or as if there were none.
+    pub(crate) fn set_limit(&mut self, limit: Option<u64>)
+        ensures limit { self.new.limit ≡ limit }
+        ensures jobs { self.new.jobs ≡ self.old.jobs }
+    {
+        self.limit = limit;
+        self.room = room_beside(&self.jobs, limit);
+    }
+
+    /// As many clients there is room for beside the sockets that are held now.
+    pub(crate) fn room(&self) -> usize
+        ensures { result ≡ room_by self.now.limit (how_many self.now.jobs) }
+    {
+        self.room
+    }
+
     /// Binds each socket of the definition for the job, or none, which is told. A job that has sockets is refused.
     pub(crate) fn bind<
         R: Files + Net<Listener = std::net::TcpListener, Stream = std::net::TcpStream>,
-    >(&mut self, rt: &R, notices: &mut Notices, job: JobNo, def: &Def) -> io::Result<()> {
-        match self.bind_new(rt, job, def) {
+    >(&mut self, rt: &R, notices: &mut Notices, job: JobNo, def: &Def) -> io::Result<()>
+        ensures limit { self.new.limit ≡ self.old.limit }
+        ensures crowded { room_by self.old.limit (and_more self.old.jobs (length def.now.sockets)) ≡ 0 →
+            IsErr result × (self.new ≡ self.old) }
+    {
+        match self.bind_new(rt, job, def.label(), def.sockets()) {
             Ok(()) => {
                 notices.done(job, Asked::Bind);
                 Ok(())
@@ -118,31 +159,67 @@ impl Sockets {
 
     /// Gives up the job's sockets, and leaves their files, which is told: the path of one of them gives no answer.
     pub(crate) fn leave(&mut self, notices: &mut Notices, job: JobNo) {
-        if let Some(bound) = self.jobs.remove(&job) {
+        if let Some(bound) = self.take_out(job) {
             let form = "cannot remove the files of its sockets: $";
             bound.refused(notices, job, Asked::Bind, form, no_answer());
             drop(bound);
         }
     }
 
+    // The job has no sockets from now on: they are handed out, and their room with them.
+    fn take_out(&mut self, job: JobNo) -> Option<Bound>
+        ensures { self.new.limit ≡ self.old.limit }
+    {
+        let gone = self.jobs.remove(&job);
+        self.room = room_beside(&self.jobs, self.limit);
+        gone
+    }
+
+    // Nothing is opened if no room for clients would be left.
     fn bind_new<R: Files + Net<Listener = std::net::TcpListener, Stream = std::net::TcpStream>>(
         &mut self,
         rt: &R,
         job: JobNo,
-        def: &Def,
-    ) -> Result<(), BindFault> {
+        label: &str,
+        wanted: &[Socket],
+    ) -> Result<(), BindFault>
+        ensures limit { self.new.limit ≡ self.old.limit }
+        ensures crowded { room_by self.old.limit (and_more self.old.jobs (length wanted.now)) ≡ 0 →
+            IsErr result × (self.new ≡ self.old) }
+    {
+        let count = count_of(&self.jobs).saturating_add(wanted.len() as u64);
+        if room_for(self.limit, count) == 0 {
+            return Err(BindFault {
+                socket: usize::MAX,
+                error: io::Error::other("too few descriptors are left for clients (ulimit -n)"),
+            });
+        }
         if self.jobs.contains_key(&job) {
             return Err(BindFault::of_all(ErrorKind::AddrInUse));
         }
-        if let Some(socket) = self.first_taken(def.sockets()) {
+        if let Some(socket) = self.first_taken(wanted) {
             let error = io::Error::from(ErrorKind::AddrInUse);
             return Err(BindFault { socket, error });
         }
-        let label = match Text::copy_of(self.alloc, def.label()) {
+        self.bind_beside(rt, job, label, wanted)
+    }
+
+    // Opens the sockets. The caller has seen that they leave room for clients.
+    fn bind_beside<R: Files + Net<Listener = std::net::TcpListener, Stream = std::net::TcpStream>>(
+        &mut self,
+        rt: &R,
+        job: JobNo,
+        label: &str,
+        wanted: &[Socket],
+    ) -> Result<(), BindFault>
+        requires { 0 < room_by self.old.limit (and_more self.old.jobs (length wanted.now)) }
+        ensures { self.new.limit ≡ self.old.limit }
+    {
+        let label = match Text::copy_of(self.alloc, label) {
             Ok(label) => label,
             Err(_) => return Err(BindFault::of_all(ErrorKind::OutOfMemory)),
         };
-        match bind_all(rt, self.alloc, def.sockets()) {
+        match bind_all(rt, self.alloc, wanted) {
             Ok(listeners) => self.keep(rt, job, label, listeners),
             Err(fault) => {
                 drop(label);
@@ -158,7 +235,9 @@ impl Sockets {
         job: JobNo,
         label: Text,
         listeners: Vec<Listener>,
-    ) -> Result<(), BindFault> {
+    ) -> Result<(), BindFault>
+        ensures { self.new.limit ≡ self.old.limit }
+    {
         let bound = Bound {
             label,
             listeners,
@@ -167,7 +246,9 @@ impl Sockets {
         };
         self.binds = self.binds.wrapping_add(1);
         self.may_be_unknown = true;
-        match self.jobs.insert(job, bound) {
+        let kept = self.jobs.insert(job, bound);
+        self.room = room_beside(&self.jobs, self.limit);
+        match kept {
             Ok(other) => {
                 drop(other);
                 Ok(())
@@ -209,7 +290,7 @@ impl Sockets {
 
     /// Gives up the job's sockets, and removes their files.
     pub(crate) fn release<R: Files>(&mut self, rt: &R, job: JobNo) {
-        if let Some(bound) = self.jobs.remove(&job) {
+        if let Some(bound) = self.take_out(job) {
             give_up(rt, &bound.listeners);
             drop(bound);
         }
@@ -265,73 +346,40 @@ impl Sockets {
         if !self.may_be_unknown {
             return Ok(());
         }
-        let mut answer = Ok(());
-        let mut next = 0;
-        for _ in 0..MAX_JOBS {
-            let Some(job) = self.listener_from(next) else {
-                break;
-            };
-            next = job.saturating_add(1);
-            if let Err(error) = self.register_job(notices, registry, token, job) {
-                answer = Err(error);
-            }
-        }
+        let answer = register_all(&mut self.jobs, notices, registry, token);
+        self.room = room_beside(&self.jobs, self.limit);
         self.may_be_unknown = answer.is_err();
         answer
     }
-
-    fn register_job(
-        &mut self,
-        notices: &mut Notices,
-        registry: &Registry,
-        token: Token,
-        job: JobNo,
-    ) -> io::Result<()> {
-        let Some(bound) = self.jobs.get_mut(&job) else {
-            return Ok(());
-        };
-        let answer = bound.register(registry, token);
-        match answer {
-            Ok(()) => notices.done(job, Asked::Watch),
-            Err(error) => {
-                let form = "cannot wait for clients: $";
-                bound.refused(notices, job, Asked::Watch, form, error);
-            }
-        }
-        answer
-    }
 }
 
-impl Bound {
-    // The call for the job's sockets was refused, as the form says, whose hole is the error.
-    fn refused(
-        &self,
-        notices: &mut Notices,
-        job: JobNo,
-        asked: Asked,
-        form: &str,
-        error: io::Error,
-    ) {
-        let label = Some(self.label.as_str());
-        notices.refused(job, asked, label, None, form, &[Error(error)]);
-    }
-
-    // Registers each socket that is not yet, up to the first that is refused.
-    fn register(&mut self, registry: &Registry, token: Token) -> io::Result<()> {
-        for place in self.registered..self.listeners.len() {
-            if let Some(listener) = self.listeners.get_mut(place) {
-                match listener.register(registry, token) {
-                    Ok(()) => self.registered = place.saturating_add(1),
-                    Err(error) => return Err(error),
-                }
+// The last refusal, if there is one.
+fn register_all(
+    jobs: &mut BTreeMap<JobNo, Bound>,
+    notices: &mut Notices,
+    registry: &Registry,
+    token: Token,
+) -> io::Result<()> {
+    let mut answer = Ok(());
+    let mut next = 0;
+    for _ in 0..MAX_JOBS {
+        let Some(job) = key_from(jobs, next) else {
+            break;
+        };
+        next = job.saturating_add(1);
+        if let Some(bound) = jobs.get_mut(&job) {
+            if let Err(error) = bound.register(notices, registry, token, job) {
+                answer = Err(error);
             }
         }
-        Ok(())
     }
+    answer
 }
 
 // Tells that the job's sockets were not bound.
-fn tell_fault(notices: &mut Notices, job: JobNo, def: &Def, fault: BindFault) -> io::Result<()> {
+fn tell_fault(notices: &mut Notices, job: JobNo, def: &Def, fault: BindFault) -> io::Result<()>
+    ensures { IsErr result }
+{
     let socket = def.sockets().get(fault.socket);
     let (form, holes) = cannot_bind(socket, fault.error);
     let label = Some(def.label());

@@ -26,6 +26,9 @@ pub const CLIENTS: usize = 64;
 /// How many bytes are read at once.
 const PIECE: usize = 16_384;
 
+/// As many milliseconds of `up` lie between two looks at the socket's file at least.
+const BETWEEN_LOOKS: u64 = 1_000;
+
 /// What a client gets for which there is no place.
 const TOO_MANY: &[u8] = b"{\"code\":2,\"text\":\"too many clients\\n\"}\n";
 
@@ -50,6 +53,8 @@ pub struct ControlSocket {
     // How many rounds there were, and the `up` of the last.
     rounds: u64,
     up: u64,
+    // The `up` from which on it is looked whether the socket's file is there.
+    next_look: u64,
     // The next round begins with this key.
     first: usize,
     // The last round looked at every client.
@@ -73,6 +78,7 @@ impl Drop for ControlSocket {
             spare: _,
             rounds: _,
             up: _,
+            next_look: _,
             first: _,
             is_whole: _,
         } = self;
@@ -134,6 +140,7 @@ impl ControlSocket {
             spare: spare_descriptor(rt),
             rounds: 0,
             up: 0,
+            next_look: 0,
             first: 0,
             is_whole: true,
         })
@@ -258,7 +265,61 @@ impl ControlSocket {
     /// kept for this. If nobody waits, that is kept again, nobody is let go, and nothing is told. If somebody waits, the refusal is
     /// told, and the longest silent client is let go if there is no other way to keep a descriptor again. If no client is silent, the
     /// one that becomes silent first is let go for it, unless a descriptor gets free before; until then who comes has to wait.
-    pub fn accept<R: Files<File = File>>(&mut self, rt: &R, registry: &Registry) {
+    ///
+    /// Once a second of `up` at most it looks whether the socket's file is still the one that was bound. If it is not, it binds the socket
+    /// anew as [`open`](ControlSocket::open) does, and keeps its clients; that, or why it can't be done, is told.
+    pub fn accept<R: Files<File = File> + Net>(&mut self, rt: &R, registry: &Registry) {
+        self.accept_all(rt, registry);
+        if self.up >= self.next_look {
+            self.next_look = self.up.saturating_add(BETWEEN_LOOKS);
+            self.keep_file(rt, registry);
+        }
+    }
+
+    // Binds the socket anew if its file is gone, or another is in its place.
+    fn keep_file<R: Files<File = File> + Net>(&mut self, rt: &R, registry: &Registry) {
+        if socket_file::is_at(rt, self.path.as_str(), self.mark) {
+            self.notices.file_stands();
+            return;
+        }
+        match self.bind_again(rt, registry) {
+            Ok(()) => self.notices.made_again(),
+            Err(error) => self.notices.not_made_again(error),
+        }
+    }
+
+    // Under the lock that is held; if the lock's file is gone too, under a new one.
+    fn bind_again<R: Files<File = File> + Net>(
+        &mut self,
+        rt: &R,
+        registry: &Registry,
+    ) -> io::Result<()> {
+        if !self.lock.is_at_its_path(rt) {
+            match lock_beside(rt, self.alloc, self.path.as_str()) {
+                Ok(lock) => drop(mem::replace(&mut self.lock, lock)),
+                Err(error) => return Err(error),
+            }
+        }
+        let (mut listener, mark) = match socket_file::bind(rt, self.path.as_str()) {
+            Ok(bound) => bound,
+            Err(error) => return Err(error),
+        };
+        match registry.register(&mut listener, self.token, Interest::READABLE) {
+            Ok(()) => {
+                self.mark = mark;
+                drop(mem::replace(&mut self.listener, listener));
+                Ok(())
+            }
+            Err(error) => {
+                socket_file::remove(rt, self.path.as_str(), mark);
+                drop(listener);
+                Err(error)
+            }
+        }
+    }
+
+    // Takes the clients that wait.
+    fn accept_all<R: Files<File = File>>(&mut self, rt: &R, registry: &Registry) {
         self.keep_spare(rt);
         let mut is_well = false;
         let mut is_short = false;
@@ -407,7 +468,8 @@ impl ControlSocket {
     /// The next line on what was refused, without a newline: an accept, or a client that was let go for want of memory or since
     /// a read or a write failed. Each is told once, and again when its reason changes; an accept also after a call of `accept`
     /// that took a client and was refused nothing, a client after one that had all its replies. A client that only went away is
-    /// not told.
+    /// not told. That the socket's file was gone and is made again is told each time; why it can't be made again, once for each reason,
+    /// until it is there.
     pub fn next_notice(&mut self) -> Option<Text> {
         self.notices.next(self.alloc)
     }

@@ -11,11 +11,24 @@ struct Refusals {
     due: Option<Error>,
 }
 
+/// What a line is about.
+#[derive(Clone, Copy)]
+enum Told {
+    Accept,
+    Client,
+    NoFile,
+    File,
+}
+
 /// The refusals of the control socket. They take no memory until they are told.
 #[derive(Clone, Copy)]
 pub(crate) struct Notices {
     accepts: Refusals,
     clients: Refusals,
+    // That the socket's file can't be made again.
+    files: Refusals,
+    // It was made again, and this was not told.
+    is_made_again: bool,
 }
 
 impl Refusals {
@@ -42,7 +55,26 @@ impl Notices {
         Notices {
             accepts: none,
             clients: none,
+            files: none,
+            is_made_again: false,
         }
+    }
+
+    /// The socket's file is the one that was bound: the next refusal to make it again is told.
+    pub(crate) fn file_stands(&mut self) {
+        self.files.last = None;
+    }
+
+    /// The socket's file was gone, and is made again.
+    pub(crate) fn made_again(&mut self) {
+        self.files.last = None;
+        self.files.due = None;
+        self.is_made_again = true;
+    }
+
+    /// The socket's file is gone, and can't be made again.
+    pub(crate) fn not_made_again(&mut self, error: Error) {
+        self.files.note(error);
     }
 
     /// A client could not be taken.
@@ -69,25 +101,44 @@ impl Notices {
 
     /// The next line to be told. None also for want of memory for it: it then stays.
     pub(crate) fn next(&mut self, alloc: Global) -> Option<Text> {
-        let accept = self.accepts.due;
-        let client = self.clients.due;
-        let text = match (accept, client) {
-            (Some(error), _) => line_of(alloc, "cannot accept", error),
-            (None, Some(error)) if error.kind() == ErrorKind::OutOfMemory => {
-                String::from_str(alloc, "control socket: a client was let go: no memory")
-            }
-            (None, Some(error)) => line_of(alloc, "a client was let go", error),
-            (None, None) => return None,
-        };
+        let (text, of) = self.due(alloc)?;
         let Ok(text) = text else {
             return None;
         };
-        if accept.is_some() {
-            self.accepts.due = None;
-        } else {
-            self.clients.due = None;
+        match of {
+            Told::Accept => self.accepts.due = None,
+            Told::Client => self.clients.due = None,
+            Told::NoFile => self.files.due = None,
+            Told::File => self.is_made_again = false,
         }
         Some(Text::new(text))
+    }
+
+    // What is to be told first.
+    fn due(&self, alloc: Global) -> Option<(Result<String, AllocError>, Told)> {
+        if let Some(error) = self.accepts.due {
+            return Some((line_of(alloc, "cannot accept", error), Told::Accept));
+        }
+        if let Some(error) = self.clients.due {
+            return Some((client_line(alloc, error), Told::Client));
+        }
+        if let Some(error) = self.files.due {
+            let what = "its file is gone, and can't be made again";
+            return Some((line_of(alloc, what, error), Told::NoFile));
+        }
+        if self.is_made_again {
+            let text = "control socket: its file was gone, and is made again";
+            return Some((String::from_str(alloc, text), Told::File));
+        }
+        None
+    }
+}
+
+fn client_line(alloc: Global, error: Error) -> Result<String, AllocError> {
+    if error.kind() == ErrorKind::OutOfMemory {
+        String::from_str(alloc, "control socket: a client was let go: no memory")
+    } else {
+        line_of(alloc, "a client was let go", error)
     }
 }
 

@@ -38,6 +38,9 @@ pub trait RoundEdge: ChildEdge + SleepEdge + PathEdge + SocketEdge {
     /// The least job, this one or above it, that has sockets, with the bind that gave it these.
     fn listener_from(&self, job: JobNo) -> Option<Origin>;
 
+    /// As many clients there is room for now, beside the sockets of jobs.
+    fn room(&self) -> usize;
+
     /// Whether the job has the sockets of this bind still.
     fn listens_at(&self, origin: Origin) -> bool;
 
@@ -84,6 +87,10 @@ impl<R: System> RoundEdge for OsEdge<R> {
         let job = OsEdge::listener_from(self, job)?;
         let bind = OsEdge::bind_of(self, job)?;
         Some(Origin { job, bind })
+    }
+
+    fn room(&self) -> usize {
+        OsEdge::room(self)
     }
 
     fn listens_at(&self, origin: Origin) -> bool {

@@ -301,6 +301,10 @@ impl<T: SettingStore, E: RoundEdge, W: Write> LoopHost for RoundLauncher<T, E, W
         self.host.edge().listener_from(job)
     }
 
+    fn room(&mut self) -> usize {
+        self.host.edge().room()
+    }
+
     fn listens_at(&mut self, origin: Origin) -> bool {
         self.host.edge().listens_at(origin)
     }

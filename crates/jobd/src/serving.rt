@@ -3,6 +3,7 @@
 
 use crate::round_edge::RoundEdge;
 use crate::round_launcher::RoundLauncher;
+use child_edge::room_for;
 use control_socket::ControlSocket;
 use ctl_protocol::{Header, Settings, ZoneText};
 use exit_status::{CLOCK_OR_WAITING, NO_MEMORY, STORE};
@@ -14,7 +15,7 @@ use live_loop::{Live, LoopHost, ServeFault, System, serve};
 use outside::SettingStore;
 use startup::{
     Places, Plan, StoreUser, begun, bound, hold_spool, journal_at, no_clock, plan_of, report,
-    room_of, system_of, tell_long_header, tell_standing, with_store, zone_of,
+    system_of, tell_long_header, tell_standing, with_store, zone_of,
 };
 use std::alloc::Global;
 use std::fs::File;
@@ -273,9 +274,7 @@ fn set_wishes<H>(plan: &Plan, live: &mut Live<H>) {
     if plan.wishes.level.is_told {
         live.set_leveled();
     }
-    if let Some(room) = room_of(&plan.standing) {
-        live.set_room(room);
-    }
+    live.set_room(room_for(plan.standing.descriptors, 0));
 }
 
 fn report_loop(rt: &impl Eprint, plan: &Plan, fault: ServeFault) -> u8 {

@@ -25,6 +25,8 @@ pub(crate) struct JobSockets {
     pub(crate) callers: Callers,
     pub(crate) losses: Losses,
     conn: u64,
+    // As many clients there was room for when the sockets were tried last.
+    pub(crate) room: usize,
     // Clients may have come since all sockets were tried: the next round tries them.
     pub(crate) may_have_come: bool,
     // The next round tries the sockets of this job first, or of the next above it.
@@ -44,6 +46,7 @@ impl JobSockets {
             callers,
             losses: Losses::new(alloc),
             conn: 1,
+            room: CALLERS,
             may_have_come: true,
             first_job: 0,
             first_key: 0,
@@ -63,7 +66,8 @@ impl JobSockets {
         }
     }
 
-    /// Takes the clients that wait at the sockets, if some may have come. Where there is no time left, those of the other jobs are
+    /// Takes the clients that wait at the sockets, if some may have come, as far as there is room beside the sockets that jobs have now: as
+    /// many are heard at a time, and a third of them, at most 64, of one job. Where there is no time left, those of the other jobs are
     /// left for the next round.
     pub(crate) fn accept<H: LoopHost, L: Limit>(
         &mut self,
@@ -74,6 +78,9 @@ impl JobSockets {
         ensures asks { Asks H.Asked host.old host.new }
         ensures conn { self.new.conn ≡ self.old.conn }
     {
+        let room = host.room();
+        self.room = room;
+        self.callers.set_room(room);
         // Sockets that the poll refuses are tried in each round.
         if !host.register(registry, COMING) {
             self.may_have_come = true;

@@ -189,10 +189,8 @@ impl<H> Live<H> {
         self.rooms.voice.is_leveled = true;
     }
 
-    /// How many clients of jobs' sockets are heard at a time from now on, at most 256 (which is the number if this was never
-    /// called), and a third of them, at most 64, of one job. While clients of a job with fewer wait for a place, the others have no more
-    /// than their share: as many as each job would have if all had as many. So many clients of the control socket are served, at most
-    /// 64. Takes no memory.
+    /// As many clients there is room for until the first round, in which the launcher is asked for that, as in each: the control socket
+    /// is served before. 256 if this is not called. Takes no memory.
     pub fn set_room(&mut self, clients: usize) {
         self.rooms.sockets.callers.set_room(clients);
         self.control.set_room(clients);

@@ -121,6 +121,11 @@ pub trait LoopHost: PathHost + Answers {
     fn listener_from(&mut self, job: JobNo) -> Option<Origin>
         ensures { Self.Asked self.old self.new };
 
+    /// As many clients there is room for now, beside the sockets of jobs: of connections whose request came whole, of clients of jobs'
+    /// sockets that are heard, and of clients of the control socket.
+    fn room(&mut self) -> usize
+        ensures { Self.Asked self.old self.new };
+
     /// Whether the job has these sockets still.
     fn listens_at(&mut self, origin: Origin) -> bool
         ensures { Self.Asked self.old self.new };

@@ -155,6 +155,7 @@ fn serve_clients<R: System, H: LoopHost>(rt: &R, alloc: Global, live: &mut Live<
     live.rooms
         .sockets
         .accept(live.poll.registry(), &mut live.host, &mut time);
+    live.control.set_room(live.rooms.sockets.room);
     let is_sending = live
         .rooms
         .sockets

@@ -24,6 +24,6 @@ pub use places::{bound, no_clock, system_of};
 pub use plan::{Places, Plan, plan_of};
 pub use reporting::report;
 pub use spool::hold_spool;
-pub use standing::{room_of, tell_standing};
+pub use standing::tell_standing;
 pub use store::{StoreUser, with_store};
 pub use zone::zone_of;

@@ -2,7 +2,7 @@
 
 use crate::plan::Plan;
 use crate::reporting::{Level, refuse, tell};
-use crate::standing::{check_standing, room_of};
+use crate::standing::check_standing;
 use child_edge::{ClockEdge, EdgeFault, OsEdge, System};
 use control_socket::ControlSocket;
 use exit_status::{CLOCK_OR_WAITING, CONTROL_SOCKET, NO_MEMORY};
@@ -48,9 +48,7 @@ fn first_reading<R: System>(plan: &Plan, edge: &mut OsEdge<R>) -> Result<Reading
     if plan.wishes.logs_runs {
         edge.log_runs();
     }
-    if let Some(room) = room_of(&plan.standing) {
-        edge.set_room(room);
-    }
+    edge.set_limit(plan.standing.descriptors);
     edge.read()
 }
 

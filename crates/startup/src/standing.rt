@@ -2,30 +2,16 @@
 
 use crate::plan::Plan;
 use crate::reporting::{Level, report, tell};
-use child_edge::System;
+use child_edge::{System, room_for};
 use exit_status::{CLOCK_OR_WAITING, NO_MEMORY};
 use files_and_process::own_process::{Signal, Standing, sees_children};
 use std::alloc::Global;
 use std::io;
 
-/// How many descriptors are needed: a dozen that the launcher holds, and what a start, TERM and a client take beside them.
-const FEWEST: u64 = 32;
-
-/// How many connections are held, and how many clients heard, at most.
-const MOST: u64 = 256;
-
-/// How many connections of jobs' sockets are held, each with two descriptors; so many of their clients are heard at a time:
-/// connections take half of the descriptors that are left, and those clients a quarter. None, if the limit is not known.
-pub fn room_of(standing: &Standing) -> Option<usize> {
-    let left = standing.descriptors?.saturating_sub(FEWEST);
-    let room = (left / 4 + 1).min(MOST);
-    Some(room as usize)
-}
-
 /// Status 9 if too few descriptors are allowed, or the ends of children can't be seen. A shell that can't be started is told.
 pub fn check_standing<R: System>(rt: &R, alloc: Global, plan: &Plan) -> Result<(), u8> {
     let level = plan.wishes.level;
-    if plan.standing.descriptors.is_some_and(|most| most < FEWEST) {
+    if room_for(plan.standing.descriptors, 0) == 0 {
         return Err(refuse_serving(
             rt,
             level,

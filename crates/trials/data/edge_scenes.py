@@ -752,6 +752,153 @@ def no_descriptor_left(stage):
     launcher.shut_down()
 
 
+def sockets_job(stage, label, count):
+    """A job with as many sockets, which notes each run and answers with its request; and where they are."""
+    paths = [stage.at(f"{label}.{number}") for number in range(count)]
+    job = socket_job(stage, label, ["/bin/sh", "-c", f"echo run >> {stage.at('runs')}; exec cat"])
+    job["Sockets"] = {f"s{number}": {"SockPathName": path} for number, path in enumerate(paths)}
+    return job, paths
+
+
+def leave_early(paths):
+    """A client at each of the paths half-closes and leaves."""
+    for path in paths:
+        try:
+            begin(path, b"gone").close()
+        except OSError:
+            pass
+
+
+def half_lines_at_a_low_limit(stage):
+    """60 clients of the control socket send half a line, at 64 descriptors: others are answered, a job starts and gets TERM."""
+    launcher = stage.serve(shell="ulimit -n 64")
+    halves = [connect(launcher.path) for _ in range(60)]
+    for client in halves:
+        try:
+            client.sendall(b'{"req":"li')
+        except OSError:
+            pass
+    launcher.answers("beside 60 half lines")
+    launcher.load(shell_job("lasting", "exec sleep 1000", RunAtLoad=True, StandardOutPath=stage.at("out"), StandardErrorPath=stage.at("err")))
+    launcher.tells("lasting", "pid = ")
+    launcher.ask({"req": "stop", "job": "lasting"})
+    launcher.tells("lasting", "last exit = signal 15")
+    for client in halves:
+        client.close()
+    launcher.shut_down()
+
+
+def many_sockets_at_a_low_limit(stage):
+    """20 sockets at 64 descriptors leave room for (64 - 32 - 20) / 4 + 1 = 4 connections. Clients of each half-close and leave, again and
+    again: each that was let in is served, jobs start and get TERM. A bind that leaves no room is refused, until another job's sockets are given up."""
+    launcher = stage.serve(shell="ulimit -n 64")
+    launcher.load(shell_job("lasting", "exec sleep 1000", RunAtLoad=True))
+    paths = []
+    for label, count in (("a", 8), ("b", 8), ("c", 4)):
+        job, places = sockets_job(stage, label, count)
+        launcher.load(job)
+        paths += places
+    for times in range(5):
+        leave_early(paths)
+    new = shell_job("new", f"echo run > {stage.at('new')}", RunAtLoad=True, StandardOutPath=stage.at("out"), StandardErrorPath=stage.at("err"))
+    launcher.load(new)
+    wait_for(lambda: text_at(stage.at("new")), "no job starts beside clients that left")
+    launcher.ask({"req": "stop", "job": "lasting"})
+    launcher.tells("lasting", "last exit = signal 15")
+    wait_for(lambda: not requests_in(stage), lambda: f"clients wait for ever: {requests_in(stage)}")
+    check(text_at(stage.at("runs")).count("run") >= 4, "the clients that left are not served")
+    for path in paths:
+        wait_for(lambda: call(path, b"hello") == b"hello", f"no client is served at {path}")
+    check(not launcher.lines("cannot"), f"it was refused {launcher.lines('cannot')}")
+    # 32 sockets leave room for one connection, and 33 for none.
+    launcher.load(sockets_job(stage, "d", 8)[0])
+    launcher.load(sockets_job(stage, "e", 4)[0])
+    launcher.load(sockets_job(stage, "f", 1)[0], 11)
+    told = "jobd: f: cannot bind its sockets: too few descriptors are left for clients (ulimit -n)"
+    wait_for(lambda: told in launcher.said().splitlines(), lambda: f"it said {launcher.said()!r}")
+    check(not os.path.exists(stage.at("f.0")), "a socket of a job that was refused is bound")
+    wait_for(lambda: call(paths[0], b"hello") == b"hello", "no client is served where there is room for one")
+    launcher.ask({"req": "unload", "job": "e"})
+    launcher.load(sockets_job(stage, "f", 1)[0])
+    wait_for(lambda: call(stage.at("f.0"), b"hello") == b"hello", "no client of a job that was bound later is served")
+    launcher.shut_down()
+
+
+def take_descriptors(launcher):
+    """Silent clients of the control socket, so many that no descriptor is free below the launcher's highest one, which then is the last."""
+    clients, most = [], max(map(int, os.listdir(f"/proc/{launcher.pid}/fd"))) + 1
+    while first_free(launcher.pid) < most:
+        held = first_free(launcher.pid)
+        clients.append(connect(launcher.path))
+        wait_for(lambda: first_free(launcher.pid) > held, "a client is not held")
+    _, hard = resource.prlimit(launcher.pid, resource.RLIMIT_NOFILE)
+    resource.prlimit(launcher.pid, resource.RLIMIT_NOFILE, (most, hard))
+    return clients
+
+
+def a_start_with_no_descriptor_left(stage):
+    """No descriptor is left: a path is looked at, a job starts with its streams, and gets TERM, by what is held back for them."""
+    launcher = stage.serve()
+    limits = resource.prlimit(launcher.pid, resource.RLIMIT_NOFILE)
+    with connect(launcher.path) as client:
+        ask = lambda request: launcher.ask_over(client, request)
+        shown = lambda: ask({"req": "print", "job": "lasting"})["text"]
+        check(ask({"req": "list"})["code"] == 0, "list refused")
+        silent = take_descriptors(launcher)
+        watching = shell_job("watching", f"echo run > {stage.at('watched')}", WatchPaths=[stage.at("path")])
+        streams = {"StandardInPath": make(stage.at("in"), "text"), "StandardOutPath": stage.at("out"), "StandardErrorPath": stage.at("err")}
+        lasting = shell_job("lasting", "cat; echo error >&2; exec sleep 1000", RunAtLoad=True, ThrottleInterval=0, **streams)
+        for job in (watching, lasting):
+            check(ask({"req": "load", "def": json.dumps(job)})["code"] == 0, f"load of {job['Label']} refused")
+        for times in (1, 2):
+            wait_for(lambda: text_at(stage.at("err")) == "error\n" * times, lambda: f"the job does not start: {launcher.said()!r}")
+            check(text_at(stage.at("out")) == "text" * times, f"its output is {text_at(stage.at('out'))!r}")
+            check(ask({"req": "stop", "job": "lasting"})["code"] == 0, "stop refused")
+            wait_for(lambda: "pid = " not in shown(), lambda: f"TERM does not come: {launcher.said()!r}")
+            check("last exit = signal 15" in shown(), f"it ended otherwise: {shown()!r}")
+            check(ask({"req": "start", "job": "lasting"})["code"] == 0, "start refused")
+        # The launcher saw it absent before.
+        time.sleep(1.5)
+        make(stage.at("path"))
+        wait_for(lambda: text_at(stage.at("watched")), lambda: f"a path that comes starts nothing: {launcher.said()!r}")
+        check(launcher.said() == "", f"it said {launcher.said()!r}")
+        resource.prlimit(launcher.pid, resource.RLIMIT_NOFILE, limits)
+    for one in silent:
+        one.close()
+    launcher.shut_down()
+
+
+def a_control_socket_that_was_removed(stage):
+    """The control socket's file is removed: it is made again, for its owner alone, which is told each time; its clients stay. What somebody else
+    put there is left, which is told once, and it is made once that is gone. If its lock was removed too, that is made again."""
+    launcher = stage.serve()
+    path, lock = stage.at("socket"), stage.at("socket.lock")
+    is_there = lambda: os.path.exists(path) and stat.S_ISSOCK(os.stat(path).st_mode) and stat.S_IMODE(os.stat(path).st_mode) == 0o600
+    told = "jobd: control socket: its file was gone, and is made again"
+    with connect(path) as client:
+        check(launcher.ask_over(client, {"req": "list"})["code"] == 0, "list refused")
+        for times in (1, 2):
+            os.remove(path)
+            wait_for(is_there, "it is not made again")
+            wait_for(lambda: launcher.lines("") == [told] * times, lambda: f"it said {launcher.said()!r}")
+            launcher.answers("at a control socket that was made again")
+            check(launcher.ask_over(client, {"req": "list"})["code"] == 0, "a client that was there before is let go")
+        os.replace(make(stage.at("text"), "text"), path)
+        refused = "jobd: control socket: its file is gone, and can't be made again: "
+        wait_for(lambda: launcher.lines(refused), lambda: f"it said {launcher.said()!r}")
+        time.sleep(2.5)
+        check(len(launcher.lines(refused)) == 1 and text_at(path) == "text", f"it has {text_at(path)!r}, and was told {launcher.lines(refused)}")
+        os.remove(lock)
+        os.remove(path)
+        wait_for(lambda: is_there() and os.path.exists(lock), "it is not made again with its lock")
+        wait_for(lambda: len(launcher.lines(told)) == 3, lambda: f"it said {launcher.said()!r}")
+    launcher.answers("at a control socket that was made again with its lock")
+    second = stage.start(store="store.2", spool="spool.2")
+    check(second.ends() == 6, f"a second launcher ends with {second.ends()}")
+    launcher.shut_down()
+    check(not os.path.exists(path) and not os.path.exists(lock), "a file of the control socket is left")
+
+
 def settings_in_the_log(stage):
     """After a clean end the store's file and the log beside it hold the settings, also where they were copied, or made one."""
     launcher = stage.serve()
@@ -1146,6 +1293,7 @@ SCENES = [
     a_client_still_for_a_minute, a_stream_at_a_fifo, clients_that_never_read, clients_of_a_slow_job, slow_clients_of_one_port, ends_that_cannot_be_seen, a_second_launcher,
     a_start_that_fails, spool_links_and_fifos, a_spool_that_others_may_write, another_ones_socket, many_at_a_stale_socket,
     a_lost_spool_file, closed_standard_streams, pipelined_settings, silent_clients_of_the_control_socket, no_descriptor_left,
+    half_lines_at_a_low_limit, many_sockets_at_a_low_limit, a_start_with_no_descriptor_left, a_control_socket_that_was_removed,
     settings_in_the_log, settings_of_the_first_version, limits_and_ignored_signals, private_files, a_journal_at_a_fifo, places_that_are_one_file,
     a_journal_that_may_not_grow, what_is_no_store, long_lines_and_headers, reasons_are_told, run_log,
     a_standard_error_that_nobody_reads, an_end_beside_one_who_asks_on, a_shell_for_one_term,

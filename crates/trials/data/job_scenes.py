@@ -595,7 +595,8 @@ def replies_that_nobody_takes(stage):
 def room_for_three(stage):
     """With room for three connections the client goes that has been still for longest, and none that waits; of those who wait a job has no
     more than its share."""
-    launcher = stage.serve(shell="ulimit -n 40")
+    # (42 - 32 - 2) / 4 + 1, beside two sockets.
+    launcher = stage.serve(shell="ulimit -n 42")
     launcher.load(gated_job(stage))
     launcher.load(socket_job(stage, "big", ["/bin/sh", "-c", "exec head -c 400000 /dev/zero"]))
     slow, big = [], []
@@ -793,7 +794,7 @@ def a_path_with_one_launcher(stage):
         check(os.path.exists(at("socket")) and os.path.exists(at("socket.lock")), "a file of the first launcher is gone")
         os.remove(at(name))
         is_refused(stage, f"beside a launcher whose {name} was removed", LOCKED if name == "socket" else IN_USE)
-        check(not os.path.exists(at(name)), f"{name} was made anew")
+        check(name == "socket" or not os.path.exists(at(name)), f"{name} was made anew")
         check(os.path.exists(at("socket")) or name == "socket", "the first one's socket is gone")
         check(os.path.exists(at("socket.lock")) or name == "socket.lock", "the first one's lock is gone")
         end_process(launcher.pid)
@@ -836,7 +837,9 @@ def files_that_were_put_there(stage):
         for name in ("socket", "socket.lock"):
             os.remove(at(name))
         check(launcher.ask_over(client, {"req": "shutdown"})["code"] == 0, "shutdown refused")
-    check(launcher.ends() == 0 and launcher.said() == "", f"without its files it ended so: {launcher.said()!r}")
+    # If a second is just over, they are made again.
+    told = ("", "jobd: control socket: its file was gone, and is made again\n")
+    check(launcher.ends() == 0 and launcher.said() in told, f"without its files it ended so: {launcher.said()!r}")
 
 
 SCENES = [

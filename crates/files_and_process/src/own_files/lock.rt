@@ -31,9 +31,14 @@ impl LockFile {
         Err(busy())
     }
 
+    /// Whether the lock's file is still at its path.
+    pub fn is_at_its_path<R: Files<File = File>>(&self, rt: &R) -> bool {
+        is_at(rt, self.path.as_str(), &self.file)
+    }
+
     /// Removes the lock's file, while the lock is held. A file that somebody else put there is left.
     pub fn remove<R: Files<File = File>>(&self, rt: &R) {
-        if is_at(rt, self.path.as_str(), &self.file) {
+        if self.is_at_its_path(rt) {
             let _left = fs::remove_file(rt, self.path.as_str());
         }
     }

@@ -1,0 +1,39 @@
+//! Descriptors that no client takes: the null device, opened. What a start, a TERM or a look has to open takes their place.
+
+use std::alloc::Global;
+use std::fs::{File, Files};
+
+/// As many are held back. A first start takes the most at a time: the two ends of a look-out's socket, what tells that it was started,
+/// and three streams, one of which may be opened twice.
+const MOST: usize = 8;
+
+#[derive(Drop)]
+pub(crate) struct Reserve {
+    held: Vec<File>,
+}
+
+impl Reserve {
+    /// None is held yet.
+    pub(crate) fn new(alloc: Global) -> Reserve {
+        Reserve {
+            held: Vec::new(alloc),
+        }
+    }
+
+    /// Lets all go: the next calls of the system find as many free.
+    pub(crate) fn let_go(&mut self) {
+        self.held.clear();
+    }
+
+    /// Takes as many as are lacking, up to the first that the system or the memory refuses.
+    pub(crate) fn take<R: Files<File = File>>(&mut self, rt: &R) {
+        for _ in self.held.len()..MOST {
+            let Ok(file) = File::open(rt, "/dev/null") else {
+                return;
+            };
+            if self.held.push(file).is_err() {
+                return;
+            }
+        }
+    }
+}
