@@ -1,0 +1,2 @@
+pub mod FactsLemmas
+pub mod LinesLemmas

@@ -1,0 +1,4 @@
+pub mod Facts
+pub mod States
+pub mod Tokens
+pub mod Lines
