@@ -2,3 +2,4 @@ pub mod Facts
 pub mod States
 pub mod Tokens
 pub mod Lines
+pub mod Jobs

@@ -5,6 +5,7 @@
 
 mod facts;
 mod fields;
+mod jobs;
 mod line;
 mod names;
 mod read;
@@ -12,6 +13,7 @@ mod status;
 mod write;
 
 pub use facts::{JobFacts, facts_of};
+pub use jobs::{Notes, add_jobs, job_of};
 pub use line::StatusText;
 pub use names::state_name;
 pub use read::{StatusFault, StatusLine, read_line};
@@ -19,4 +21,4 @@ pub use status::{
     DisabledBy, JobKeys, JobNote, JobStatus, JournalStatus, LauncherStatus, RefusedStart, RunEnd,
     state_of,
 };
-pub use write::{add_job, add_launcher};
+pub use write::add_launcher;

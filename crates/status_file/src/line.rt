@@ -1,10 +1,8 @@
 //! The text of a file, line by line, and the pieces of which a line is written.
 
-ghost use Rattle.std.specs.Prelude.{◌≡◌, ◌++◌, ◌∷◌, [], false, map};
-ghost use Rattle.json.specs.Print.{print};
-ghost use Rattle.json.specs.Token.{key, number, string, boolean, null};
+ghost use Rattle.std.specs.Prelude.{◌≡◌, ◌++◌, ◌∷◌, [], true, false};
 ghost use Rattle.status_file.specs.Tokens.{token_in, tokens_in, count_token, text_token, flag_token};
-ghost use Rattle.status_file.specs.Lines.{Adds, Puts};
+ghost use Rattle.status_file.specs.Lines.{Puts, line_of};
 
 use json::Writer;
 use std::alloc::Global;
@@ -120,9 +118,17 @@ impl StatusText {
         (bytes, !is_refused)
     }
 
+    /// Memory was refused for what was to be written.
+    pub(crate) fn refuse(&mut self)
+        ensures { self.new.is_refused ≡ true }
+    {
+        self.is_refused = true;
+    }
+
     /// A line behind what is written: what it is to hold is put on it, and it is then given back by `end`.
     pub(crate) fn begin(&mut self, alloc: Global) -> Line
-        ensures { result.writer ≡ record { before = self.old.bytes.items; tokens = []; spare = result.writer.spare } }
+        ensures before { result.writer.before ≡ self.old.bytes.items }
+        ensures empty { result.writer.tokens ≡ [] }
         ensures refused { result.is_refused ≡ self.old.is_refused }
     {
         let bytes = mem::replace(&mut self.bytes, Vec::new(alloc));
@@ -134,7 +140,7 @@ impl StatusText {
 
     /// Takes the line back, and ends it.
     pub(crate) fn end(&mut self, line: Line)
-        ensures { self.new.is_refused ≡ false → self.new.bytes.items ≡ line.writer.before ++ (print line.writer.tokens ++ 10 ∷ []) }
+        ensures taken { self.new.is_refused ≡ false → self.new.bytes.items ≡ line.writer.before ++ line_of line.writer.tokens }
         ensures kept { self.new.is_refused ≡ false → line.is_refused ≡ false }
     {
         let Line { writer, is_refused } = line;

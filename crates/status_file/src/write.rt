@@ -52,7 +52,7 @@ pub fn add_launcher(text: &mut StatusText, alloc: Global, launcher: &LauncherSta
 }
 
 /// Adds the line of a job, with the entries of its calendar.
-pub fn add_job(text: &mut StatusText, alloc: Global, job: &JobStatus<'_>, calendar: &[Entry])
+pub(crate) fn add_job(text: &mut StatusText, alloc: Global, job: &JobStatus<'_>, calendar: &[Entry])
     ensures { Adds (job_tokens job.now calendar.now) text.old text.new }
 {
     let mut line = text.begin(alloc);
