@@ -96,26 +96,32 @@ pub struct StatusText {
 }
 
 impl StatusText {
-    /// Nothing is written yet, into this room. What stood there goes.
-    pub fn new(room: Vec<u8>) -> StatusText
-        ensures empty { result.bytes.items ≡ [] }
-        ensures well { result.is_refused ≡ false }
-    {
-        let mut bytes = room;
-        bytes.clear();
+    /// Nothing is written yet. It takes no memory.
+    pub fn new(alloc: Global) -> StatusText {
         StatusText {
-            bytes,
+            bytes: Vec::new(alloc),
             is_refused: false,
         }
     }
 
-    /// The text, and whether all of it found memory. If not, it is the room for a later one.
-    pub fn into_bytes(self) -> (Vec<u8>, bool)
-        ensures bytes { result.0.items ≡ self.bytes.items }
-        ensures well { result.1 ≡ true → self.is_refused ≡ false }
+    /// Whether all that was to be written found memory.
+    pub fn is_whole(&self) -> bool
+        ensures { result ≡ true → self.now.is_refused ≡ false }
     {
-        let StatusText { bytes, is_refused } = self;
-        (bytes, !is_refused)
+        !self.is_refused
+    }
+
+    /// What is written.
+    pub fn as_slice(&self) -> &[u8]
+        ensures { result.now ≡ self.now.bytes.items }
+    {
+        self.bytes.as_slice()
+    }
+
+    /// Nothing is written, as at first. The room stays.
+    pub fn clear(&mut self) {
+        self.bytes.clear();
+        self.is_refused = false;
     }
 
     /// Memory was refused for what was to be written.
