@@ -3,11 +3,11 @@
 ghost use Rattle.std.specs.Prelude.{◌≡◌, true};
 ghost use Rattle.jobd.specs.Standings.{IsStatusText};
 
+use crate::own_process::OwnProcess;
 use crate::run_notes::RunNotes;
 use history_model::{JobNo, Reading, Refusal, Text};
 use job_table::JobTable;
-use launchctl_words::VERSION;
-use status_file::{JournalStatus, LauncherStatus, StatusText, add_jobs, add_launcher};
+use status_file::{JournalStatus, LauncherStatus, StatusText, VERSION, add_jobs, add_launcher};
 use std::alloc::Global;
 
 /// Why a journal is closed, as far as it is known here.
@@ -15,13 +15,6 @@ const CLOSED: &str = "a write was refused, or a line found no memory";
 
 /// What is told of a store that refused something.
 const REFUSED: &str = "a setting was not stored";
-
-/// Which process this is: its number, and the moment of its start in ticks since the boot.
-#[derive(Clone, Copy)]
-pub(crate) struct OwnProcess {
-    pub(crate) pid: u32,
-    pub(crate) began: u64,
-}
 
 /// What is kept beside the table for the file: what was heard of runs, and what is told of the launcher.
 #[derive(Drop)]
@@ -89,7 +82,11 @@ impl Keeper {
             header: self.header.as_str(),
             at,
             journal,
-            store: if self.has_refused { Some(REFUSED) } else { None },
+            store: if self.has_refused {
+                Some(REFUSED)
+            } else {
+                None
+            },
         };
         add_launcher(&mut self.text, self.alloc, &launcher);
         add_jobs(

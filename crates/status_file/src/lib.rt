@@ -3,6 +3,9 @@
 //! `jobscope` tells them of the table of a journal.
 #![tactic(auto)]
 
+/// The version of the programs, as the file VERSION of the repository has it.
+pub const VERSION: &str = "0.2.0";
+
 mod facts;
 mod fields;
 mod jobs;
