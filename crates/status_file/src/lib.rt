@@ -12,14 +12,16 @@ mod jobs;
 mod line;
 mod names;
 mod read;
+mod run_notes;
 mod status;
 mod write;
 
 pub use facts::{JobFacts, facts_of};
-pub use jobs::{Notes, add_jobs, job_of};
+pub use jobs::add_jobs;
 pub use line::StatusText;
 pub use names::state_name;
 pub use read::{StatusFault, StatusLine, read_line};
+pub use run_notes::RunNotes;
 pub use status::{
     DisabledBy, JobKeys, JobNote, JobStatus, JournalStatus, LauncherStatus, RefusedStart, RunEnd,
     state_of,

@@ -1,13 +1,10 @@
-//! What was heard of the runs of each loaded job, for the file on how the launcher stands.
+//! What was heard of the runs of each loaded job: a small record beside the table, which is forgotten once its job is gone.
 
-use child_edge::{Notice, NoticeKind};
+use crate::jobs::{NUMBERS, job_of};
+use crate::status::{JobNote, RefusedStart, RunEnd};
 use history_model::{Ended, JobNo, Reading, Text};
 use job_table::JobTable;
-use status_file::{JobNote, Notes, RefusedStart, RunEnd, job_of};
 use std::alloc::Global;
-
-/// As many numbers of jobs are known: a table gives the least that is free, and has at most 1,024 jobs.
-const MOST: usize = 2048;
 
 /// What is counted of the runs of a job.
 #[derive(Clone, Copy)]
@@ -69,6 +66,13 @@ impl RunNote {
     }
 }
 
+fn lent(text: &Option<Text>) -> Option<&str> {
+    match text {
+        Some(text) => Some(text.as_str()),
+        None => None,
+    }
+}
+
 // The reason in the line that tells a refused start: the label, the run, and what could not be done.
 fn reason_in<'a>(line: &'a str, label: &str, run: u64) -> Option<&'a str> {
     let behind = line.strip_prefix(label)?.strip_prefix(": run ")?;
@@ -82,15 +86,15 @@ fn reason_in<'a>(line: &'a str, label: &str, run: u64) -> Option<&'a str> {
 
 /// What was heard of all loaded jobs, by their numbers. Of a job that is gone nothing is kept. Want of memory leaves a job out.
 #[derive(Drop)]
-pub(crate) struct RunNotes {
+pub struct RunNotes {
     alloc: Global,
     jobs: Vec<Option<RunNote>>,
     /// The reading of now.
-    pub(crate) at: Reading,
+    pub at: Reading,
 }
 
 impl RunNotes {
-    pub(crate) fn new(alloc: Global, at: Reading) -> RunNotes {
+    pub fn new(alloc: Global, at: Reading) -> RunNotes {
         RunNotes {
             alloc,
             jobs: Vec::new(alloc),
@@ -101,7 +105,7 @@ impl RunNotes {
     // The place of a job is made, if there is memory for it.
     fn make_place(&mut self, job: JobNo) {
         let place = job as usize;
-        if place >= MOST {
+        if job >= NUMBERS {
             return;
         }
         for _ in self.jobs.len()..place + 1 {
@@ -126,8 +130,8 @@ impl RunNotes {
     }
 
     /// Each job of the table has its place. One that had none was loaded since this was called last.
-    pub(crate) fn see_all(&mut self, table: &JobTable) {
-        for job in 0..MOST as JobNo {
+    pub fn see_all(&mut self, table: &JobTable) {
+        for job in 0..NUMBERS {
             if job_of(table, job).is_some() {
                 self.make_place(job);
             }
@@ -135,7 +139,7 @@ impl RunNotes {
     }
 
     /// A start was ordered; whether it was refused.
-    pub(crate) fn started(&mut self, job: JobNo, run: u64, label: &str, is_refused: bool) {
+    pub fn started(&mut self, job: JobNo, run: u64, label: &str, is_refused: bool) {
         let (alloc, at) = (self.alloc, self.at);
         let Some(note) = self.note(job) else {
             return;
@@ -157,7 +161,7 @@ impl RunNotes {
     }
 
     /// TERM was ordered.
-    pub(crate) fn termed(&mut self, job: JobNo) {
+    pub fn termed(&mut self, job: JobNo) {
         let at = self.at;
         if let Some(note) = self.note(job) {
             note.counted.term = note.counted.term.or(Some(at));
@@ -165,7 +169,7 @@ impl RunNotes {
     }
 
     /// KILL was ordered.
-    pub(crate) fn killed(&mut self, job: JobNo) {
+    pub fn killed(&mut self, job: JobNo) {
         let at = self.at;
         if let Some(note) = self.note(job) {
             note.counted.kill = Some(at);
@@ -173,7 +177,7 @@ impl RunNotes {
     }
 
     /// A run ended.
-    pub(crate) fn ended(&mut self, job: JobNo, run: u64, how: Ended) {
+    pub fn ended(&mut self, job: JobNo, run: u64, how: Ended) {
         let at = self.at;
         let Some(note) = self.note(job) else {
             return;
@@ -191,36 +195,26 @@ impl RunNotes {
     }
 
     /// The job is gone.
-    pub(crate) fn gone(&mut self, job: JobNo) {
+    pub fn gone(&mut self, job: JobNo) {
         if let Some(slot) = self.jobs.get_mut(job as usize) {
             drop(slot.take());
         }
     }
 
-    /// A line is told: it may be the reason of a refused start.
-    pub(crate) fn told(&mut self, notice: &Notice) {
-        if let NoticeKind::Run = notice.kind {
-            return;
-        }
+    /// A refusal is told in this line: it may be the reason of a refused start.
+    pub fn told(&mut self, line: &str) {
         let alloc = self.alloc;
         for slot in self.jobs.iter_mut() {
             if let Some(note) = slot {
-                note.take_reason(alloc, notice.text.as_str());
+                note.take_reason(alloc, line);
             }
         }
     }
-}
 
-impl Notes for RunNotes {
-    fn of(&self, job: JobNo) -> JobNote<'_> {
+    /// What was heard of this job since its load.
+    pub(crate) fn of(&self, job: JobNo) -> JobNote<'_> {
         let (counted, reason) = match self.jobs.get(job as usize) {
-            Some(Some(note)) => (
-                note.counted,
-                match &note.reason {
-                    Some(reason) => Some(reason.as_str()),
-                    None => None,
-                },
-            ),
+            Some(Some(note)) => (note.counted, lent(&note.reason)),
             _ => (Counted::new(self.at), None),
         };
         let refused = match counted.refused {
