@@ -4,10 +4,11 @@ ghost use Rattle.std.specs.Prelude.{◌≡◌, true};
 ghost use Rattle.jobd.specs.Standings.{IsStatusText};
 
 use crate::own_process::OwnProcess;
-use crate::run_notes::RunNotes;
 use history_model::{JobNo, Reading, Refusal, Text};
 use job_table::JobTable;
-use status_file::{JournalStatus, LauncherStatus, StatusText, VERSION, add_jobs, add_launcher};
+use status_file::{
+    JournalStatus, LauncherStatus, RunNotes, StatusText, VERSION, add_jobs, add_launcher,
+};
 use std::alloc::Global;
 
 /// Why a journal is closed, as far as it is known here.
@@ -62,26 +63,29 @@ impl Keeper {
         self.has_refused = self.has_refused || refusal == Some(Refusal::StoreRefused);
     }
 
+    fn journal(&self) -> JournalStatus<'static> {
+        if !self.has_journal {
+            JournalStatus::None
+        } else if self.is_closed {
+            JournalStatus::Closed(CLOSED)
+        } else {
+            JournalStatus::Open
+        }
+    }
+
     /// Writes the text of the file anew. False: it found no memory.
     pub(crate) fn write(&mut self, table: &JobTable, at: Reading) -> bool
         ensures { result ≡ true → IsStatusText table.now self.new.text.bytes.items }
     {
         self.notes.see_all(table);
         self.text.clear();
-        let journal = if !self.has_journal {
-            JournalStatus::None
-        } else if self.is_closed {
-            JournalStatus::Closed(CLOSED)
-        } else {
-            JournalStatus::Open
-        };
         let launcher = LauncherStatus {
             version: VERSION,
             pid: self.own.pid,
             began: self.own.began,
             header: self.header.as_str(),
             at,
-            journal,
+            journal: self.journal(),
             store: if self.has_refused {
                 Some(REFUSED)
             } else {

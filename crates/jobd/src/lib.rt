@@ -9,7 +9,6 @@ mod news;
 mod own_process;
 mod round_edge;
 mod round_launcher;
-mod run_notes;
 mod serving;
 mod sleep;
 mod standing_file;

@@ -4,6 +4,7 @@ ghost use Rattle.std.specs.Prelude.{◌≡◌, ℕ, List, true, false};
 ghost use Rattle.launcher.specs.Inputs.{input_event, wants_memory};
 ghost use Rattle.launcher.specs.LoadTurns.{is_memory};
 
+use crate::keeper::Keeper;
 use crate::kill_waits::{counted, counting};
 use crate::news::{is_news, later_of};
 use crate::round_edge::{RoundEdge, SleepEdge};
@@ -194,15 +195,23 @@ impl<T: SettingStore, E: RoundEdge, W: Write> RoundLauncher<T, E, W> {
     ghost use Rattle.jobd.specs.Launches.{lent};
     ghost use Rattle.jobd.specs.Standings.{IsStatusText};
 
-    // Has the file on how the launcher stands written, if it is kept and is to be written in this round. True: a text was handed to it.
+    // Has the file on how the launcher stands written, if it is kept and is to be written in this round. True: its text was handed to it, that of
+    // the table as it is now.
     fn write_status(&mut self) -> bool
         ensures asks { (edge : E) × (self.new ≡ lent edge self.old) }
         ensures handed { result ≡ true → (text : List ℕ) × (edge : E) × IsStatusText self.old.host.table text × E.Hands text edge self.new.host.edge }
     {
         let (at, is_active) = (self.at, self.is_active);
-        let Some(keeper) = self.host.edge().lend_keeper(at, is_active) else {
-            return false;
-        };
+        match self.host.edge().lend_keeper(at, is_active) {
+            Some(keeper) => self.write_by(keeper, at),
+            None => false,
+        }
+    }
+
+    fn write_by(&mut self, keeper: Keeper, at: Reading) -> bool
+        ensures asks { (edge : E) × (self.new ≡ lent edge self.old) }
+        ensures handed { result ≡ true → (text : List ℕ) × (edge : E) × IsStatusText self.old.host.table text × E.Hands text edge self.new.host.edge }
+    {
         let mut keeper = keeper;
         let is_whole = keeper.write(self.host.table(), at);
         self.host.edge().hand(keeper, is_whole, at);
@@ -358,7 +367,7 @@ impl<T: SettingStore, E: RoundEdge, W: Write> LoopHost for RoundLauncher<T, E, W
     // It is the last that each round asks before it tells what there is to tell.
     fn forward(&mut self) -> bool {
         let may_go_on = self.host.edge().forward();
-        let _is_handed = self.write_status();
+        self.write_status();
         may_go_on
     }
 
@@ -371,10 +380,11 @@ impl<T: SettingStore, E: RoundEdge, W: Write> LoopHost for RoundLauncher<T, E, W
     }
 
     fn report_journal_closing(&mut self) -> bool {
-        let is_closed = self.host.report_journal_closing();
-        if is_closed {
+        if self.host.report_journal_closing() {
             self.host.edge().note_closing();
+            true
+        } else {
+            false
         }
-        is_closed
     }
 }

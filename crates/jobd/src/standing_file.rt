@@ -6,7 +6,7 @@ use history_model::{Reading, SECOND, Text};
 use std::alloc::Global;
 use std::fs::OpenOptions;
 use std::os::unix::fs::OpenOptionsExt;
-use std::{fs, io};
+use std::{fs, io, mem};
 
 /// The file, with its lock, which is held as long as this lives.
 #[derive(Drop)]
@@ -116,15 +116,12 @@ impl<R: System> StandingFile<R> {
         }
         self.is_refused = true;
         let path = self.path.as_str();
-        match format!(in self.alloc; "status file {path}: {error}") {
-            Ok(line) => {
-                let notice = Notice {
-                    kind: NoticeKind::Refusal,
-                    text: Text::new(line),
-                };
-                drop(self.untold.replace(notice));
-            }
-            Err(_) => {}
+        if let Ok(line) = format!(in self.alloc; "status file {path}: {error}") {
+            let notice = Notice {
+                kind: NoticeKind::Refusal,
+                text: Text::new(line),
+            };
+            drop(mem::replace(&mut self.untold, Some(notice)));
         }
     }
 

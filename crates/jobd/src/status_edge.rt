@@ -7,12 +7,13 @@ use crate::keeper::Keeper;
 use crate::round_edge::{RoundEdge, SleepEdge};
 use crate::standing_file::StandingFile;
 use child_edge::{
-    ChildEdge, Client, ClockEdge, Edge, EdgeFault, Notice, PathEdge, SocketEdge, System,
+    ChildEdge, Client, ClockEdge, Edge, EdgeFault, Notice, NoticeKind, PathEdge, SocketEdge, System,
 };
 use history_model::definition::Def;
 use history_model::{Ended, JobNo, Obs, Reading, Refusal};
 use live_loop::{Caller, Origin};
 use mio::{Registry, Token};
+use std::mem;
 
 /// The edge, and what keeps the file, if one is kept.
 #[derive(Drop)]
@@ -41,16 +42,26 @@ impl<E: RoundEdge, R: System> StatusEdge<E, R> {
             slept: 0,
         }
     }
+}
 
-    // From now on this is the reading of what is noted: that of an edge whose clock stands still in sleeps, with the sleep since the first.
-    fn note_reading(&mut self, awake: Reading) {
-        let slept = self.slept.saturating_sub(self.before.unwrap_or(self.slept));
-        if let Some(keeper) = &mut self.keeper {
-            keeper.notes.at = Reading {
-                up: awake.up.saturating_add(slept),
-                wall: awake.wall,
-            };
-        }
+// From now on this is the reading of what is noted: that of a clock that stands still in sleeps, with the sleep since the first.
+fn note_reading(kept: &mut Option<Keeper>, awake: Reading, slept: u64) {
+    if let Some(keeper) = kept {
+        keeper.notes.at = Reading {
+            up: awake.up.saturating_add(slept),
+            wall: awake.wall,
+        };
+    }
+}
+
+fn note_end(
+    kept: &mut Option<Keeper>,
+    job: JobNo,
+    run: u64,
+    answer: &Result<Option<Ended>, EdgeFault>,
+) {
+    if let (Some(keeper), Ok(Some(how))) = (kept, answer) {
+        keeper.notes.ended(job, run, *how);
     }
 }
 
@@ -91,9 +102,7 @@ impl<E: RoundEdge, R: System> ChildEdge for StatusEdge<E, R> {
 
     fn poll(&mut self, job: JobNo, run: u64) -> Result<Option<Ended>, EdgeFault> {
         let answer = self.edge.poll(job, run);
-        if let (Ok(Some(how)), Some(keeper)) = (&answer, &mut self.keeper) {
-            keeper.notes.ended(job, run, *how);
-        }
+        note_end(&mut self.keeper, job, run, &answer);
         answer
     }
 }
@@ -138,8 +147,9 @@ impl<E: RoundEdge, R: System> PathEdge for StatusEdge<E, R> {
 impl<E: RoundEdge, R: System> ClockEdge for StatusEdge<E, R> {
     fn read(&mut self) -> Result<Reading, EdgeFault> {
         let answer = self.edge.read();
-        if let Ok(awake) = answer {
-            self.note_reading(awake);
+        if let Ok(awake) = &answer {
+            let slept = self.slept.saturating_sub(self.before.unwrap_or(self.slept));
+            note_reading(&mut self.keeper, *awake, slept);
         }
         answer
     }
@@ -205,7 +215,9 @@ impl<E: RoundEdge, R: System> RoundEdge for StatusEdge<E, R> {
         }
         let notice = self.edge.next_notice()?;
         if let Some(keeper) = &mut self.keeper {
-            keeper.notes.told(&notice);
+            if let NoticeKind::Refusal = notice.kind {
+                keeper.notes.told(notice.text.as_str());
+            }
         }
         Some(notice)
     }
@@ -239,6 +251,8 @@ impl<E: RoundEdge, R: System> RoundEdge for StatusEdge<E, R> {
                 file.put_off(at);
             }
         }
-        drop(self.keeper.replace(keeper));
+        let mut keeper = keeper;
+        keeper.text.clear();
+        drop(mem::replace(&mut self.keeper, Some(keeper)));
     }
 }

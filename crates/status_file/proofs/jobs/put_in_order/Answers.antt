@@ -5,4 +5,4 @@ pub returns-in-Ok : goal.returns-in-Ok
 returns-in-Ok c = no_line c.args.table.now c.args.text.now
 
 pub returns-in-Err : goal.returns-in-Err
-returns-in-Err c = no_memory c.args.table.now c.args.text.now _ c.refuse-in-Err.ensures
+returns-in-Err c = no_memory c.args.table.now c.args.text.now _ c.refuse.ensures
