@@ -195,9 +195,9 @@ impl<T: SettingStore, E: RoundEdge, W: Write> RoundLauncher<T, E, W> {
     ghost use Rattle.jobd.specs.Launches.{lent};
     ghost use Rattle.jobd.specs.Standings.{IsStatusText};
 
-    // Has the file on how the launcher stands written, if it is kept and is to be written in this round. True: its text was handed to it, that of
-    // the table as it is now.
-    fn write_status(&mut self) -> bool
+    /// Has the file on how the launcher stands written, if it is kept and is to be written in this round. True: its text was handed to it, that of
+    /// the table as it is now.
+    pub fn write_status(&mut self) -> bool
         ensures asks { (edge : E) × (self.new ≡ lent edge self.old) }
         ensures handed { result ≡ true → (text : List ℕ) × (edge : E) × IsStatusText self.old.host.table text × E.Hands text edge self.new.host.edge }
     {

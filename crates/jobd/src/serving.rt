@@ -84,10 +84,13 @@ fn kept_for(
     zone: ZoneText,
     reading: Reading,
 ) -> (ZoneText, Option<(StandingFile<HostRuntime>, Keeper)>) {
-    let path = match env::var(host, STATUS_FILE) {
-        Ok(path) if !path.is_empty() => path,
-        _ => return (zone, None),
+    let Ok(path) = env::var(host, STATUS_FILE) else {
+        return (zone, None);
     };
+    if path.is_empty() {
+        drop(path);
+        return (zone, None);
+    }
     let (zone, line) = headed(alloc, zone, reading);
     let file = StandingFile::take(host, alloc, path.as_str(), plan.standing.user);
     let level = plan.wishes.level;

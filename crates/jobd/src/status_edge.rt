@@ -60,8 +60,10 @@ fn note_end(
     run: u64,
     answer: &Result<Option<Ended>, EdgeFault>,
 ) {
-    if let (Some(keeper), Ok(Some(how))) = (kept, answer) {
-        keeper.notes.ended(job, run, *how);
+    if let Ok(Some(how)) = answer {
+        if let Some(keeper) = kept {
+            keeper.notes.ended(job, run, *how);
+        }
     }
 }
 

@@ -58,8 +58,8 @@ fn ordered(table: &JobTable, order: &mut Vec<JobNo>) -> Result<(), AllocError> {
     order.clear();
     for job in 0..NUMBERS {
         if let Some((label, _)) = job_of(table, job) {
-            let place = place_of(table, order.as_slice(), label);
-            order.insert(place.min(order.len()), job)?;
+            let place = place_of(table, order.as_slice(), label).min(order.len());
+            order.insert(place, job)?;
         }
     }
     Ok(())

@@ -5,6 +5,7 @@ use crate::status::{JobNote, RefusedStart, RunEnd};
 use history_model::{Ended, JobNo, Reading, Text};
 use job_table::JobTable;
 use std::alloc::Global;
+use std::mem;
 
 /// What is counted of the runs of a job.
 #[derive(Clone, Copy)]
@@ -57,11 +58,13 @@ impl RunNote {
 
     // Takes the reason, if the line tells the refused start that is the last.
     fn take_reason(&mut self, alloc: Global, line: &str) {
-        let (Some(label), Some((run, _))) = (&self.label, self.counted.refused) else {
-            return;
+        let reason = match (&self.label, self.counted.refused) {
+            (Some(label), Some((run, _))) => reason_in(line, label.as_str(), run),
+            _ => None,
         };
-        if let Some(reason) = reason_in(line, label.as_str(), run) {
-            self.reason = Text::copy_of(alloc, reason).ok();
+        if let Some(reason) = reason {
+            let kept = Text::copy_of(alloc, reason).ok();
+            drop(mem::replace(&mut self.reason, kept));
         }
     }
 }
