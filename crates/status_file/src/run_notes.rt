@@ -186,9 +186,9 @@ impl RunNotes {
             return;
         };
         let counted = &mut note.counted;
-        let is_failure = how != Ended::Code(0);
+        let failed = if how == Ended::Code(0) { 0 } else { 1 };
         counted.since = at;
-        counted.failures = counted.failures.saturating_add(u64::from(is_failure));
+        counted.failures = counted.failures.saturating_add(failed);
         counted.last_end = Some(RunEnd {
             run,
             how,
