@@ -12,7 +12,6 @@ mod report;
 mod texts;
 mod zone;
 
-pub use journal::facts::JobFacts;
 pub use journal::fault::JournalFault;
 pub use journal::lines::{Hears, JournalLines};
 pub use journal::reader::{OpenJournal, open};

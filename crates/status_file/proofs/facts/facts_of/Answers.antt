@@ -1,8 +1,8 @@
 use Rattle.std.proofs.Common.{◌≡◌, None, sym, subst, rules}
 use Rattle.history_model.specs.Machine.{past_of}
-use Rattle.scope.specs.Facts.{HasFacts}
-use Rattle.scope.proofs.FactsLemmas.{told, untold, unmoved}
-use Rattle.scope.proofs.journal.facts.facts_in.Goals as goal
+use Rattle.status_file.specs.Facts.{HasFacts}
+use Rattle.status_file.proofs.FactsLemmas.{told, untold, unmoved}
+use Rattle.status_file.proofs.facts.facts_of.Goals as goal
 
 pub returns-in_err-reasons : goal.returns-in_err-reasons
 returns-in_err-reasons c = λ s keeps.

@@ -1,0 +1,5 @@
+use Rattle.status_file.proofs.JobsLemmas.{no_line}
+use Rattle.status_file.proofs.jobs.add_numbered.Goals as goal
+
+pub returns-in-None : goal.returns-in-None
+returns-in-None c = no_line c.args.table.now c.args.text.now
