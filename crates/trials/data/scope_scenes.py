@@ -158,7 +158,7 @@ def jobscope_cron(stage):
 
 
 def a_line_too_long(stage):
-    """`why` tells what stands before a line that is too long, and that it is."""
+    """`why`, `runs` and `picture` tell what stands before a line that is too long, and that it is."""
     lines = [HEADER, load_of("web"), '{"ev":"start","job":"web"}\n', " " * 262145 + "\n", '{"ev":"spawned","job":"web","run":1,"pid":5}\n']
     path = make(stage.at("long"), "".join(lines))
     ran = subprocess.run([*stage.given.jobscope, "why", "--journal", path], capture_output=True, timeout=BOUND, text=True)
@@ -166,6 +166,10 @@ def a_line_too_long(stage):
     awaited = "The start of run 1 was ordered, and the answer is awaited."
     check((ran.returncode, ran.stderr) == (65, told), f"a line too long got {ran.returncode} {ran.stderr!r}")
     check(awaited in ran.stdout, f"before a line too long stood {ran.stdout!r}")
+    for word, wanted in (("runs", "\nweb\t1\t0\t"), ("picture", ">web<title>web</title></text>")):
+        it = subprocess.run([*stage.given.jobscope, word, "--journal", path], capture_output=True, timeout=BOUND, text=True)
+        check((it.returncode, it.stderr) == (65, told), f"{word}: a line too long got {it.returncode} {it.stderr!r}")
+        check(wanted in it.stdout, f"{word}: before a line too long stood {it.stdout!r}")
 
 
 def a_journal_put_aside(stage):
