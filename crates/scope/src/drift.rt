@@ -56,7 +56,13 @@ pub(crate) fn drift_of(
     let read = add_filed(host, alloc, paths, &mut filed);
     let known = add_loaded(alloc, journal, &mut loaded);
     let mut ink = Ink::new(alloc);
-    let put = put_all(alloc, journal, filed.as_slice(), loaded.as_slice(), &mut ink);
+    let put = put_all(
+        alloc,
+        journal,
+        filed.as_slice(),
+        loaded.as_slice(),
+        &mut ink,
+    );
     drop(filed);
     drop(loaded);
     match (read, known, put, ink.into_text()) {
@@ -92,7 +98,11 @@ fn add_filed(
         }
     }
     drop(files);
-    if is_refused { Err(AllocError) } else { Ok(are_read) }
+    if is_refused {
+        Err(AllocError)
+    } else {
+        Ok(are_read)
+    }
 }
 
 fn add_file(
