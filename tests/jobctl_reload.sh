@@ -12,7 +12,7 @@ folder=$(mktemp -d)
 cd "$folder"
 mkdir spool
 export PATH=$programs:$PATH JOBD_SOCKET=$folder/jobd.sock
-jobd serve --socket jobd.sock --store overrides.db --spool spool >ready 2>log &
+jobd serve --socket jobd.sock --store overrides.db --spool spool --journal journal.jsonl >ready 2>log &
 launcher=$!
 trap 'jobctl shutdown >/dev/null 2>&1; wait "$launcher"; rm -rf "$folder"' EXIT
 for _ in $(seq 900); do
@@ -84,6 +84,68 @@ echo '[]' >bad.json
 wants 8 'bad.json: refused' bad.json a.json
 [ -n "$(pid_of "$label")" ] || fail "the second file was left out"
 
+# A misspelt key is told before the job is replaced.
+echo '{"Label":"keyed","ProgramArguments":["/bin/sleep","1000"],"RunAtLoad":true,"Keepalive":true}' >keyed.json
+wants 0 'keyed.json:1:78: warning: Keepalive: nothing acts on this key; is KeepAlive meant?' keyed.json
+
+# A folder as a whole. A job from elsewhere is only named.
+export JOBD_JOURNAL=$folder/journal.jsonl
+mkdir jobs
+define jobs/b.json b 'exec sleep 1000'
+define jobs/c.json c 'exec sleep 1000'
+define jobs/old.json old.name 'exec sleep 3000'
+# says LINE..: standard output has these lines.
+says() {
+    for line in "$@"; do
+        grep -qxF -- "$line" out || fail "no line '$line' in: $(cat out err)"
+    done
+}
+wants 0 '' --all --dry-run jobs
+says 'would load b: jobs/b.json' "leave $label, which no file of jobs has"
+[ -z "$(pid_of b)" ] || fail "a dry run loaded a job"
+wants 0 '' --all jobs
+says 'load b: jobs/b.json' 'load c: jobs/c.json' 'load old.name: jobs/old.json' "leave $label, which no file of jobs has"
+[ -n "$(pid_of b)" ] && [ -n "$(pid_of c)" ] && [ -n "$(pid_of old.name)" ] || fail "the folder was not loaded: $(jobctl list)"
+first=$(pid_of b)
+wants 0 '' --all jobs
+[ "$(pid_of b)" = "$first" ] || fail "a job that did not change was replaced"
+
+# One file changed, one was laid out anew, one has another label, one is broken, one has a misspelt key.
+define jobs/b.json b 'exec sleep 2000'
+printf ' ' >>jobs/c.json
+second=$(pid_of c)
+define jobs/old.json new.name 'exec sleep 3000'
+echo '{"Label":"broken","Program":"/bin/true","StartInterval":0}' >jobs/broken.json
+echo '{"Label":"spelt","Program":"/bin/true","Keepalive":true}' >jobs/spelt.json
+wants 1 'jobs/spelt.json:1:38: warning: Keepalive: nothing acts on this key; is KeepAlive meant?' --all --strict jobs
+grep -qF 'nothing was done' err || fail "--strict: $(cat err)"
+[ "$(pid_of b)" = "$first" ] || fail "--strict replaced a job"
+wants 65 'jobs/broken.json: bad definition: OutOfRange StartInterval' --all jobs
+says 'replace b (ProgramArguments): jobs/b.json' 'unload old.name, load new.name: jobs/old.json' 'load spelt: jobs/spelt.json'
+[ "$(pid_of b)" != "$first" ] || fail "a changed job was not replaced"
+[ "$(pid_of c)" = "$second" ] || fail "a job whose file was laid out anew was replaced"
+[ -z "$(pid_of old.name)" ] && [ -n "$(pid_of new.name)" ] || fail "the old label still runs: $(jobctl list)"
+rm jobs/broken.json jobs/spelt.json jobs/c.json
+
+# What the folder had is named, and unloaded by --prune alone; what is from elsewhere stays.
+wants 0 '' --all jobs
+says 'leave c, which no file of jobs has any more (--prune unloads it)'
+wants 0 '' --all --prune --dry-run jobs
+says 'would unload c, which no file of jobs has any more'
+[ -n "$(pid_of c)" ] || fail "a dry run unloaded a job"
+wants 0 '' --all --prune jobs
+says 'unload c, which no file of jobs has any more' "leave $label, which no file of jobs has"
+[ -z "$(pid_of c)" ] && [ -n "$(pid_of "$label")" ] || fail "--prune: $(jobctl list)"
+
+# A journal of another launcher, and none.
+echo '{"up":0,"wall":1700000000,"zone":"UTC0"}' >other.jsonl
+wants 65 'it does not name the jobs that the launcher lists' --all --journal other.jsonl jobs
+wants 65 'no/such' --all --journal no/such jobs
+wants 65 'no folder' --all none
+wants 64 'usage:' --all
+wants 64 'usage:' --prune a.json
+(unset JOBD_JOURNAL && wants 64 'no journal is named' --all jobs)
+
 # A label that does not go in time.
 define deaf.json deaf "trap '' TERM; : >deaf; while :; do sleep 1; done" ', "ExitTimeOut": 5'
 wants 0 '' deaf.json
@@ -100,4 +162,5 @@ jobctl shutdown
 wait "$launcher"
 trap 'rm -rf "$folder"' EXIT
 wants 69 '' a.json
+wants 69 '' --all jobs
 echo "jobctl_reload: passed, with $shell"

@@ -34,7 +34,7 @@ function __jobscope_files
     __fish_complete_suffix .plist
 end
 
-set -l subcommands check next why log runs picture cron plist help
+set -l subcommands check next why log runs picture show drift cron plist help
 set -l none "not __fish_seen_subcommand_from $subcommands"
 
 complete -c jobscope -f
@@ -45,6 +45,8 @@ complete -c jobscope -n $none -a why -d 'Say why each job runs or not'
 complete -c jobscope -n $none -a log -d "Tell a journal's events to people"
 complete -c jobscope -n $none -a runs -d "Count each job's runs"
 complete -c jobscope -n $none -a picture -d "Draw each job's runs over time"
+complete -c jobscope -n $none -a show -d 'Show definitions as they are loaded'
+complete -c jobscope -n $none -a drift -d 'Say how files of definitions differ from what is loaded'
 complete -c jobscope -n $none -a cron -d 'Write a definition for each line of a crontab'
 complete -c jobscope -n $none -a plist -d 'Write property lists in XML as definitions in JSON'
 complete -c jobscope -n $none -a help -d 'Print help'
@@ -52,7 +54,7 @@ complete -c jobscope -n '__fish_seen_subcommand_from cron' -a - -d 'The lines of
 complete -c jobscope -n '__fish_seen_subcommand_from cron' -l system -d "The lines have a user's field"
 complete -c jobscope -n '__fish_seen_subcommand_from cron plist' -l into -r -F -d 'Write a file for each definition in this folder'
 complete -c jobscope -n '__fish_seen_subcommand_from plist' -a '(__fish_complete_suffix .plist)'
-complete -c jobscope -n '__fish_seen_subcommand_from check next' -a '(__jobscope_files)'
+complete -c jobscope -n '__fish_seen_subcommand_from check next drift' -a '(__jobscope_files)'
 complete -c jobscope -n '__fish_seen_subcommand_from check' -l strict -d 'Fail at a warning too'
 complete -c jobscope -n '__fish_seen_subcommand_from check next' -l zone -x -d 'The zone as a POSIX rule'
 complete -c jobscope -n '__fish_seen_subcommand_from check next' -l zone-file -r -F -d 'The zone as a zone file'
@@ -60,9 +62,9 @@ complete -c jobscope -n '__fish_seen_subcommand_from check next' -l utc -d 'UTC 
 complete -c jobscope -n '__fish_seen_subcommand_from check' -l now -x -d 'From this second of Unix time on'
 complete -c jobscope -n '__fish_seen_subcommand_from next' -s n -x -d 'How many starts'
 complete -c jobscope -n '__fish_seen_subcommand_from next' -l from -x -d 'After this second of Unix time'
-complete -c jobscope -n '__fish_seen_subcommand_from why log runs picture' -l journal -r -F -d 'The journal'
-complete -c jobscope -n '__fish_seen_subcommand_from why log runs picture' -a '(__jobscope_labels)'
-complete -c jobscope -n '__fish_seen_subcommand_from why log picture' -l utc -d 'Show times in UTC'
+complete -c jobscope -n '__fish_seen_subcommand_from why log runs picture show drift' -l journal -r -F -d 'The journal'
+complete -c jobscope -n '__fish_seen_subcommand_from why log runs picture show' -a '(__jobscope_labels)'
+complete -c jobscope -n '__fish_seen_subcommand_from why log picture show' -l utc -d 'Show times in UTC'
 complete -c jobscope -n '__fish_seen_subcommand_from picture' -l html -d 'Write a page that stands alone'
 complete -c jobscope -n '__fish_seen_subcommand_from log' -s f -d 'Go on as the journal grows'
 complete -c jobscope -n '__fish_seen_subcommand_from log' -l since -x -d 'From this second of Unix time on'

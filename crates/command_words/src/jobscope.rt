@@ -63,9 +63,9 @@ fn command_in(
 
 fn words_in(alloc: Global, task: Task, found: &ArgMatches<'_>) -> Result<Paths, AllocError> {
     let id = match task {
-        Task::Check | Task::Next | Task::Plist => "paths",
+        Task::Check | Task::Next | Task::Plist | Task::Drift => "paths",
         Task::Cron => "lines",
-        Task::Why | Task::Log | Task::Runs | Task::Picture => "labels",
+        Task::Why | Task::Log | Task::Runs | Task::Picture | Task::Show => "labels",
     };
     match values_of(alloc, found, id)? {
         Some(words) => Ok(words),

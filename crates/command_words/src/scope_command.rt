@@ -22,6 +22,10 @@ pub enum Task {
     Cron,
     /// Write property lists in XML as definitions in JSON.
     Plist,
+    /// Show the definitions that are loaded.
+    Show,
+    /// Compare files of definitions with what is loaded.
+    Drift,
 }
 
 /// The names of the subcommands, in the order of the help.
@@ -32,6 +36,8 @@ pub(crate) const TASKS: &[(&str, Task)] = &[
     ("log", Task::Log),
     ("runs", Task::Runs),
     ("picture", Task::Picture),
+    ("show", Task::Show),
+    ("drift", Task::Drift),
     ("cron", Task::Cron),
     ("plist", Task::Plist),
 ];

@@ -18,6 +18,9 @@ const PLIST_EXIT: &str =
 const JOURNAL_EXIT: &str =
     "Exit status: 0 done; 1 no memory; 64 these words are no command; 65 the journal can't be read, or is none.";
 
+const DRIFT_EXIT: &str =
+    "Exit status: 0 nothing differs; 1 no memory; 2 something differs; 64 these words are no command; 65 a file or the journal can't be read, or is none.";
+
 const ZONE: Argument = Argument {
     id: "zone",
     form: Form::Value { required: false },
@@ -139,6 +142,10 @@ const PICTURE: &[Argument] = &[
     },
 ];
 
+const SHOW: &[Argument] = &[JOURNAL, LABELS, UTC];
+
+const DRIFT: &[Argument] = &[JOURNAL, PATHS];
+
 const INTO: Argument = Argument {
     id: "into",
     form: Form::Value { required: false },
@@ -209,6 +216,18 @@ const SUBCOMMANDS: &[Subcommand] = &[
         about: "Draw each job's runs over time",
         after: JOURNAL_EXIT,
         arguments: PICTURE,
+    },
+    Subcommand {
+        name: "show",
+        about: "Show definitions as they are loaded, and when they were",
+        after: JOURNAL_EXIT,
+        arguments: SHOW,
+    },
+    Subcommand {
+        name: "drift",
+        about: "Say how files of definitions differ from what is loaded",
+        after: DRIFT_EXIT,
+        arguments: DRIFT,
     },
     Subcommand {
         name: "cron",

@@ -9,7 +9,7 @@ use std::io;
 use std::io::{ErrorKind, Write};
 
 /// The text of JSON with a line for each member and item, and a newline. The keys stay in their order.
-pub(crate) fn laid_out(alloc: Global, text: &str) -> Result<Vec<u8>, AllocError> {
+pub fn laid_out(alloc: Global, text: &str) -> Result<Vec<u8>, AllocError> {
     let mut scratch = Scratch::new(alloc);
     let mut pretty = Pretty::new(alloc);
     let put = match Reader::new(text, &mut scratch) {

@@ -12,5 +12,6 @@ mod verdict;
 
 pub use coming::calendar_after;
 pub use files::{Asked, Contents, DefinitionSource, HostFiles};
+pub use folder::laid_out;
 pub use starts::coming_starts;
 pub use verdict::Verdict;

@@ -29,6 +29,9 @@ pub const SPOOL: u8 = 10;
 /// `jobscope check`: a file would not be loaded. `jobscope cron`: a line is refused.
 pub const REFUSED: u8 = 1;
 
+/// `jobscope drift`: a file differs from what is loaded, or a loaded job has no file.
+pub const DIFFERS: u8 = 2;
+
 /// The words are no command (`EX_USAGE`): all three programs.
 pub const USAGE: u8 = 64;
 

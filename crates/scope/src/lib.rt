@@ -3,6 +3,7 @@
 
 mod charted;
 mod clock;
+mod drift;
 mod journal;
 mod listener;
 mod log;

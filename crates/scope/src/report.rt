@@ -1,7 +1,8 @@
 //! What is told of a journal: its events, as they are read or as they come, and once it was read to its end why each job stands as it
-//! does, what its runs came to, and their picture.
+//! does, what its runs came to, and their picture, the definitions that are loaded, and how files differ from them.
 
 use crate::charted::{HeardMarks, chart_of};
+use crate::drift::drift_of;
 use crate::journal::fault::{JournalFault, tell_fault, tell_long};
 use crate::journal::lines::JournalLines;
 use crate::journal::reader::OpenJournal;
@@ -10,6 +11,7 @@ use crate::listener::{JournalListener, zone_shown};
 use crate::log::follow;
 use crate::page::coming_of;
 use crate::texts::runs::runs_table;
+use crate::texts::show::show_text;
 use crate::texts::unknown::unknown_text;
 use crate::texts::why::{is_known, why_text};
 use calendar_due::Zone;
@@ -17,7 +19,7 @@ use exit_status::BAD_FILE;
 use history_model::Text;
 use launchctl_words::{ScopeCommand, Task};
 use run_times::picture::{Beside, Chart, blocks_text, picture_piece};
-use run_times::telling::{put_made, tell_of};
+use run_times::telling::{put_made, put_outcome, tell_of};
 use std::alloc::Global;
 use std::io::IsTerminal;
 use std::sync::Wait;
@@ -95,10 +97,15 @@ fn write_report(
         Task::Why => put_made(host, why_text(alloc, journal, zone, labels)),
         Task::Runs => put_runs(host, alloc, name, journal, labels),
         Task::Picture => paint(host, alloc, journal, zone, &listener.heard, of),
+        Task::Show => put_made(host, show_text(alloc, journal, zone, labels)),
+        Task::Drift => {
+            return put_outcome(&mut host.stdout(), drift_of(host, alloc, journal, labels));
+        }
         _ => Ok(()),
     };
     match (written, of.task) {
         (Ok(()), Task::Why) => tell_unknown(host, alloc, name, journal, labels),
+        (Ok(()), Task::Show) => tell_absent(host, name, journal, labels),
         (Ok(()), _) => Ok(0),
         (Err(error), _) => Err(error),
     }
@@ -131,6 +138,27 @@ fn tell_unknown(
         let label = label.as_str();
         if !is_known(journal, label) {
             let told = unknown_text(alloc, journal, label)?;
+            tell_of(host, name, &told);
+            drop(told);
+            status = BAD_FILE;
+        }
+    }
+    Ok(status)
+}
+
+// Tells each of the labels that is not loaded. It answers the exit status, which is 65 then.
+fn tell_absent(
+    host: &HostRuntime,
+    name: &str,
+    journal: &OpenJournal,
+    labels: &[Text],
+) -> io::Result<u8> {
+    let mut status = 0;
+    for label in labels {
+        let label = label.as_str();
+        if journal.facts(label).is_none() {
+            let alloc = host.alloc();
+            let told = format!(in alloc; "{label} is not loaded")?;
             tell_of(host, name, &told);
             drop(told);
             status = BAD_FILE;

@@ -7,6 +7,7 @@ pub(crate) mod coming;
 pub(crate) mod fronts;
 pub(crate) mod log;
 pub(crate) mod runs;
+pub(crate) mod show;
 pub(crate) mod told;
 pub(crate) mod unknown;
 pub(crate) mod why;

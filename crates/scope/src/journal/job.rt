@@ -67,6 +67,8 @@ const NOTHING: Totals = Totals {
 pub(crate) struct KeptJob {
     /// Its definition, while it is loaded.
     pub(crate) def: Option<Def>,
+    /// The text of its definition, while it is loaded.
+    pub(crate) text: Option<String>,
     pub(crate) record: Record,
 }
 

@@ -110,7 +110,8 @@ impl Past {
         writes_setting: bool,
         at: Reading,
     ) -> Result<(), AllocError> {
-        let Ok(def) = read_def(alloc, def.as_bytes()) else {
+        let text = def;
+        let Ok(def) = read_def(alloc, text.as_bytes()) else {
             return Err(AllocError);
         };
         let told = self.add_news(alloc, def.label(), What::Loaded);
@@ -120,7 +121,7 @@ impl Past {
         } else {
             Ok(())
         };
-        let kept = self.load(alloc, def, at);
+        let kept = self.load(alloc, def, text, at);
         match (told, known, enabled) {
             (Ok(()), Ok(()), Ok(())) => kept,
             _ => Err(AllocError),
@@ -220,6 +221,7 @@ impl Past {
             Act::Gone => {
                 job.record.leave(at);
                 drop(job.def.take());
+                drop(job.text.take());
                 What::Gone
             }
         };

@@ -49,9 +49,16 @@ impl Past {
         }
     }
 
-    /// A job is loaded.
-    pub(crate) fn load(&mut self, alloc: Global, def: Def, at: Reading) -> Result<(), AllocError> {
+    /// A job is loaded, by the definition with this text.
+    pub(crate) fn load(
+        &mut self,
+        alloc: Global,
+        def: Def,
+        text: &str,
+        at: Reading,
+    ) -> Result<(), AllocError> {
         let label = String::from_str(alloc, def.label());
+        let text = String::from_str(alloc, text);
         let mut is_room = true;
         let mut record = match self.jobs.get(def.label()) {
             Some(job) => job.record.loaded_again(at),
@@ -62,12 +69,14 @@ impl Past {
             }
         };
         record.is_kept_alive = def.keep_alive() || def.successful_exit() == Some(true);
+        let is_kept = is_room && text.is_ok();
         let job = KeptJob {
             def: Some(def),
+            text: text.ok(),
             record,
         };
         match label {
-            Ok(label) if is_room => match self.jobs.insert(label, job) {
+            Ok(label) if is_kept => match self.jobs.insert(label, job) {
                 Ok(old) => {
                     drop(old);
                     Ok(())

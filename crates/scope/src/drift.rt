@@ -1,0 +1,343 @@
+//! How files of definitions differ from what is loaded.
+
+use crate::journal::reader::OpenJournal;
+use ctl_protocol::LINE_LIMIT;
+use definition_files::{Contents, DefinitionSource, HostFiles};
+use exit_status::{BAD_FILE, DIFFERS};
+use files_and_process::path_files::{Found, files_at};
+use history_model::{KeyName, Text};
+use job_defs::{DefFault, read_def};
+use json_kinds::kinds::is_among;
+use json_kinds::{json_value, key_name};
+use run_times::telling::{Outcome, tell_of};
+use run_times::{Ink, Piece};
+use serde_json::{Map, Value};
+use std::alloc::{AllocError, Global};
+
+/// A definition: of a file, or as it is loaded.
+#[derive(Drop)]
+struct Placed {
+    /// The path of its file; empty, if it is loaded.
+    path: String,
+    label: String,
+    def: Value,
+    /// It has `Disabled`.
+    is_disabled: bool,
+}
+
+/// How a file's definition stands to what is loaded.
+#[derive(Clone, Copy)]
+enum Standing<'a> {
+    /// The two are one JSON value.
+    Same,
+    /// These keys differ.
+    Changed(&'a str),
+    /// Nothing of its label is loaded.
+    New,
+    /// Nothing of its label is loaded, since a setting or its own `Disabled` says so.
+    Disabled,
+    /// Nothing of its label is loaded, but this label is, which no file has, by a definition that differs in the label alone.
+    Renamed(&'a str),
+    /// A file before it has the same label.
+    Twice,
+}
+
+/// A line for each file, in order, and then one for each loaded job that no file has: how it stands, its label, the file, and the keys that
+/// differ or the label that it had, with tabs between. What can't be read, or is no definition, is told. The status is 65 if there is such a
+/// file, else 2 if anything differs, else 0.
+pub(crate) fn drift_of(
+    host: &HostRuntime,
+    alloc: Global,
+    journal: &OpenJournal,
+    paths: &[Text],
+) -> Result<Outcome, AllocError> {
+    let mut filed = Vec::new(alloc);
+    let mut loaded = Vec::new(alloc);
+    let read = add_filed(host, alloc, paths, &mut filed);
+    let known = add_loaded(alloc, journal, &mut loaded);
+    let mut ink = Ink::new(alloc);
+    let put = put_all(
+        alloc,
+        journal,
+        filed.as_slice(),
+        loaded.as_slice(),
+        &mut ink,
+    );
+    drop(filed);
+    drop(loaded);
+    match (read, known, put, ink.into_text()) {
+        (Ok(are_read), Ok(()), Ok(differs), Ok(text)) => Ok(Outcome {
+            text,
+            status: match (are_read, differs) {
+                (false, _) => BAD_FILE,
+                (true, true) => DIFFERS,
+                (true, false) => 0,
+            },
+        }),
+        (_, _, _, text) => {
+            drop(text);
+            Err(AllocError)
+        }
+    }
+}
+
+// Adds the definitions of the files. Whether each was read, and is one.
+fn add_filed(
+    host: &HostRuntime,
+    alloc: Global,
+    paths: &[Text],
+    filed: &mut Vec<Placed>,
+) -> Result<bool, AllocError> {
+    let files = files_at(host, paths)?;
+    let mut are_read = true;
+    let mut is_refused = false;
+    for file in &files {
+        match add_file(host, alloc, file, filed) {
+            Ok(is_read) => are_read = are_read && is_read,
+            Err(_) => is_refused = true,
+        }
+    }
+    drop(files);
+    if is_refused {
+        Err(AllocError)
+    } else {
+        Ok(are_read)
+    }
+}
+
+fn add_file(
+    host: &HostRuntime,
+    alloc: Global,
+    file: &Found,
+    filed: &mut Vec<Placed>,
+) -> Result<bool, AllocError> {
+    let mut source = HostFiles { host };
+    match source.read(alloc, LINE_LIMIT, file) {
+        Ok(Contents::Bytes(bytes)) => {
+            let path = file.path.as_str();
+            let added = add_read(host, alloc, path, bytes.as_slice(), filed);
+            drop(bytes);
+            added
+        }
+        Ok(Contents::Unread) => Ok(false),
+        Ok(Contents::Nothing) => Ok(true),
+        Err(error) => Err(error),
+    }
+}
+
+fn add_read(
+    host: &HostRuntime,
+    alloc: Global,
+    path: &str,
+    bytes: &[u8],
+    filed: &mut Vec<Placed>,
+) -> Result<bool, AllocError> {
+    match placed_of(alloc, path, bytes) {
+        Ok(placed) => {
+            filed.push(placed)?;
+            Ok(true)
+        }
+        Err(DefFault::NoMemory) => Err(AllocError),
+        Err(fault) => {
+            tell_of(host, path, &fault);
+            Ok(false)
+        }
+    }
+}
+
+// The definition that the bytes are.
+fn placed_of(alloc: Global, path: &str, bytes: &[u8]) -> Result<Placed, DefFault> {
+    let def = read_def(alloc, bytes)?;
+    let label = String::from_str(alloc, def.label());
+    let is_disabled = def.disabled();
+    drop(def);
+    let path = String::from_str(alloc, path);
+    let value = json_value(alloc, bytes);
+    match (path, label, value) {
+        (Ok(path), Ok(label), Ok(Some(def))) => Ok(Placed {
+            path,
+            label,
+            def,
+            is_disabled,
+        }),
+        (path, label, value) => {
+            drop(path);
+            drop(label);
+            drop(value);
+            Err(DefFault::NoMemory)
+        }
+    }
+}
+
+// Adds the definitions that are loaded, by their labels.
+fn add_loaded(
+    alloc: Global,
+    journal: &OpenJournal,
+    loaded: &mut Vec<Placed>,
+) -> Result<(), AllocError> {
+    for (_, job) in &journal.past.jobs {
+        if let Some(text) = &job.text {
+            match placed_of(alloc, "", text.as_bytes()) {
+                Ok(placed) => loaded.push(placed)?,
+                Err(_) => return Err(AllocError),
+            }
+        }
+    }
+    Ok(())
+}
+
+// The definition of this label, if there is one.
+fn of_label<'a>(among: &'a [Placed], label: &str) -> Option<&'a Placed> {
+    for placed in among {
+        if placed.label.as_str() == label {
+            return Some(placed);
+        }
+    }
+    None
+}
+
+// Puts a line for each file, and one for each loaded job that no file has. Whether something differs.
+fn put_all(
+    alloc: Global,
+    journal: &OpenJournal,
+    filed: &[Placed],
+    loaded: &[Placed],
+    ink: &mut Ink,
+) -> Result<bool, AllocError> {
+    let mut renamed = Vec::new(alloc);
+    let files = put_files(alloc, journal, filed, loaded, &mut renamed, ink);
+    let jobs = put_jobs(filed, loaded, renamed.as_slice(), ink);
+    drop(renamed);
+    match files {
+        Ok(differs) => Ok(differs || jobs),
+        Err(error) => Err(error),
+    }
+}
+
+// Puts a line for each file, and adds the labels of the jobs that are renamed. Whether one differs.
+fn put_files<'a>(
+    alloc: Global,
+    journal: &OpenJournal,
+    filed: &[Placed],
+    loaded: &'a [Placed],
+    renamed: &mut Vec<&'a str>,
+    ink: &mut Ink,
+) -> Result<bool, AllocError> {
+    let mut differs = false;
+    for (index, file) in filed.iter().enumerate() {
+        let before = filed.get(..index).unwrap_or(&[]);
+        let is_twice = of_label(before, file.label.as_str()).is_some();
+        let keys = match of_label(loaded, file.label.as_str()) {
+            Some(job) => Some(changed_keys(alloc, &file.def, &job.def)?),
+            None => None,
+        };
+        let standing = match &keys {
+            _ if is_twice => Standing::Twice,
+            Some(keys) if keys.is_empty() => Standing::Same,
+            Some(keys) => Standing::Changed(keys.as_str()),
+            None => absent(alloc, journal, file, filed, loaded, renamed)?,
+        };
+        differs = put_standing(file, standing, ink) || differs;
+        drop(keys);
+    }
+    Ok(differs)
+}
+
+// How a file stands of whose label nothing is loaded. If a loaded job is renamed by it, its label is added.
+fn absent<'a>(
+    alloc: Global,
+    journal: &OpenJournal,
+    file: &Placed,
+    filed: &[Placed],
+    loaded: &'a [Placed],
+    renamed: &mut Vec<&'a str>,
+) -> Result<Standing<'a>, AllocError> {
+    let label = file.label.as_str();
+    if file.is_disabled || journal.past.labels.of(label).disabled.is_some() {
+        return Ok(Standing::Disabled);
+    }
+    for job in loaded {
+        let old = job.label.as_str();
+        let is_free = of_label(filed, old).is_none() && !is_among(renamed.as_slice(), old);
+        if is_free && is_renamed(alloc, file, job)? {
+            renamed.push(old)?;
+            return Ok(Standing::Renamed(old));
+        }
+    }
+    Ok(Standing::New)
+}
+
+// Whether the file's definition differs from the loaded one in the label alone.
+fn is_renamed(alloc: Global, file: &Placed, job: &Placed) -> Result<bool, AllocError> {
+    let keys = changed_keys(alloc, &file.def, &job.def)?;
+    let is_label = keys.as_str() == key_name(KeyName::Label);
+    drop(keys);
+    Ok(is_label)
+}
+
+// Puts the line of a file. Whether it differs from what is loaded.
+fn put_standing(file: &Placed, standing: Standing<'_>, ink: &mut Ink) -> bool {
+    let (word, more) = match standing {
+        Standing::Same => ("same", ""),
+        Standing::Changed(keys) => ("changed", keys),
+        Standing::New => ("new", ""),
+        Standing::Disabled => ("disabled", ""),
+        Standing::Renamed(label) => ("renamed", label),
+        Standing::Twice => ("twice", ""),
+    };
+    put_line(word, file.label.as_str(), file.path.as_str(), more, ink);
+    !matches!(standing, Standing::Same | Standing::Disabled)
+}
+
+// Puts a line for each loaded job that no file has and that is not renamed. Whether there is one.
+fn put_jobs(filed: &[Placed], loaded: &[Placed], renamed: &[&str], ink: &mut Ink) -> bool {
+    let mut differs = false;
+    for job in loaded {
+        let label = job.label.as_str();
+        if of_label(filed, label).is_none() && !is_among(renamed, label) {
+            put_line("unfiled", label, "-", "", ink);
+            differs = true;
+        }
+    }
+    differs
+}
+
+fn put_line(word: &str, label: &str, path: &str, more: &str, ink: &mut Ink) {
+    let form = if more.is_empty() {
+        "$\t$\t$\n"
+    } else {
+        "$\t$\t$\t$\n"
+    };
+    let pieces = [
+        Piece::Text(word),
+        Piece::Text(label),
+        Piece::Text(path),
+        Piece::Text(more),
+    ];
+    ink.fill(form, &pieces);
+}
+
+// The keys by which the one differs from the other, in byte order of those of the first, and then those that only the second has.
+fn changed_keys(alloc: Global, one: &Value, other: &Value) -> Result<String, AllocError> {
+    let mut ink = Ink::new(alloc);
+    if let (Some(one), Some(other)) = (one.as_object(), other.as_object()) {
+        add_keys(one, other, true, &mut ink);
+        add_keys(other, one, false, &mut ink);
+    }
+    ink.into_text()
+}
+
+// Adds the keys of the one that the other lacks, and with `by_value` those whose values differ.
+fn add_keys(one: &Map<String, Value>, other: &Map<String, Value>, by_value: bool, ink: &mut Ink) {
+    for (key, value) in one {
+        let is_other = match other.get(key.as_str()) {
+            Some(found) => by_value && found != value,
+            None => true,
+        };
+        if is_other {
+            let front = if ink.text.is_empty() { "" } else { " " };
+            ink.put(front);
+            ink.put_plain(key.as_str());
+        }
+    }
+}

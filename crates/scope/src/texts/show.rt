@@ -1,0 +1,70 @@
+//! The definitions that are loaded, as they were read.
+
+use crate::journal::job::KeptJob;
+use crate::journal::reader::OpenJournal;
+use calendar_due::Zone;
+use definition_files::laid_out;
+use job_defs::Def;
+use run_times::Filling::{Moment, Text};
+use run_times::Page;
+use std::alloc::{AllocError, Global};
+use std::str::from_utf8;
+
+/// For each loaded job, or for those of the named ones that are loaded: when it was loaded, where what it writes goes, what of its definition
+/// is not acted on, and the definition, a line for each member and item. Moments are shown in the zone.
+pub(crate) fn show_text(
+    alloc: Global,
+    journal: &OpenJournal,
+    zone: &Zone,
+    labels: &[history_model::Text],
+) -> Result<String, AllocError> {
+    let mut page = Page::new(alloc, zone, journal.table.reading());
+    if labels.is_empty() {
+        for (label, job) in &journal.past.jobs {
+            add_job(&mut page, label.as_str(), job);
+        }
+    }
+    for label in labels {
+        let label = label.as_str();
+        if let Some(job) = journal.past.jobs.get(label) {
+            add_job(&mut page, label, job);
+        }
+    }
+    page.into_text()
+}
+
+fn add_job(page: &mut Page<'_>, label: &str, job: &KeptJob) {
+    let (Some(def), Some(text)) = (&job.def, &job.text) else {
+        return;
+    };
+    page.add(
+        "$ was loaded at $.\n",
+        &[Text(label), Moment(job.record.loaded.wall)],
+    );
+    add_stream(page, "Its output goes", def.standard_out_path());
+    add_stream(page, "Its errors go", def.standard_error_path());
+    add_unheeded(page, def);
+    match laid_out(page.alloc, text.as_str()) {
+        Ok(bytes) => {
+            for line in from_utf8(bytes.as_slice()).unwrap_or("").lines() {
+                page.add("$\n", &[Text(line)]);
+            }
+            drop(bytes);
+        }
+        Err(_) => page.ink.refuse(),
+    }
+}
+
+fn add_stream(page: &mut Page<'_>, front: &str, path: Option<&str>) {
+    match path {
+        Some(path) => page.add("  $ to $.\n", &[Text(front), Text(path)]),
+        None => page.add("  $ nowhere.\n", &[Text(front)]),
+    }
+}
+
+// What of its definition nothing acts on.
+fn add_unheeded(page: &mut Page<'_>, def: &Def) {
+    for name in def.not_acted_on() {
+        page.add("  Nothing acts on $.\n", &[Text(name.as_str())]);
+    }
+}
