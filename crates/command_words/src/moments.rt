@@ -51,6 +51,9 @@ fn two_digits(digits: [u8; 2], bound: u8) -> Option<u8> {
     if !(tens.is_ascii_digit() && ones.is_ascii_digit()) {
         return None;
     }
-    let number = tens.saturating_sub(b'0').saturating_mul(10).saturating_add(ones.saturating_sub(b'0'));
+    let number = tens
+        .saturating_sub(b'0')
+        .saturating_mul(10)
+        .saturating_add(ones.saturating_sub(b'0'));
     if number < bound { Some(number) } else { None }
 }

@@ -6,7 +6,7 @@ ghost use Rattle.scope.specs.Ages.{gone_on};
 
 use crate::writer::Writer;
 use history_model::{MAX_UP, MAX_WALL, Reading, SECOND};
-use run_times::Filling::{Moment, Number};
+use run_times::Filling::{Moment, Number, Time};
 use run_times::Page;
 
 /// As of which moment a journal is told.
@@ -16,18 +16,28 @@ pub(crate) enum AsOf {
     End,
     /// Its end, seen at this second, and who writes it then; None if it has no file.
     Seen(u64, Option<Writer>),
-    /// This second, up to which it was read.
-    Second(u64),
+    /// The last event up to this second. The journal has later ones, but if it ends there.
+    Moment { second: u64, is_end: bool },
 }
 
 /// The reading as of which it is told, if this is that of its last event: the clocks went on while a launcher wrote nothing, and stood still with
 /// one that is gone.
 pub(crate) fn reading_as_of(as_of: AsOf, last: Reading) -> Reading {
     match as_of {
-        AsOf::Seen(second, Some(Writer::Process(_))) | AsOf::Second(second) => {
-            gone_on(within_limits(last), second)
-        }
-        AsOf::End | AsOf::Seen(..) => last,
+        AsOf::Seen(second, Some(Writer::Process(_)))
+        | AsOf::Moment {
+            second,
+            is_end: false,
+        } => { gone_on(within_limits(last), second) }
+        AsOf::End | AsOf::Seen(..) | AsOf::Moment { .. } => last,
+    }
+}
+
+/// The reading that the clocks show then, if they went on alike, whether a launcher looked at them or not.
+pub(crate) fn clock_as_of(as_of: AsOf, last: Reading) -> Reading {
+    match as_of {
+        AsOf::Seen(second, _) => gone_on(within_limits(last), second),
+        as_of => reading_as_of(as_of, last),
     }
 }
 
@@ -59,7 +69,10 @@ pub(crate) fn gone_on(last: Reading, second: u64) -> Reading
 pub(crate) fn add_head(page: &mut Page<'_>, as_of: AsOf, last: Reading) {
     match as_of {
         AsOf::End => page.add("As of $:\n", &[Moment(last.wall)]),
-        AsOf::Second(_) => page.add("As of $, the last event up to then:\n", &[Moment(last.wall)]),
+        AsOf::Moment { second, .. } => page.add(
+            "As of $, the last event up to $:\n",
+            &[Moment(last.wall), Time(second)],
+        ),
         AsOf::Seen(second, writer) => {
             page.add("As of $, the journal's last event, ", &[Moment(last.wall)]);
             add_age(page, second, last.wall);
@@ -84,12 +97,12 @@ fn add_writer(page: &mut Page<'_>, writer: Option<Writer>) {
             "The launcher that writes this journal lives (process $): spans are up to now.\n",
             &[Number(u64::from(pid))],
         ),
-        Some(Writer::Nobody) => page
-            .ink
-            .put("No launcher writes this journal now: it ended or was killed.\n"),
-        Some(Writer::Unknown) => page
-            .ink
-            .put("Whether a launcher writes this journal now is not known: /proc/locks can't be read.\n"),
+        Some(Writer::Nobody) => page.ink.put(
+            "No launcher writes this journal now: it ended or was killed.\n",
+        ),
+        Some(Writer::Unknown) => page.ink.put(
+            "Whether a launcher writes this journal now is not known: /proc/locks can't be read.\n",
+        ),
         None => {}
     }
 }

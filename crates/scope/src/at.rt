@@ -50,14 +50,14 @@ impl Hears for MomentFinder<'_> {
 struct Cut {
     /// So many of its bytes are read.
     bytes: u64,
-    /// As of this second it is told then.
-    second: u64,
+    /// Whether these are all.
+    is_end: bool,
     /// The number of a line that is too long, behind which nothing is read.
     long: Option<u64>,
 }
 
 /// Reads the journal of the path up to its last event that is not behind the moment, and answers as of when it is told: of the moment, or of the
-/// journal's end if that is before. For this it is read twice, and once more for its last day.
+/// journal's end if that is before. For this it is read twice, and once more if its last day has to be known.
 pub(crate) fn read_up_to(
     host: &HostRuntime,
     alloc: Global,
@@ -86,7 +86,10 @@ pub(crate) fn read_up_to(
     match cut.long {
         _ if lines.count == 0 => Err(JournalFault::BeginsLater),
         Some(line) => Err(JournalFault::LongLine(line)),
-        None => Ok(AsOf::Second(cut.second)),
+        None => Ok(AsOf::Moment {
+            second,
+            is_end: cut.is_end,
+        }),
     }
 }
 
@@ -121,16 +124,12 @@ fn cut_at(
 ) -> Result<Cut, JournalFault> {
     let mut finder = finder_of(alloc, of, until);
     let long = scan(host, alloc, path, &mut finder)?;
-    let second = if finder.found == finder.read {
-        last_second(&finder.listener)
-    } else {
-        until
-    };
+    let is_end = finder.found == finder.read;
     let bytes = finder.found;
     drop(finder);
     Ok(Cut {
         bytes,
-        second,
+        is_end,
         long,
     })
 }
@@ -162,7 +161,10 @@ fn second_of(
 fn shown_at(zone: &Zone, second: u64, time: u64) -> u64 {
     let shown = zone.civil_minute(second.min(MAX_WALL));
     let shows = u64::from(shown.hour) * 3_600 + u64::from(shown.minute) * 60 + second % 60;
-    second.saturating_add(time).saturating_sub(shows).min(MAX_WALL)
+    second
+        .saturating_add(time)
+        .saturating_sub(shows)
+        .min(MAX_WALL)
 }
 
 fn finder_of(alloc: Global, of: &ScopeCommand, until: u64) -> MomentFinder<'_> {

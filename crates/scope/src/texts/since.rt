@@ -94,7 +94,7 @@ pub(crate) fn reasons_then(reasons: &Reasons, up: u64) -> Reasons
     then
 }
 
-/// Adds when the job starts by the clocks alone, or what came due by them between the last reading and that of the page. Of a job that waits for
+/// Adds when the job starts by the clocks alone, or what came due by them after the last reading and up to now. Of a job that waits for
 /// nothing but to be wanted, a start that comes was told among the ways.
 pub(crate) fn add_coming(
     page: &mut Page<'_>,
@@ -102,15 +102,25 @@ pub(crate) fn add_coming(
     entries: &[Entry],
     zone: &Zone,
     last: Reading,
+    now: Reading,
     is_idle: bool,
 )
     requires up { last.up ≤ MAX_UP }
     requires wall { last.wall ≤ MAX_WALL }
 {
-    let now = page.now;
-    match start_when(&facts.reasons, facts.spawns_from, entries, zone, last, now.wall) {
+    match start_when(
+        &facts.reasons,
+        facts.spawns_from,
+        entries,
+        zone,
+        last,
+        now.wall,
+    ) {
         StartWhen::Since(at) => {
-            page.add("  By the clocks alone its start has been due since $.\n", &[Time(at)]);
+            page.add(
+                "  By the clocks alone its start has been due since $.\n",
+                &[Time(at)],
+            );
         }
         StartWhen::At(at) if !is_idle => {
             page.add("  It starts at $, if nothing else happens.\n", &[Time(at)]);
@@ -126,6 +136,9 @@ pub(crate) fn add_coming(
 fn add_since(page: &mut Page<'_>, what: &'static str, up: Option<u64>, last: Reading) {
     if let Some(up) = up {
         let at = Time(coming_second(last, up));
-        page.add("  By the clocks alone $ has been due since $.\n", &[Text(what), at]);
+        page.add(
+            "  By the clocks alone $ has been due since $.\n",
+            &[Text(what), at],
+        );
     }
 }

@@ -1,6 +1,6 @@
 //! Why each job stands as it does, at the journal's end or at a moment before.
 
-use crate::age::{AsOf, add_head, reading_as_of, within_limits};
+use crate::age::{AsOf, add_head, clock_as_of, reading_as_of, within_limits};
 use crate::journal::facts::JobFacts;
 use crate::journal::job::{KeptJob, Record};
 use crate::journal::labels::{DisabledBy, KnownLabel};
@@ -11,7 +11,7 @@ use crate::texts::since::{add_coming, reasons_then};
 use crate::texts::told::{Keys, ToldJob};
 use crate::texts::words::{asked_name, end_words, refusal_words};
 use calendar_due::Zone;
-use history_model::{Reasons, Refusal};
+use history_model::{Reading, Reasons, Refusal};
 use run_times::Filling::{Number, Span, Text, Time};
 use run_times::Page;
 use std::alloc::{AllocError, Global};
@@ -28,13 +28,14 @@ pub(crate) fn why_text(
     let last = journal.table.reading();
     let mut page = Page::new(alloc, zone, reading_as_of(as_of, last));
     add_head(&mut page, as_of, last);
+    let clock = clock_as_of(as_of, last);
     if labels.is_empty() {
-        add_all(&mut page, journal);
+        add_all(&mut page, journal, clock);
     }
     for label in labels {
         let label = label.as_str();
         match journal.past.jobs.get(label) {
-            Some(job) => add_job(&mut page, journal, label, job),
+            Some(job) => add_job(&mut page, journal, label, job, clock),
             None if is_known(journal, label) => add_unloaded(&mut page, journal, label),
             None => {}
         }
@@ -84,11 +85,11 @@ fn add_label(page: &mut Page<'_>, label: &str, known: KnownLabel) {
     }
 }
 
-fn add_all(page: &mut Page<'_>, journal: &OpenJournal) {
+fn add_all(page: &mut Page<'_>, journal: &OpenJournal, clock: Reading) {
     let mut is_empty = true;
     for (label, job) in &journal.past.jobs {
         if job.def.is_some() {
-            add_job(page, journal, label.as_str(), job);
+            add_job(page, journal, label.as_str(), job, clock);
             is_empty = false;
         }
     }
@@ -99,14 +100,14 @@ fn add_all(page: &mut Page<'_>, journal: &OpenJournal) {
         let label = label.as_str();
         if journal.facts(label).is_none() {
             match journal.past.jobs.get(label) {
-                Some(job) => add_job(page, journal, label, job),
+                Some(job) => add_job(page, journal, label, job, clock),
                 None => add_unloaded(page, journal, label),
             }
         }
     }
 }
 
-fn add_job(page: &mut Page<'_>, journal: &OpenJournal, label: &str, job: &KeptJob) {
+fn add_job(page: &mut Page<'_>, journal: &OpenJournal, label: &str, job: &KeptJob, clock: Reading) {
     let (Some(def), Some(facts)) = (&job.def, journal.facts(label)) else {
         let form = "\n$ is not loaded: it was removed at $.\n";
         page.add(form, &[Text(label), Time(job.record.gone.wall)]);
@@ -131,7 +132,7 @@ fn add_job(page: &mut Page<'_>, journal: &OpenJournal, label: &str, job: &KeptJo
     add_label(page, label, journal.past.labels.of(label));
     // Of a job that nothing wants, and that nothing else keeps from a start, the ways by which it comes to start were told.
     let last = within_limits(journal.table.reading());
-    add_coming(page, &facts, entries, &journal.zone, last, is_idle);
+    add_coming(page, &facts, entries, &journal.zone, last, clock, is_idle);
 }
 
 // The facts, but that a throttle which is over by then is left out.
