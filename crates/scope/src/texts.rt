@@ -8,6 +8,7 @@ pub(crate) mod fronts;
 pub(crate) mod log;
 pub(crate) mod runs;
 pub(crate) mod show;
+pub(crate) mod since;
 pub(crate) mod told;
 pub(crate) mod unknown;
 pub(crate) mod why;
