@@ -227,6 +227,19 @@ for path in pages:
         if words in read(path):
             faults.append(f"{path}: {words!r} stands there again")
 
+# ---- each page that a page refers to is there, as far as it is one of ours
+for path in sorted(glob.glob("man/*.[158]")):
+    for name, part in re.findall(r"^\.Xr (job[\w.-]*) (\d)", read(path), re.M):
+        if not os.path.exists(f"man/{name}.{part}"):
+            faults.append(f"{path}: there is no {name}({part})")
+    for name in re.findall(r"^\.Pa ([A-Z-]+\.md)", read(path), re.M):
+        if not os.path.exists(f"docs/{name}"):
+            faults.append(f"{path}: there is no {name}")
+for path in ("README.md", "SECURITY.md", *glob.glob("docs/*.md")):
+    for name, part in re.findall(r"`(job[\w.-]*)\((\d)\)`", read(path)):
+        if not os.path.exists(f"man/{name}.{part}"):
+            faults.append(f"{path}: there is no {name}({part})")
+
 # ---- how long it all is: the manual pages, and the texts of the helps
 MOST = 12_000
 in_pages = sum(len(read(path).split()) for path in glob.glob("man/*.[158]"))
