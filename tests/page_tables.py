@@ -245,6 +245,16 @@ MOST = 12_000
 in_pages = sum(len(read(path).split()) for path in glob.glob("man/*.[158]"))
 in_helps = sum(len(text.split()) for text in re.findall(r'"([^"\n]*)"', HELPS))
 
+# ---- ten tasks, each a click from README
+TASKS = [
+    "apt install ./jobd_", "COOKBOOK.md#a-backup-that-must-not-run-twice", "COOKBOOK.md#a-web-server", "COOKBOOK.md#a-job-for-another-user",
+    "COOKBOOK.md#deploy-on-push", "COOKBOOK.md#a-service-on-a-socket", "(docs/WHY-NOT-RUNNING.md)", "OPERATING.md#upgrading-and-going-back",
+    "COOKBOOK.md#in-a-container", "MOVING.md#from-cron",
+]
+for words in TASKS:
+    if words not in read("README.md"):
+        faults.append(f"README.md: {words} does not stand there")
+
 # ---- links of pages lead somewhere
 for path in ("README.md", *glob.glob("docs/*.md")):
     for target in re.findall(r"\]\(([^)\s]+)\)", read(path)):
