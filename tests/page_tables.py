@@ -218,7 +218,6 @@ PLACES = [
     ("man/jobd-run.8", "a file that another user owns, but root, or that others\nmay write by its mode", "what jobd-run looks at"),
     ("docs/OPERATING.md", "| `/etc/jobd/*.json`, `*.plist` |", "which files jobd-run loads"),
     ("docs/OPERATING.md", "a run adds some 200 bytes", "how fast a journal grows"),
-    ("man/jobd.journal.5", "adds some 200 bytes", "how fast a journal grows"),
     ("docs/OPERATING.md", "    sqlite3 damaged/overrides.db .dump |", "how a damaged store is saved"),
     ("man/jobd.journal.5", "The text of a refusal ends with a newline", "what a reply's text ends with"),
     ("man/jobscope.1", "A fault is one line on standard error", "how a fault is told"),
