@@ -119,13 +119,18 @@ fn fault_text(
 // What clap says of words that it does not take, as one line behind the program's name.
 fn one_line(alloc: Global, program: &str, said: &str) -> Result<String, AllocError> {
     let mut line = String::from_str(alloc, program)?;
-    let mut between = ": ";
+    line.push_str(":")?;
+    let mut is_begun = true;
     for row in said.lines() {
         let row = row.trim();
         if !row.is_empty() {
-            line.push_str(between)?;
+            if is_begun {
+                line.push_str(" ")?;
+            } else {
+                line.push_str("; ")?;
+            }
             line.push_str(row.strip_prefix("error: ").unwrap_or(row))?;
-            between = if row.ends_with(':') { " " } else { "; " };
+            is_begun = row.ends_with(':');
         }
     }
     line.push_str("\n")?;
