@@ -1,5 +1,5 @@
 # make run    builds the replay of a journal without a proof and runs the first example: a look, in about a minute
-# make try    runs what is tried of calls, without a proof, in some seven minutes: for whoever changes a text, or only looks
+# make try    runs what is tried of calls, without a proof, in some seven minutes on an idle machine: for whoever changes a text, or only looks
 # make test   the gate: every proof, the wrong bodies, the tests, the programs; with kit 13f, what an earlier run on this machine
 #             passed over the same files is not proved or tried again; with 13b everything is. It leaves the program in build/ too
 # make times  the build and then the gate, with nothing kept from earlier runs: how long the build took, and what each crate cost in processor seconds
@@ -21,7 +21,7 @@ run: need_rt
 # The lines that a case writes are those of crates/trials/stdout; another one is a fault.
 try: need_rt
 	@mkdir -p build
-	@cd crates/trials && { rt try --seconds 1200 -- calls > ../../build/try.out 2> ../../build/try.log; echo $$? > ../../build/try.status; }
+	@cd crates/trials && { rt try --seconds 3600 -- calls > ../../build/try.out 2> ../../build/try.log; echo $$? > ../../build/try.status; }
 	@[ "$$(cat build/try.status)" -eq 0 ] || tail -n 20 build/try.log >&2
 	@awk 'NR == FNR { known[$$0]; next } $$0 in known { good++; next } { print; bad++ } \
 	    END { printf "%d passed, %d failed, nothing was proved\n", good, bad; exit bad > 0 || good == 0 }' crates/trials/stdout build/try.out \

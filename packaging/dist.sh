@@ -21,7 +21,7 @@ SOURCE_DATE_EPOCH=${SOURCE_DATE_EPOCH:-$(git log -1 --format=%ct)}
 
 stage=dist/$name
 rm -rf "$stage" "dist/$name.tar.gz"
-mkdir -p "$stage/bin" "$stage/man" "$stage/contrib" "$stage/docs" "$stage/examples/jobs"
+mkdir -p "$stage/bin" "$stage/man" "$stage/contrib" "$stage/docs" "$stage/examples/jobs" "$stage/examples/night"
 install -m 755 build/jobd "$stage/bin"
 strip "$stage/bin/jobd"
 ln -s jobd "$stage/bin/jobctl"
@@ -30,12 +30,16 @@ install -m 644 man/*.[158] "$stage/man"
 cp -r completions "$stage"
 install -m 644 contrib/jobd.service contrib/jobd@.service contrib/jobd.logrotate contrib/Containerfile contrib/moving.py "$stage/contrib"
 install -m 755 contrib/jobd-run contrib/jobd.openrc contrib/jobd.runit contrib/jobctl-reload contrib/jobd-split-users contrib/from-systemd contrib/from-supervisor "$stage/contrib"
-for page in TUTORIAL COOKBOOK FAQ MOVING USING OPERATING WHY-NOT-RUNNING DIFFERENCES; do
+for page in TUTORIAL COOKBOOK FAQ MOVING OPERATING WHY-NOT-RUNNING DIFFERENCES; do
     install -m 644 "docs/$page.md" "$stage/docs"
 done
 install -m 644 docs/night.svg "$stage/docs"
 install -m 644 examples/jobs/*.json "$stage/examples/jobs"
-install -m 644 README.md SECURITY.md CHANGELOG.md LICENSE-MIT LICENSE-APACHE "$stage"
+install -m 644 examples/*.jsonl examples/*.out "$stage/examples"
+install -m 644 examples/night/journal.jsonl "$stage/examples/night"
+sed '/^<!-- in the repository -->$/,/^<!-- end -->$/d' README.md >"$stage/README.md"
+chmod 644 "$stage/README.md"
+install -m 644 SECURITY.md CHANGELOG.md LICENSE-MIT LICENSE-APACHE "$stage"
 echo "$version" >"$stage/VERSION"
 chmod 644 "$stage/VERSION"
 install -m 755 packaging/install.sh "$stage"

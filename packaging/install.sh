@@ -26,6 +26,12 @@ filled() {
     chmod "$3" "$2"
 }
 
+# A page as it reads here: without the parts of README that speak of the repository alone, and with the pages beside one another.
+page() {
+    sed -e '/^<!-- in the repository -->$/,/^<!-- end -->$/d' -e '/repository/!s|docs/\([A-Z][A-Z-]*\.md\)|\1|g' "$1" >"$doc/${1##*/}"
+    chmod 644 "$doc/${1##*/}"
+}
+
 put() {
     [ -x "$programs/jobd" ] || fail "$programs/jobd is not there: make build first"
     install -d "$root/bin" "$root/libexec" "$root/share/man/man1" "$root/share/man/man5" "$root/share/man/man8" \
@@ -36,19 +42,21 @@ put() {
         ln -sfn jobd "$root/bin/$name"
     done
     install -m 644 man/jobctl.1 man/jobctl-reload.1 man/jobscope.1 "$root/share/man/man1"
-    install -m 644 man/jobd.json.5 "$root/share/man/man5"
+    install -m 644 man/jobd.json.5 man/jobd.journal.5 "$root/share/man/man5"
     install -m 644 man/jobd.8 man/jobd-run.8 man/jobd-split-users.8 "$root/share/man/man8"
     install -m 644 completions/bash/jobctl completions/bash/jobd completions/bash/jobscope "$root/share/bash-completion/completions"
     install -m 644 completions/fish/jobctl.fish completions/fish/jobd.fish completions/fish/jobscope.fish "$root/share/fish/vendor_completions.d"
     install -m 644 completions/zsh/_jobctl completions/zsh/_jobd completions/zsh/_jobscope "$root/share/zsh/site-functions"
-    install -m 644 README.md SECURITY.md CHANGELOG.md LICENSE-MIT LICENSE-APACHE "$doc"
-    for page in TUTORIAL COOKBOOK FAQ MOVING USING WHY-NOT-RUNNING DIFFERENCES OPERATING; do
-        install -m 644 "docs/$page.md" "$doc"
+    install -m 644 LICENSE-MIT LICENSE-APACHE "$doc"
+    for name in README SECURITY CHANGELOG docs/TUTORIAL docs/COOKBOOK docs/FAQ docs/MOVING docs/OPERATING docs/WHY-NOT-RUNNING docs/DIFFERENCES; do
+        page "$name.md"
     done
     install -d "$doc/docs"
     install -m 644 docs/night.svg "$doc/docs"
     if [ -f PROVED.txt ]; then install -m 644 PROVED.txt "$doc"; fi
-    install -m 644 examples/jobs/*.json "$doc/examples"
+    install -d "$doc/examples/night"
+    install -m 644 examples/jobs/*.json examples/*.jsonl examples/*.out "$doc/examples"
+    install -m 644 examples/night/journal.jsonl "$doc/examples/night"
     filled contrib/jobd-run "$root/libexec/jobd-run" 755
     for file in jobd.service jobd@.service jobd.logrotate Containerfile moving.py; do
         filled "contrib/$file" "$doc/contrib/$file" 644
@@ -62,7 +70,7 @@ put() {
 remove() {
     rm -f "$root/bin/jobd" "$root/bin/jobctl" "$root/bin/jobscope" "$root/bin/jobctl-reload" "$root/bin/jobd-split-users" "$root/libexec/jobd-run" \
         "$root/share/man/man1/jobctl.1" "$root/share/man/man1/jobctl-reload.1" "$root/share/man/man1/jobscope.1" \
-        "$root/share/man/man5/jobd.json.5" "$root/share/bash-completion/completions/jobscope" \
+        "$root/share/man/man5/jobd.json.5" "$root/share/man/man5/jobd.journal.5" "$root/share/bash-completion/completions/jobscope" \
         "$root/share/fish/vendor_completions.d/jobscope.fish" "$root/share/zsh/site-functions/_jobscope" \
         "$root/share/man/man8/jobd.8" "$root/share/man/man8/jobd-run.8" "$root/share/man/man8/jobd-split-users.8" "$root/share/bash-completion/completions/jobctl" \
         "$root/share/bash-completion/completions/jobd" "$root/share/fish/vendor_completions.d/jobctl.fish" \

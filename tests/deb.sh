@@ -72,7 +72,7 @@ if grep 'jobd' "$root/root/verified" >&2; then fail "systemd-analyze has a compl
 grep -qx "Kivgrond $version" "$root/usr/share/doc/jobd/PROVED.txt" || fail "PROVED.txt names another version than $version"
 inside sh -c '[ -L /etc/systemd/system/multi-user.target.wants/jobd.service ]' || fail "jobd.service is not enabled"
 inside bash /root/try/tests/readme_job.sh /usr/bin
-for path in contrib/Containerfile contrib/jobd.runit contrib/jobd.logrotate PROVED.txt USING.md OPERATING.md copyright; do
+for path in contrib/Containerfile contrib/jobd.runit contrib/jobd.logrotate PROVED.txt SECURITY.md OPERATING.md examples/kept_alive.jsonl copyright; do
     [ -f "$root/usr/share/doc/jobd/$path" ] || fail "no document $path"
 done
 

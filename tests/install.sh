@@ -34,6 +34,47 @@ by_archive() {
     (cd / && PREFIX=$2 DESTDIR=$scratch/root "$unpacked/install.sh" "$1")
 }
 
+# names_what_is_there ROOT: each page and manual page that is installed names only files that are, but where it says that they are the
+# repository's. In the pages that a script types, only pages are looked for: the other names are those of jobs there.
+names_what_is_there() {
+    python3 - "$1" <<'END'
+import glob, os, re, sys
+
+root = sys.argv[1]
+doc = f"{root}/share/doc/jobd"
+there = {os.path.relpath(f"{at}/{name}", doc) for at, _, names in os.walk(doc) for name in names}
+names = {os.path.basename(it) for it in there} | {os.path.basename(it) for it in glob.glob(f"{root}/bin/*") + glob.glob(f"{root}/libexec/*")}
+# Files of the machine and of the archive, which has its own installer.
+others = {"install.sh"}
+faults = []
+for path in sorted(glob.glob(f"{doc}/*.md")):
+    page = os.path.basename(path)
+    with open(path, encoding="utf-8") as it:
+        text = it.read()
+    for target in re.findall(r"\]\(([^)\s#]+)[^)]*\)", text):
+        if os.path.normpath(target) not in there:
+            faults.append(f"{page}: the link {target}")
+    if page == "CHANGELOG.md":
+        continue
+
+    for part in re.split(r"\n\n|\n(?=[-|*])", "\n".join("" if row.startswith("    ") else row for row in text.split("\n"))):
+        if "repository" in part:
+            continue
+        for span in re.findall(r"`([^`\n]+)`", part):
+            for name in re.findall(r"(?<![\w/.$*-])((?:docs|tests|bench|crates|tools|packaging|contrib|examples)/[\w./-]*|[A-Z][A-Z-]+\.md|[\w./-]+\.(?:py|sh|rt))(?![\w-])", span):
+                bare = name.rstrip("/")
+                if bare not in there and os.path.basename(bare) not in names | others and not os.path.isdir(f"{doc}/{bare}"):
+                    faults.append(f"{page}: {name}")
+for path in sorted(glob.glob(f"{root}/share/man/man?/*")):
+    with open(path, encoding="utf-8") as it:
+        for name in re.findall(r"^\.Pa ([A-Z-]+\.md|examples\S*)", it.read(), re.M):
+            if name not in there and not os.path.isdir(f"{doc}/{name}"):
+                faults.append(f"{os.path.basename(path)}: {name}")
+print("\n".join(faults), file=sys.stderr, end="\n" if faults else "")
+sys.exit(1 if faults else 0)
+END
+}
+
 # tries WAY PREFIX: one round.
 tries() {
     local way=$1
@@ -50,15 +91,16 @@ tries() {
         [ "$(readlink "$root/$path")" = jobd ] || fail "$1: $path is no link to jobd"
         [ "$stand_ins" -gt 0 ] || "$root/$path" --help | grep "^Usage: ${path#bin/} " >/dev/null || fail "$1: $path does not act by its name"
     done
-    for path in share/man/man1/jobctl.1 share/man/man1/jobctl-reload.1 share/man/man1/jobscope.1 share/man/man5/jobd.json.5 share/man/man8/jobd.8 share/man/man8/jobd-run.8 share/man/man8/jobd-split-users.8 \
+    for path in share/man/man1/jobctl.1 share/man/man1/jobctl-reload.1 share/man/man1/jobscope.1 share/man/man5/jobd.json.5 share/man/man5/jobd.journal.5 share/man/man8/jobd.8 share/man/man8/jobd-run.8 share/man/man8/jobd-split-users.8 \
         share/bash-completion/completions/{jobctl,jobd,jobscope} share/fish/vendor_completions.d/{jobctl,jobd,jobscope}.fish \
         share/zsh/site-functions/{_jobctl,_jobd,_jobscope} share/doc/jobd/contrib/{jobd.service,jobd@.service,jobd.logrotate,Containerfile} \
-        share/doc/jobd/{README.md,SECURITY.md,CHANGELOG.md,LICENSE-MIT,LICENSE-APACHE,USING.md,OPERATING.md,WHY-NOT-RUNNING.md,DIFFERENCES.md} \
+        share/doc/jobd/{README.md,SECURITY.md,CHANGELOG.md,LICENSE-MIT,LICENSE-APACHE,OPERATING.md,WHY-NOT-RUNNING.md,DIFFERENCES.md} \
         share/doc/jobd/{TUTORIAL.md,COOKBOOK.md,FAQ.md,MOVING.md,docs/night.svg} \
-        share/doc/jobd/examples/kept_alive.json; do
+        share/doc/jobd/examples/{kept_alive.json,kept_alive.jsonl,kept_alive.out,night/journal.jsonl}; do
         [ -f "$root/$path" ] || fail "$1: no file $path"
         [ "$(stat -c %a "$root/$path")" = 644 ] || fail "$1: $path has mode $(stat -c %a "$root/$path")"
     done
+    names_what_is_there "$root" || fail "$1: a page names what is not installed"
     if grep -r '@PREFIX@' "$scratch/root" >&2; then fail "$1: a place is not filled in"; fi
     for path in jobd.service jobd@.service; do
         grep -q "ExecStart=$1/libexec/jobd-run" "$root/share/doc/jobd/contrib/$path" || fail "$1: $path starts another program"

@@ -1,15 +1,17 @@
 #!/usr/bin/env bash
 # The manual pages beside the programs: each subcommand and option of the programs' words stands in their page, and the
-# other way round; so does each key that the reader of definitions knows, with its numbers. docs/USING.md has all of them too.
-# VERSION, the programs' source and the pages name one version.
-# If build/jobd, build/jobctl and build/jobscope are there, their help is asked too. If mandoc is there, the pages are clean under its lint. It
-# is run by hand.
+# other way round; so does each key that the reader of definitions knows, with its numbers. VERSION, the programs' source and the pages
+# name one version. page_tables.py compares limits, exit statuses, environment and single places.
+# If the programs are there, in build/ or in the folder that is the first word, their help is asked too, and page_lines.py types what the
+# pages show. If mandoc is there, the pages are clean under its lint. It is run by hand.
 set -euo pipefail
 
 cd "$(dirname "$0")/.."
-python3 - <<'END'
+programs=${1:-build}
+python3 - "$programs" <<'END'
 import os, re, subprocess, sys
 
+PROGRAMS = sys.argv[1]
 faults = []
 counts = {"words": 0, "keys": 0, "numbers": 0, "helps": 0}
 
@@ -87,6 +89,9 @@ def check_program(program, page_path, source, flags_of, own_name):
     for word in ("-h", "--help"):
         if word not in items:
             faults.append(f"{page_path}: {word} is not in the page")
+    for name, value in re.findall(r'id: "([a-z-]+)",\s*form: Form::Value \{[^}]*\},\s*value: "([A-Z]+)"', source):
+        if f"Fl -{name} Ar {value}" not in page:
+            faults.append(f"{page_path}: --{name} {value} is not in the page")
     counts["words"] += len(names) + len(options)
     if os.access(program, os.X_OK):
         told, told_options = words_of_help(help_of(program))
@@ -97,15 +102,15 @@ def check_program(program, page_path, source, flags_of, own_name):
 
 
 control = read(WORDS + "control_words.rt")
-check_program("build/jobctl", "man/jobctl.1", control, control, "jobctl")
-check_program("build/jobd", "man/jobd.8", read(WORDS + "jobd.rt"), "", "jobd")
+check_program(f"{PROGRAMS}/jobctl", "man/jobctl.1", control, control, "jobctl")
+check_program(f"{PROGRAMS}/jobd", "man/jobd.8", read(WORDS + "jobd.rt"), "", "jobd")
 SCOPE = read(WORDS + "scope_words.rt")
-check_program("build/jobscope", "man/jobscope.1", SCOPE, "", "jobscope")
+check_program(f"{PROGRAMS}/jobscope", "man/jobscope.1", SCOPE, "", "jobscope")
 
 # ---- the version
 
 version = read("VERSION").strip()
-for path in ("crates/command_words/src/version.rt", "docs/USING.md", "crates/trials/data/word_scenes.py"):
+for path in ("crates/command_words/src/version.rt", "docs/OPERATING.md", "crates/trials/data/word_scenes.py"):
     if {f"Kivgrond {version}"} != set(re.findall(r"Kivgrond [0-9.]*[0-9]", read(path))):
         faults.append(f"{path}: it does not name the version {version} alone")
 if re.findall(r'VERSION: &str = "([0-9.]+)"', read("crates/status_file/src/lib.rt")) != [version]:
@@ -124,7 +129,7 @@ same(f"{PAGE}: keys", keys, set(re.findall(r"^\.It Va (\w+)$", page, re.M)))
 counts["keys"] = len(keys)
 reasons = set(re.findall(r'Reason::\w+ => "(\w+)"', names))
 fault_text = page.split(".Ss Fault")[1].split(".Ss ")[0]
-same(f"{PAGE}: reasons", reasons, set(re.findall(r"^\.Ql ([A-Z]\w+)", fault_text, re.M)))
+same(f"{PAGE}: reasons", reasons, set(re.findall(r"^\.It Ql ([A-Z]\w+)$", fault_text, re.M)))
 
 # ---- the numbers of the keys
 
@@ -180,6 +185,7 @@ def shown(number):
 def numbers_at(key):
     text = re.split(rf"^\.It Va {key}$", page, flags=re.M)[1]
     text = re.split(r"^\.(?:It Va|Ss|Sh) ", text, flags=re.M)[0]
+    text = re.sub(r"^\.Xr .*$", "", text, flags=re.M)
     return set(re.findall(r"(?<![\w.,])\d[\d,.]*\d|(?<![\w.,])\d", text))
 
 
@@ -201,39 +207,6 @@ row = re.search(r"PATH_LIMIT: usize = ([\d_]+)", SOURCE["keys"])
 if f"A path is a string of 1 to {shown(row.group(1))} bytes." not in page:
     faults.append(f"{PAGE}: the length of a path is not in the page")
 
-# ---- docs/USING.md names all of them too
-
-USING = "docs/USING.md"
-rows = read(USING).splitlines()
-
-
-def near(key, text):
-    """The text stands in a row, or in the row behind it, that names the key."""
-    return any(f"`{key}`" in row and text in row + " " + after for row, after in zip(rows, rows[1:] + [""]))
-
-
-for key in sorted(keys):
-    if not near(key, ""):
-        faults.append(f"{USING}: {key} is not in the page")
-for key, where, pattern, others in NUMBERS:
-    row = re.search(pattern, SOURCE[where])
-    for number in row.groups() if row else ():
-        number = "1" if (key, number) == ("Label", "0") else shown(number)
-        if not near(key, number):
-            faults.append(f"{USING}: {key}: {number} is not in the page")
-for reason in sorted(reasons):
-    if not near(reason, ""):
-        faults.append(f"{USING}: {reason} is not in the page")
-control_names, control_options = words_in(control, control)
-scope_names, scope_options = words_in(SCOPE, "")
-for name in sorted((control_names | scope_names) - {"jobctl"}):
-    if not any(re.match(rf"\| `{name}\b", row) for row in rows):
-        faults.append(f"{USING}: {name} is not in the page")
-daemon_options = words_in(read(WORDS + "jobd.rt"), "")[1]
-for name in sorted(control_options | daemon_options | scope_options):
-    if not any(re.search(rf"(?<![\w-]){name}(?![\w-])", row) for row in rows):
-        faults.append(f"{USING}: {name} is not in the page")
-
 for fault in faults:
     print("pages:", fault, file=sys.stderr)
 if faults:
@@ -244,14 +217,24 @@ print(
 )
 END
 if command -v mandoc >/dev/null; then
-    (cd man && mandoc -Tlint -W style -- *.[158] >&2)
+    # What it says of pages that its own database does not have, and of that database, is no fault of the pages.
+    (cd man && mandoc -Tlint -W style -- *.[158] 2>&1) | grep -v -e 'referenced manual not found' -e 'outdated mandoc.db' > "${TMPDIR:-/tmp}/pages.lint.$$" || true
+    lint=$(cat "${TMPDIR:-/tmp}/pages.lint.$$")
+    rm -f "${TMPDIR:-/tmp}/pages.lint.$$"
+    [ -z "$lint" ] || { echo "$lint" >&2; exit 1; }
     echo "pages: mandoc's lint is clean"
 else
     echo "pages: mandoc is not here, so its lint was not run"
 fi
+python3 tests/page_tables.py
+if [ -x "$programs/jobd" ] && [ -x "$programs/jobctl" ] && [ -x "$programs/jobscope" ]; then
+    python3 tests/page_lines.py "$programs"
+else
+    echo "pages: no programs in $programs, so nothing was typed"
+fi
 # ---- figures, and sentences that were mended once
 python3 bench/results.py > /dev/null || { python3 bench/results.py >&2; exit 1; }
-python3 - README.md SECURITY.md docs/USING.md docs/WHY-NOT-RUNNING.md docs/OPERATING.md docs/FAQ.md docs/COOKBOOK.md docs/TUTORIAL.md docs/MOVING.md man/*.[158] <<'END'
+python3 - README.md SECURITY.md docs/WHY-NOT-RUNNING.md docs/OPERATING.md docs/FAQ.md docs/COOKBOOK.md docs/TUTORIAL.md docs/MOVING.md man/*.[158] <<'END'
 import re, sys
 
 with open("tests/old_sentences.txt", encoding="utf-8") as it:

@@ -7,7 +7,9 @@ use crate::forms::{Argument, Form, Subcommand, with_subcommands};
 use std::alloc::{AllocError, Global};
 
 const EXIT_HELP: &str =
-    "Exit status: 0 done, or the daemon's first refusal: 1 no memory, 2 bad request, 3 no such job, 4 already loaded, 5 disabled, 6 being removed, 7 not running, 8 bad definition, 9 the store refused, 10 too many jobs, 11 a socket refused, 15 shutting down. Without one: 64 these words are no command; 65 a file can't be read or used; 69 no answer from the daemon.";
+    "Exit status: 0 done; or the launcher's first refusal: 1 no memory, 2 bad request or too many clients, 3 no such job, 4 already loaded, 5 disabled, 6 being removed, 7 not running, 8 bad definition, 9 store refused, 10 too many jobs, 11 socket refused, 15 shutting down; or 64 these words are no command, 65 a file can't be read or used, 69 no answer from the launcher, 74 the reply can't be printed, 141 its reader has gone.";
+
+const SEE_EXIT: &str = "jobctl --help has the exit statuses.";
 
 const LABEL: Argument = Argument {
     id: "label",
@@ -34,7 +36,7 @@ const SUBCOMMANDS: &[Subcommand] = &[
     Subcommand {
         name: "load",
         about: "Load job definitions",
-        after: EXIT_HELP,
+        after: SEE_EXIT,
         arguments: &[
             Argument {
                 id: "write",
@@ -54,7 +56,7 @@ const SUBCOMMANDS: &[Subcommand] = &[
     Subcommand {
         name: "unload",
         about: "Stop and remove the jobs of these definitions",
-        after: EXIT_HELP,
+        after: SEE_EXIT,
         arguments: &[
             Argument {
                 id: "write",
@@ -68,31 +70,31 @@ const SUBCOMMANDS: &[Subcommand] = &[
     Subcommand {
         name: "start",
         about: "Start a job",
-        after: EXIT_HELP,
+        after: SEE_EXIT,
         arguments: &[LABEL],
     },
     Subcommand {
         name: "stop",
         about: "Stop a job's running child",
-        after: EXIT_HELP,
+        after: SEE_EXIT,
         arguments: &[LABEL],
     },
     Subcommand {
         name: "enable",
         about: "Let a label be loaded, from now on",
-        after: EXIT_HELP,
+        after: SEE_EXIT,
         arguments: &[TARGET],
     },
     Subcommand {
         name: "disable",
         about: "Keep a label from being loaded, from now on",
-        after: EXIT_HELP,
+        after: SEE_EXIT,
         arguments: &[TARGET],
     },
     Subcommand {
         name: "kickstart",
         about: "Start a job now, within its throttle",
-        after: EXIT_HELP,
+        after: SEE_EXIT,
         arguments: &[
             Argument {
                 id: "kill",
@@ -106,19 +108,19 @@ const SUBCOMMANDS: &[Subcommand] = &[
     Subcommand {
         name: "print",
         about: "Show what a job does",
-        after: EXIT_HELP,
+        after: SEE_EXIT,
         arguments: &[TARGET],
     },
     Subcommand {
         name: "list",
         about: "List the loaded jobs",
-        after: EXIT_HELP,
+        after: SEE_EXIT,
         arguments: &[],
     },
     Subcommand {
         name: "shutdown",
-        about: "Stop every job, then the daemon",
-        after: EXIT_HELP,
+        about: "Stop every job, then the launcher",
+        after: SEE_EXIT,
         arguments: &[],
     },
 ];
@@ -132,7 +134,7 @@ pub fn jobctl_words<'a>(alloc: Global) -> Result<clap::Command<'a>, AllocError>
         "socket",
         false,
         "PATH",
-        "The daemon's control socket; jobd.sock where absent",
+        "The launcher's control socket; where absent, that of JOBD_SOCKET, else jobd.sock",
     );
     let about = "Control the job launcher jobd";
     let command = bare(alloc, "jobctl", about, EXIT_HELP).subcommand_required(true);

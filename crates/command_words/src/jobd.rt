@@ -18,10 +18,10 @@ const REPLAY_EXIT: &str =
     "Exit status: 0 each line has its outcome; 1 no memory; 2 no header; 3 input or output failed; 4 a line too long; 64 these words are no command.";
 
 const SERVE_EXIT: &str =
-    "Exit status: 0 every job is gone after a shutdown; 1 no memory; 5 the store; 6 the control socket; 7 the zone; 8 the journal; 9 the clock, or waiting; 64 these words are no command.";
+    "Exit status: 0 every job is gone after a shutdown; 1 no memory; 5 the store; 6 the control socket; 7 the zone; 8 the journal; 9 the clock, waiting, SIGCHLD or descriptors; 10 the spool; 64 these words are no command.";
 
 const OVERRIDES_EXIT: &str =
-    "Exit status: 0 printed; 1 no memory; 5 the store; 64 these words are no command.";
+    "Exit status: 0 printed; 1 no memory; 3 output failed; 5 the store; 64 these words are no command.";
 
 const SUBCOMMANDS: &[Subcommand] = &[
     Subcommand {

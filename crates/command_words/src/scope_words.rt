@@ -3,20 +3,10 @@
 use crate::forms::{Argument, Form, Subcommand, with_subcommands};
 use std::alloc::{AllocError, Global};
 
-const CHECK_EXIT: &str =
-    "Exit status: 0 each would be read by a load; 1 one would not, or has a warning with --strict, or no memory; 64 these words are no command; 65 a file can't be read.";
+const EXIT_HELP: &str =
+    "Exit status: 0 done; 1 no memory, or a definition, a line or a list is refused, or has a warning with check --strict; 64 these words are no command; 65 a file can't be read, used or written, or nothing has a label that was named; 71 the clock can't be read; 74 standard output can't be written; 141 its reader has gone.";
 
-const NEXT_EXIT: &str =
-    "Exit status: 0 done; 1 no memory; 64 these words are no command; 65 a file can't be read, or is no definition, or the zone is none.";
-
-const CRON_EXIT: &str =
-    "Exit status: 0 each line has its definition; 1 one is refused, or no memory; 64 these words are no command; 65 standard input can't be read, or a file can't be written.";
-
-const PLIST_EXIT: &str =
-    "Exit status: 0 each list is written; 1 one is refused, or no memory; 64 these words are no command; 65 a file can't be read or written.";
-
-const JOURNAL_EXIT: &str =
-    "Exit status: 0 done; 1 no memory; 64 these words are no command; 65 the journal can't be read, or is none.";
+const SEE_EXIT: &str = "jobscope --help has the exit statuses.";
 
 const DRIFT_EXIT: &str =
     "Exit status: 0 nothing differs; 1 no memory; 2 something differs; 64 these words are no command; 65 a file or the journal can't be read, or is none.";
@@ -200,37 +190,37 @@ const SUBCOMMANDS: &[Subcommand] = &[
     Subcommand {
         name: "check",
         about: "Say whether definitions would load, and what may be wrong with them",
-        after: CHECK_EXIT,
+        after: SEE_EXIT,
         arguments: CHECK,
     },
     Subcommand {
         name: "next",
         about: "Show the coming starts of calendars and intervals, in the order of time",
-        after: NEXT_EXIT,
+        after: SEE_EXIT,
         arguments: NEXT,
     },
     Subcommand {
         name: "why",
         about: "Say why each job runs or not, and what will make it run",
-        after: JOURNAL_EXIT,
+        after: SEE_EXIT,
         arguments: WHY,
     },
     Subcommand {
         name: "log",
         about: "Tell a journal's events to people",
-        after: JOURNAL_EXIT,
+        after: SEE_EXIT,
         arguments: LOG,
     },
     Subcommand {
         name: "runs",
         about: "Count each job's runs",
-        after: JOURNAL_EXIT,
+        after: SEE_EXIT,
         arguments: RUNS,
     },
     Subcommand {
         name: "picture",
         about: "Draw each job's runs over time",
-        after: JOURNAL_EXIT,
+        after: SEE_EXIT,
         arguments: PICTURE,
     },
     Subcommand {
@@ -248,13 +238,13 @@ const SUBCOMMANDS: &[Subcommand] = &[
     Subcommand {
         name: "cron",
         about: "Write a definition for each line of a crontab",
-        after: CRON_EXIT,
+        after: SEE_EXIT,
         arguments: CRON,
     },
     Subcommand {
         name: "plist",
         about: "Write property lists in XML as definitions in JSON",
-        after: PLIST_EXIT,
+        after: SEE_EXIT,
         arguments: PLIST,
     },
 ];
@@ -263,6 +253,7 @@ const SUBCOMMANDS: &[Subcommand] = &[
 pub(crate) fn jobscope_words<'a>(alloc: Global) -> Result<clap::Command<'a>, AllocError> {
     let command = clap::Command::new(alloc, "jobscope")
         .about("Reads definitions before a load, and journals after")
+        .after_help(EXIT_HELP)
         .subcommand_required(true);
     with_subcommands(alloc, Ok(command), SUBCOMMANDS)
 }
