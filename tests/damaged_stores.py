@@ -1,7 +1,7 @@
 #!/usr/bin/env python3
 """Stores that are damaged, or none of ours, before `jobd overrides` and `jobd serve`: neither hangs, dies or writes to what it refuses.
 
-    tests/damaged_stores.py [--jobd PROGRAM] [--jobctl PROGRAM] [--count N] [--harms N] [--seed S] [--at-once N]
+    tests/damaged_stores.py [--jobd PROGRAM] [--jobctl PROGRAM] [--count N] [--seed S] [--at-once N]
 
 It is run by hand, after `make build`; PROGRAM is build/jobd. A sound store of 300 settings is made, as a clean end leaves it, as
 signal 9 leaves it, and as one file. 500 others are made of these, or N of them: bits flipped in the file or in its log, both cut, fields of
@@ -10,9 +10,8 @@ the path of the store or of its log.
 
 `jobd overrides` has to end with status 0 and lines of settings, or with 5, one line on standard error, and no file changed.
 `jobd serve` has to be ready, answer and shut down; or to end with 5 and a line, and no file changed. A setting that it acknowledged
-has to be there afterwards, where the store could be read before. Then the logs of 40 launchers that run, or of N, are removed, cut,
-overwritten or put back: after a shutdown each acknowledged setting has to be there. Each fault is told, and the last line counts; the
-status is 1 if there is one.
+has to be there afterwards, where the store could be read before. Each fault is told, and the last line counts; the status is 1
+if there is one.
 """
 import argparse
 import collections
@@ -298,63 +297,6 @@ def try_store(given, folder, name, make):
         stage.clear()
 
 
-# ---- logs that are harmed while a launcher runs
-
-def remove_log(path, rng, older):
-    os.remove(path)
-
-
-def cut_log(path, rng, older):
-    os.truncate(path, rng.randrange(os.path.getsize(path)))
-
-
-def overwrite_log(path, rng, older):
-    with open(path, "r+b") as file:
-        file.seek(rng.randrange(os.path.getsize(path)))
-        file.write(rng.choice((bytes, rng.randbytes))(rng.randrange(1, 100_000)))
-
-
-def put_back_log(path, rng, older):
-    with open(path + ".older", "wb") as file:
-        file.write(older)
-    os.replace(path + ".older", path)
-
-
-HARMS = [remove_log, cut_log, overwrite_log, put_back_log]
-
-
-def try_harm(given, folder, rng, harm):
-    """What came of it: after the end the store has each setting that was acknowledged."""
-    os.mkdir(folder)
-    stage, wanted, older = Stage(given, folder), {}, b""
-    try:
-        launcher = stage.serve()
-        count = rng.randrange(1, 120)
-        for number in range(count):
-            word, label = rng.choice(("disable", "enable")), f"job{rng.randrange(60):02}"
-            check(launcher.ask({"req": word, "job": label})["code"] == 0, "a setting was refused")
-            wanted[label] = f"{word}d"
-            if number == count // 2:
-                older = bytes_or_none(stage.at("store-wal"))
-        harm(stage.at("store-wal"), rng, older)
-        launcher.shut_down()
-        check(not strange(launcher.said()), f"serve said {launcher.said()[-300:]!r}")
-        lines = stage.run(["overrides", "--store", stage.at("store")]).stdout.splitlines()
-        found = dict(line.split("\t")[:2] for line in lines)
-        check(found == wanted, f"{len(wanted)} labels were set, {len(set(wanted.items()) - set(found.items()))} are lost: {launcher.said()!r}")
-        return f"{harm.__name__}, {'written again' if launcher.said() else 'nothing lost'}"
-    finally:
-        stage.clear()
-
-
-def play_harm(given, folder, number, seed):
-    rng, harm = random.Random(seed), HARMS[number % len(HARMS)]
-    try:
-        return try_harm(given, os.path.join(folder, f"harm{number}"), rng, harm), None
-    except Fault as fault:
-        return "at fault", f"FAILED {harm.__name__} {number}: {fault}".replace(folder, "@")
-
-
 def play(given, folder, number, name, make):
     try:
         return try_store(given, os.path.join(folder, str(number)), name, make), None
@@ -369,7 +311,6 @@ def read_words():
     words.add_argument("--jobd", type=shlex.split, default=[f"{HERE}/../build/jobd"])
     words.add_argument("--jobctl", type=shlex.split, default=[f"{HERE}/../build/jobctl"])
     words.add_argument("--count", type=int, default=500)
-    words.add_argument("--harms", type=int, default=40)
     words.add_argument("--seed", type=int, default=1)
     words.add_argument("--at-once", type=int, default=4)
     given = words.parse_args()
@@ -388,10 +329,6 @@ def main():
         made = makers(stores, given.count, random.Random(given.seed))
         with concurrent.futures.ThreadPoolExecutor(given.at_once) as pool:
             for outcome, fault in pool.map(lambda each: play(given, folder, each[0], *each[1]), enumerate(made)):
-                outcomes[outcome] += 1
-                if fault:
-                    print(fault, flush=True)
-            for outcome, fault in pool.map(lambda number: play_harm(given, folder, number, given.seed + number), range(given.harms)):
                 outcomes[outcome] += 1
                 if fault:
                     print(fault, flush=True)

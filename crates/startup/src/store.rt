@@ -1,19 +1,16 @@
 //! The store of a launcher: opened, served from, and settled once the launcher has let go of it.
 
 use crate::connections::{Media, Task, close_files, over_files};
-use crate::kept_settings::KeptSettings;
 use crate::looking::{Found, look};
-use crate::made_settings::MadeSettings;
 use crate::medium::Medium;
 use crate::one_file::taken_for_store;
 use crate::plan::Plan;
 use crate::refusal::{StoreRefusal, refuse_store};
-use crate::reporting::{Level, refuse};
-use exit_status::STORE;
+use crate::reporting::Level;
 use files_and_process::own_files::make_private;
 use history_model::Setting;
 use outside::SettingStore;
-use override_store::{OverrideStore, StoredSettings, opened};
+use override_store::opened;
 use sqlite::{Alter, Connection, Files, Options, Unknown};
 use sqlite_std_file::OpenError;
 use std::alloc::Global;
@@ -32,12 +29,10 @@ pub trait StoreUser {
     fn use_store<T: SettingStore + Drop>(self, store: T, settings: Vec<Setting>) -> Result<u8, u8>;
 }
 
-/// Opens the store at the path, which is made, for this user alone, if it is not there, and has it used. At the end the settings that it
-/// was told are looked for in its files, which others may have changed meanwhile: what is not there is written again, and that is told. Then what
-/// the log beside the store holds is moved into the store's file. Neither is done if nothing was set. That it is refused is told, unless
-/// another launcher has the store by then. Status 5, with the user given back, if it is no store or can't be opened, as while another
-/// launcher has it open, if its tables or its settings are refused, or if its file is the lock of another place or one that the clearing
-/// of the spool may remove.
+/// Opens the store at the path, which is made, for this user alone, if it is not there, and has it used. Then what the log beside it
+/// holds is moved into the store's file, unless nothing was set; that this is refused is told, unless another launcher has the store by
+/// then. Status 5, with the user given back, if it is no store or can't be opened, as while another launcher has it open, if its
+/// tables or its settings are refused, or if its file is the lock of another place or one that the clearing of the spool may remove.
 pub fn with_store<U: StoreUser>(
     rt: &HostRuntime,
     alloc: Global,
@@ -48,18 +43,13 @@ pub fn with_store<U: StoreUser>(
     if let Err(refusal) = look_at_own(rt, alloc, plan) {
         return Err((refuse_store(rt, level, path, refusal), user));
     }
-    match over_store(rt, path, Opening { rt, plan, user }) {
-        Ok((Ok(status), made)) => {
-            end(rt, level, path, &made);
-            drop(made);
+    match over_store(rt, path, Opening { alloc, user }) {
+        Ok(Ok(status)) => {
+            settle(rt, level, path);
             Ok(status)
         }
-        Ok((Err(status), made)) => {
-            drop(made);
-            Ok(status)
-        }
-        Err((refusal, opening)) => {
-            let Opening { rt, plan: _, user } = opening;
+        Ok(Err(status)) => Ok(status),
+        Err((refusal, Opening { alloc: _, user })) => {
             Err((refuse_store(rt, level, path, refusal), user))
         }
     }
@@ -81,66 +71,24 @@ fn private_file(rt: &HostRuntime, alloc: Global, plan: &Plan) -> io::Result<Opti
 }
 
 /// Opens the settings of a database, and hands them to who uses them.
-struct Opening<'a, U> {
-    rt: &'a HostRuntime,
-    plan: &'a Plan,
+struct Opening<U> {
+    alloc: Global,
     user: U,
 }
 
-impl<'a, U: StoreUser> Task for Opening<'a, U> {
-    /// What the user gave, and what the store was told.
-    type Done = (Result<u8, u8>, MadeSettings);
+impl<U: StoreUser> Task for Opening<U> {
+    type Done = Result<u8, u8>;
 
     fn over<S: Alter + Drop>(
         self,
         conn: Connection<S>,
-    ) -> Result<(Result<u8, u8>, MadeSettings), (StoreRefusal, Opening<'a, U>)> {
-        let Opening { rt, plan, user } = self;
-        match opened_and_read(rt.alloc(), conn) {
-            Ok((store, settings, made)) => Ok(used(rt, plan, user, store, settings, made)),
-            Err(refusal) => Err((refusal, Opening { rt, plan, user })),
+    ) -> Result<Result<u8, u8>, (StoreRefusal, Opening<U>)> {
+        let Opening { alloc, user } = self;
+        match opened(alloc, conn) {
+            Ok((store, settings)) => Ok(user.use_store(store, settings)),
+            Err((fault, _)) => Err((StoreRefusal::Settings(fault), Opening { alloc, user })),
         }
     }
-}
-
-fn opened_and_read<S: Alter + Drop>(
-    alloc: Global,
-    conn: Connection<S>,
-) -> Result<(StoredSettings<S>, Vec<Setting>, MadeSettings), StoreRefusal> {
-    let (store, settings) = match opened(alloc, conn) {
-        Ok(both) => both,
-        Err((fault, _)) => return Err(StoreRefusal::Settings(fault)),
-    };
-    let mut store = store;
-    match MadeSettings::read(alloc, &mut store.store) {
-        Ok(made) => Ok((store, settings, made)),
-        Err(fault) => {
-            drop(store);
-            drop(settings);
-            Err(StoreRefusal::Settings(fault))
-        }
-    }
-}
-
-fn used<U: StoreUser, T: SettingStore + Drop>(
-    rt: &HostRuntime,
-    plan: &Plan,
-    user: U,
-    store: T,
-    settings: Vec<Setting>,
-    made: MadeSettings,
-) -> (Result<u8, u8>, MadeSettings) {
-    let mut made = made;
-    let kept = KeptSettings {
-        rt,
-        alloc: rt.alloc(),
-        level: plan.wishes.level,
-        path: plan.places.store.as_str(),
-        store,
-        made: &mut made,
-    };
-    let status = user.use_store(kept, settings);
-    (status, made)
 }
 
 /// Does the task over the database in the file at the path.
@@ -175,61 +123,6 @@ fn files_at(rt: &HostRuntime, path: &str) -> Result<(Media, Options), OpenError>
         ..Options::new(state.hash_one(&0u8))
     };
     Ok((files, options))
-}
-
-// The store has let go of its files.
-fn end(rt: &HostRuntime, level: Level, path: &str, made: &MadeSettings) {
-    if let Err(error) = make_private(rt, path) {
-        let _status = refuse(rt, level, STORE, "store", path, &error);
-        return;
-    }
-    match over_store(rt, path, Mending { rt, made }) {
-        Ok(0) => settle(rt, level, path),
-        Ok(count) => {
-            tell_mended(rt, level, path, count);
-            settle(rt, level, path);
-        }
-        Err((StoreRefusal::Files(OpenError::Busy), _)) => {}
-        Err((refusal, _)) => {
-            let _status = refuse_store(rt, level, path, refusal);
-        }
-    }
-}
-
-fn tell_mended(rt: &impl Eprint, level: Level, path: &str, count: usize) {
-    let front = level.warning();
-    let _written = eprintln!(rt;
-        "{front}jobd: store {path}: its files had not the last settings of {count} labels: they are written again"
-    );
-}
-
-/// Writes again what a database has not of the settings that were made.
-#[derive(Drop)]
-struct Mending<'a> {
-    rt: &'a HostRuntime,
-    made: &'a MadeSettings,
-}
-
-impl<'a> Task for Mending<'a> {
-    /// How many were written.
-    type Done = usize;
-
-    fn over<S: Alter + Drop>(
-        self,
-        conn: Connection<S>,
-    ) -> Result<usize, (StoreRefusal, Mending<'a>)> {
-        let alloc = self.rt.alloc();
-        let mut store = match OverrideStore::open_on(alloc, conn) {
-            Ok(store) => store,
-            Err(fault) => return Err((StoreRefusal::Settings(fault), self)),
-        };
-        let written = self.made.write_again(alloc, &mut store);
-        drop(store);
-        match written {
-            Ok(count) => Ok(count),
-            Err(fault) => Err((StoreRefusal::Settings(fault), self)),
-        }
-    }
 }
 
 fn settle(rt: &HostRuntime, level: Level, path: &str) {
