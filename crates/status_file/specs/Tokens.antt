@@ -4,6 +4,7 @@ use Rattle.std.specs.List.{flat_map}
 use Rattle.std.specs.Borrow.{Bor}
 use Rattle.json.specs.Token.{Token, begin_object, end_object, begin_array, end_array, key, string, number, boolean, null}
 use Rattle.history_model.specs.Texts.{state_text}
+use Rattle.history_model.specs.declared.JobState.{JobState}
 use Rattle.history_model.specs.declared.Reading.{Reading}
 use Rattle.history_model.specs.declared.Entry.{Entry}
 use Rattle.history_model.specs.declared.Ended.{Ended}
@@ -15,6 +16,7 @@ use Rattle.history_model.specs.declared.reasons.DemandKind.TheVariants as kinds
 use Rattle.history_model.specs.declared.reasons.Reasons.{Reasons}
 use Rattle.history_model.specs.declared.reasons.StandingChild.{StandingChild}
 use Rattle.history_model.specs.declared.reasons.Wants.{Wants}
+use Rattle.job_core.specs.declared.job.moments.Moments.{Moments}
 use Rattle.status_file.specs.States.{state_by_reasons}
 use Rattle.status_file.specs.declared.facts.JobFacts.{JobFacts}
 use Rattle.status_file.specs.declared.line.Piece.{Piece}
@@ -166,31 +168,49 @@ reasons_tokens r =
     held_tokens r
     ++ (child_tokens r.child ++ (awaited_tokens r.awaited ++ (wants_tokens r.wants ++ end_object ∷ [])))
 
--- its moments, what made its demand, and which path holds it wanted
-abbrev pub moments_tokens : JobFacts → List Token
-moments_tokens f =
+-- its moments
+abbrev pub times_tokens : Moments → Option ℕ → List Token
+times_tokens m spawn =
     key (codes "moments") ∷ begin_object
-    ∷ key (codes "term") ∷ count_token f.moments.term
-    ∷ key (codes "kill") ∷ count_token f.moments.kill
-    ∷ key (codes "interval") ∷ count_token f.moments.interval
-    ∷ key (codes "spawn") ∷ count_token f.spawns_from
-    ∷ end_object
-    ∷ key (codes "demand") ∷ demand_token f.demand
-    ∷ key (codes "path") ∷ text_token f.path ∷ []
+    ∷ key (codes "term") ∷ count_token m.term
+    ∷ key (codes "kill") ∷ count_token m.kill
+    ∷ key (codes "interval") ∷ count_token m.interval
+    ∷ key (codes "spawn") ∷ count_token spawn
+    ∷ end_object ∷ []
+
+-- what made its demand, and which path holds it wanted
+abbrev pub wanted_tokens : Option DemandKind → Option (Bor (List ℕ)) → List Token
+wanted_tokens demand path =
+    key (codes "demand") ∷ demand_token demand ∷ key (codes "path") ∷ text_token path ∷ []
+
+abbrev pub moments_tokens : JobFacts → List Token
+moments_tokens f = times_tokens f.moments f.spawns_from ++ wanted_tokens f.demand f.path
 
 -- ---- what is kept beside the table
 
+abbrev pub name_tokens : List ℕ → JobState → List Token
+name_tokens label state =
+    begin_object ∷ key (codes "job") ∷ begin_object
+    ∷ key (codes "label") ∷ string label
+    ∷ key (codes "state") ∷ string (state_text state) ∷ []
+
+abbrev pub counts_tokens : Option ℕ → ℕ → ℕ → ℕ → ℕ → List Token
+counts_tokens pid run starts failures connections =
+    key (codes "pid") ∷ count_token pid
+    ∷ key (codes "run") ∷ number (decimal run)
+    ∷ key (codes "starts") ∷ number (decimal starts)
+    ∷ key (codes "failures") ∷ number (decimal failures)
+    ∷ key (codes "connections") ∷ number (decimal connections) ∷ []
+
+abbrev pub disabled_tokens : Option DisabledBy → List Token
+disabled_tokens by = key (codes "disabled") ∷ disabled_token by ∷ []
+
 abbrev pub front_tokens : JobStatus → List Token
 front_tokens j =
-    begin_object ∷ key (codes "job") ∷ begin_object
-    ∷ key (codes "label") ∷ string j.label.now
-    ∷ key (codes "state") ∷ string (state_text (state_by_reasons j.facts.reasons))
-    ∷ key (codes "pid") ∷ count_token (child_pid j.facts.reasons.child)
-    ∷ key (codes "run") ∷ number (decimal j.note.run)
-    ∷ key (codes "starts") ∷ number (decimal j.note.starts)
-    ∷ key (codes "failures") ∷ number (decimal j.note.failures)
-    ∷ key (codes "connections") ∷ number (decimal j.facts.reasons.wants.connections)
-    ∷ key (codes "disabled") ∷ disabled_token j.disabled ∷ []
+    name_tokens j.label.now (state_by_reasons j.facts.reasons)
+    ++ (counts_tokens (child_pid j.facts.reasons.child) j.note.run j.note.starts j.note.failures
+    j.facts.reasons.wants.connections
+    ++ disabled_tokens j.disabled)
 
 abbrev pub end_key : Ended → List ℕ
 end_key (Code code) = codes "code"
@@ -216,15 +236,16 @@ abbrev pub end_tokens : Option RunEnd → List Token
 end_tokens None = key (codes "last_end") ∷ null ∷ []
 end_tokens (Some end) = run_end_tokens end
 
-abbrev pub start_front_tokens : RefusedStart → List Token
-start_front_tokens start =
+abbrev pub start_front_tokens : ℕ → Option (Bor (List ℕ)) → List Token
+start_front_tokens run reason =
     key (codes "refused") ∷ begin_object
-    ∷ key (codes "run") ∷ number (decimal start.run)
-    ∷ key (codes "reason") ∷ text_token start.reason ∷ []
+    ∷ key (codes "run") ∷ number (decimal run)
+    ∷ key (codes "reason") ∷ text_token reason ∷ []
 
 abbrev pub start_tokens : RefusedStart → List Token
 start_tokens start =
-    start_front_tokens start ++ (moment_tokens (codes "at") (Some start.at) ++ end_object ∷ [])
+    start_front_tokens start.run start.reason
+    ++ (moment_tokens (codes "at") (Some start.at) ++ end_object ∷ [])
 
 abbrev pub refused_tokens : Option RefusedStart → List Token
 refused_tokens None = key (codes "refused") ∷ null ∷ []
@@ -241,21 +262,30 @@ note_tokens n =
 
 -- ---- what the definition says
 
-abbrev pub keys_tokens : JobKeys → List Token
-keys_tokens k =
+abbrev pub conditions_tokens : JobKeys → List Token
+conditions_tokens k =
     key (codes "keys") ∷ begin_object
     ∷ key (codes "run_at_load") ∷ boolean k.run_at_load
     ∷ key (codes "successful_exit") ∷ flag_token k.successful_exit
     ∷ key (codes "crashed") ∷ flag_token k.crashed
     ∷ key (codes "path_state") ∷ boolean k.has_path_state
-    ∷ key (codes "path_exists") ∷ flag_token k.path_exists
-    ∷ key (codes "start_interval") ∷ count_token k.start_interval
+    ∷ key (codes "path_exists") ∷ flag_token k.path_exists ∷ []
+
+abbrev pub limits_tokens : JobKeys → List Token
+limits_tokens k =
+    key (codes "start_interval") ∷ count_token k.start_interval
     ∷ key (codes "throttle_interval") ∷ number (decimal k.throttle_interval)
-    ∷ key (codes "exit_time_out") ∷ number (decimal k.exit_time_out)
-    ∷ key (codes "watch_paths") ∷ boolean k.has_watch_paths
+    ∷ key (codes "exit_time_out") ∷ number (decimal k.exit_time_out) ∷ []
+
+abbrev pub others_tokens : JobKeys → List Token
+others_tokens k =
+    key (codes "watch_paths") ∷ boolean k.has_watch_paths
     ∷ key (codes "queue_directories") ∷ boolean k.has_queue_directories
     ∷ key (codes "sockets") ∷ boolean k.has_sockets
     ∷ end_object ∷ []
+
+abbrev pub keys_tokens : JobKeys → List Token
+keys_tokens k = conditions_tokens k ++ (limits_tokens k ++ others_tokens k)
 
 -- an entry of its calendar: minute, hour, day, weekday, month, null for a key that is absent
 abbrev pub entry_tokens : Entry → List Token

@@ -1,5 +1,9 @@
 //! The lines of all loaded jobs.
 
+ghost use Rattle.std.specs.Prelude.{Some};
+ghost use Rattle.history_model.specs.Machine.{State, past_of};
+ghost use Rattle.loaded_jobs.specs.StandsFor.{KeepsState};
+ghost use Rattle.status_file.specs.Facts.{HasFacts};
 ghost use Rattle.status_file.specs.Jobs.{AddsJobs};
 
 use crate::facts::facts_of;
@@ -7,8 +11,8 @@ use crate::line::StatusText;
 use crate::run_notes::RunNotes;
 use crate::status::{DisabledBy, JobKeys, JobNote, JobStatus};
 use crate::write::add_job;
-use history_model::JobNo;
 use history_model::definition::Def;
+use history_model::{Entry, JobNo};
 use job_table::JobTable;
 use std::alloc::{AllocError, Global};
 use std::cmp::Ordering;
@@ -128,10 +132,25 @@ fn add_loaded(
                 keys: JobKeys::of(def, facts.path),
                 disabled: disabled_by(alloc, table, def),
             };
-            add_job(text, alloc, &job, def.calendar());
+            add_line(text, alloc, table, &job, def.calendar());
         }
         None => {}
     }
+}
+
+// The line of a job of which the facts are those of the table.
+fn add_line(
+    text: &mut StatusText,
+    alloc: Global,
+    table: &JobTable,
+    job: &JobStatus<'_>,
+    calendar: &[Entry],
+)
+    requires { (s : State) → KeepsState table.now s → HasFacts (past_of s job.now.label.now) (Some job.now.facts) }
+    ensures { AddsJobs table.now text.old text.new }
+{
+    let _ = table; // for the proof
+    add_job(text, alloc, job, calendar);
 }
 
 // By what the label is disabled. Both may disable it: then the definition is told. Without memory it is told as enabled.

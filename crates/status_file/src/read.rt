@@ -201,10 +201,13 @@ fn end_in(fields: &mut Fields<'_>) -> Option<RunEnd> {
     let is_code = end.has("code");
     let kind = if is_code { "code" } else { "signal" };
     let number = end.count(kind);
-    if number > 255 {
-        end.refuse(kind);
-    }
-    let short = number as u8;
+    let short = match u8::try_from(number) {
+        Ok(short) => short,
+        Err(_) => {
+            end.refuse(kind);
+            0
+        }
+    };
     let told = RunEnd {
         run: end.count("run"),
         how: if is_code {

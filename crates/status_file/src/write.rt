@@ -1,9 +1,10 @@
 //! The lines of a file, written.
 
-ghost use Rattle.std.specs.Prelude.{◌≡◌, ◌++◌, ◌∷◌, []};
+ghost use Rattle.std.specs.Prelude.{◌≡◌, ◌++◌, ◌∷◌, [], decimal};
+ghost use Rattle.json.specs.Token.{number};
 ghost use Rattle.std.specs.List.{flat_map};
 ghost use Rattle.status_file.specs.Lines.{Adds, Puts};
-ghost use Rattle.status_file.specs.Tokens.{token_in, awaited_tokens, calendar_tokens, child_pid, child_tokens, count_token, demand_token, disabled_token, end_front_tokens, end_key, end_number, end_tokens, entry_tokens, front_tokens, held_tokens, job_tokens, keys_tokens, moment_tokens, moments_tokens, note_tokens, order_conn, order_run, reasons_tokens, refused_tokens, run_end_tokens, start_front_tokens, start_tokens, wants_tokens};
+ghost use Rattle.status_file.specs.Tokens.{awaited_tokens, calendar_tokens, child_pid, child_tokens, conditions_tokens, count_token, counts_tokens, demand_token, disabled_token, disabled_tokens, end_front_tokens, end_key, end_number, end_tokens, entry_tokens, front_tokens, held_tokens, job_tokens, keys_tokens, limits_tokens, moment_tokens, moments_tokens, name_tokens, note_tokens, order_conn, order_run, others_tokens, reasons_tokens, refused_tokens, run_end_tokens, start_front_tokens, start_tokens, times_tokens, token_in, wanted_tokens, wants_tokens};
 
 use crate::facts::JobFacts;
 use crate::line::Piece::{Close, CloseList, Count, Flag, Key, Null, Open, OpenList, Text};
@@ -13,7 +14,10 @@ use crate::status::{
     DisabledBy, JobKeys, JobNote, JobStatus, JournalStatus, LauncherStatus, RefusedStart, RunEnd,
     state_of,
 };
-use history_model::{Act, DemandKind, Ended, Entry, Reading, Reasons, StandingChild, Wants};
+use history_model::{
+    Act, DemandKind, Ended, Entry, JobState, Reading, Reasons, StandingChild, Wants,
+};
+use job_table::Moments;
 use std::alloc::Global;
 
 /// Adds the launcher's line. It stands first in a file.
@@ -86,32 +90,65 @@ fn disabled_piece(by: Option<DisabledBy>) -> Piece<'static>
 fn put_front(line: &mut Line, job: &JobStatus<'_>)
     ensures { Puts (front_tokens job.now) line.old line.new }
 {
-    let reasons = &job.facts.reasons;
+    put_name(line, job.label, state_of(&job.facts.reasons));
+    put_counts(
+        line,
+        child_pid(job.facts.reasons.child),
+        job.note.run,
+        job.note.starts,
+        job.note.failures,
+        job.facts.reasons.wants.connections,
+    );
+    put_disabled(line, job.disabled);
+}
+
+fn put_name(line: &mut Line, label: &str, state: JobState)
+    ensures { Puts (name_tokens label.now state) line.old line.new }
+{
     line.put(&[
         Open,
         Key("job"),
         Open,
         Key("label"),
-        Text(job.label),
+        Text(label),
         Key("state"),
-        Text(state_name(state_of(reasons))),
-        Key("pid"),
-        count_piece(child_pid(reasons.child)),
-        Key("run"),
-        Count(job.note.run),
-        Key("starts"),
-        Count(job.note.starts),
-        Key("failures"),
-        Count(job.note.failures),
-        Key("connections"),
-        Count(reasons.wants.connections as u64),
-        Key("disabled"),
-        disabled_piece(job.disabled),
+        Text(state_name(state)),
     ]);
 }
 
+fn put_counts(
+    line: &mut Line,
+    pid: Option<u64>,
+    run: u64,
+    starts: u64,
+    failures: u64,
+    connections: usize,
+)
+    ensures { Puts (counts_tokens pid run starts failures connections) line.old line.new }
+{
+    line.put(&[
+        Key("pid"),
+        count_piece(pid),
+        Key("run"),
+        Count(run),
+        Key("starts"),
+        Count(starts),
+        Key("failures"),
+        Count(failures),
+        Key("connections"),
+        Count(connections as u64),
+    ]);
+}
+
+fn put_disabled(line: &mut Line, by: Option<DisabledBy>)
+    ensures { Puts (disabled_tokens by) line.old line.new }
+{
+    line.put(&[Key("disabled"), disabled_piece(by)]);
+}
+
 fn end_parts(how: Ended) -> (&'static str, u64)
-    ensures { (result.0.now, result.1) ≡ (end_key how, end_number how) }
+    ensures key { result.0.now ≡ end_key how }
+    ensures number { result.1 ≡ end_number how }
 {
     match how {
         Ended::Code(code) => ("code", code as u64),
@@ -181,21 +218,21 @@ fn put_refused(line: &mut Line, refused: Option<RefusedStart<'_>>)
 fn put_start(line: &mut Line, start: RefusedStart<'_>)
     ensures { Puts (start_tokens start.entry) line.old line.new }
 {
-    put_start_front(line, start);
+    put_start_front(line, start.run, start.reason);
     put_moment(line, "at", Some(start.at));
     line.put(&[Close]);
 }
 
-fn put_start_front(line: &mut Line, start: RefusedStart<'_>)
-    ensures { Puts (start_front_tokens start.entry) line.old line.new }
+fn put_start_front(line: &mut Line, run: u64, reason: Option<&str>)
+    ensures { Puts (start_front_tokens run reason.entry) line.old line.new }
 {
     line.put(&[
         Key("refused"),
         Open,
         Key("run"),
-        Count(start.run),
+        Count(run),
         Key("reason"),
-        text_piece(start.reason),
+        text_piece(reason),
     ]);
 }
 
@@ -213,15 +250,15 @@ fn put_note(line: &mut Line, note: &JobNote<'_>)
 fn put_reasons(line: &mut Line, reasons: &Reasons)
     ensures { Puts (reasons_tokens reasons.now) line.old line.new }
 {
-    put_held(line, reasons);
+    put_held(line, *reasons);
     put_child(line, reasons.child);
     put_awaited(line, reasons.awaited);
     put_wants(line, reasons.wants);
     line.put(&[Close]);
 }
 
-fn put_held(line: &mut Line, reasons: &Reasons)
-    ensures { Puts (held_tokens reasons.now) line.old line.new }
+fn put_held(line: &mut Line, reasons: Reasons)
+    ensures { Puts (held_tokens reasons) line.old line.new }
 {
     line.put(&[
         Key("reasons"),
@@ -237,6 +274,13 @@ fn put_held(line: &mut Line, reasons: &Reasons)
     ]);
 }
 
+/// The number.
+fn wide_piece(count: u32) -> Piece<'static>
+    ensures { token_in result ≡ number (decimal count) }
+{
+    Count(count as u64)
+}
+
 fn put_child(line: &mut Line, child: Option<StandingChild>)
     ensures { Puts (child_tokens child) line.old line.new }
 {
@@ -247,7 +291,7 @@ fn put_child(line: &mut Line, child: Option<StandingChild>)
             Key("run"),
             Count(child.run),
             Key("pid"),
-            Count(child.pid as u64),
+            wide_piece(child.pid),
             Key("stopped"),
             Flag(child.is_stopped),
             Key("struck"),
@@ -260,7 +304,8 @@ fn put_child(line: &mut Line, child: Option<StandingChild>)
 
 /// The run of an order, and its connection.
 fn order_parts(order: Act) -> (Option<u64>, Option<u64>)
-    ensures { result ≡ (order_run order, order_conn order) }
+    ensures run { result.0 ≡ order_run order }
+    ensures conn { result.1 ≡ order_conn order }
 {
     match order {
         Act::Spawn { run, conn } => (Some(run), conn),
@@ -328,36 +373,49 @@ fn demand_piece(demand: Option<DemandKind>) -> Piece<'static>
 fn put_moments(line: &mut Line, facts: &JobFacts<'_>)
     ensures { Puts (moments_tokens facts.now) line.old line.new }
 {
+    put_times(line, facts.moments, facts.spawns_from);
+    put_wanted(line, facts.demand, facts.path);
+}
+
+fn put_times(line: &mut Line, moments: Moments, spawn: Option<u64>)
+    ensures { Puts (times_tokens moments spawn) line.old line.new }
+{
     line.put(&[
         Key("moments"),
         Open,
         Key("term"),
-        count_piece(facts.moments.term),
+        count_piece(moments.term),
         Key("kill"),
-        count_piece(facts.moments.kill),
+        count_piece(moments.kill),
         Key("interval"),
-        count_piece(facts.moments.interval),
+        count_piece(moments.interval),
         Key("spawn"),
-        count_piece(facts.spawns_from),
+        count_piece(spawn),
         Close,
-        Key("demand"),
-        demand_piece(facts.demand),
-        Key("path"),
-        text_piece(facts.path),
     ]);
 }
 
-fn widened(count: Option<u32>) -> Option<u64>
-    ensures { result ≡ count }
+fn put_wanted(line: &mut Line, demand: Option<DemandKind>, path: Option<&str>)
+    ensures { Puts (wanted_tokens demand path.entry) line.old line.new }
 {
-    match count {
-        Some(count) => Some(count as u64),
-        None => None,
-    }
+    line.put(&[
+        Key("demand"),
+        demand_piece(demand),
+        Key("path"),
+        text_piece(path),
+    ]);
 }
 
 fn put_keys(line: &mut Line, keys: JobKeys)
     ensures { Puts (keys_tokens keys) line.old line.new }
+{
+    put_conditions(line, keys);
+    put_limits(line, keys);
+    put_others(line, keys);
+}
+
+fn put_conditions(line: &mut Line, keys: JobKeys)
+    ensures { Puts (conditions_tokens keys) line.old line.new }
 {
     line.put(&[
         Key("keys"),
@@ -372,12 +430,35 @@ fn put_keys(line: &mut Line, keys: JobKeys)
         Flag(keys.has_path_state),
         Key("path_exists"),
         flag_piece(keys.path_exists),
+    ]);
+}
+
+fn wide_piece_if(count: Option<u32>) -> Piece<'static>
+    ensures { token_in result ≡ count_token count }
+{
+    match count {
+        Some(count) => Count(count as u64),
+        None => Null,
+    }
+}
+
+fn put_limits(line: &mut Line, keys: JobKeys)
+    ensures { Puts (limits_tokens keys) line.old line.new }
+{
+    line.put(&[
         Key("start_interval"),
-        count_piece(widened(keys.start_interval)),
+        wide_piece_if(keys.start_interval),
         Key("throttle_interval"),
-        Count(keys.throttle_interval as u64),
+        wide_piece(keys.throttle_interval),
         Key("exit_time_out"),
-        Count(keys.exit_time_out as u64),
+        wide_piece(keys.exit_time_out),
+    ]);
+}
+
+fn put_others(line: &mut Line, keys: JobKeys)
+    ensures { Puts (others_tokens keys) line.old line.new }
+{
+    line.put(&[
         Key("watch_paths"),
         Flag(keys.has_watch_paths),
         Key("queue_directories"),

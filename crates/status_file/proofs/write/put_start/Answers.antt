@@ -10,7 +10,7 @@ returns c =
     let b = c.put_start_front.new.line in
     let d = c.put_moment.new.line in
     let e = c.put.new.self in
-    let front = start_front_tokens c.args.start in
+    let front = start_front_tokens c.args.start.run c.args.start.reason in
     let at = moment_tokens (codes "at") (Some c.args.start.at) in
     let last = end_object ∷ [] in
     followed front (at ++ last) a b e c.put_start_front.ensures
