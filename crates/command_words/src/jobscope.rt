@@ -3,6 +3,7 @@
 use crate::arguments::{is_set, value_of, values_of};
 use crate::command::{Paths, WordFault, ZoneWords};
 use crate::jobd::zone_in;
+use crate::moments::{moment_of, wrong_moment};
 use crate::numbers::{number_of, wrong_number};
 use crate::parse::{Explanation, explain_by, parse};
 use crate::scope_command::{Meaning, ScopeCommand, TASKS, Task};
@@ -30,7 +31,7 @@ fn command_in(
 ) -> Result<ScopeCommand, AllocError> {
     let words = words_in(alloc, task, found);
     let from = match task {
-        Task::Check => number_of(found, "now"),
+        Task::Check | Task::Why => number_of(found, "now"),
         _ => number_of(found, "from"),
     };
     let journal = value_of(alloc, found, "journal");
@@ -45,6 +46,7 @@ fn command_in(
             is_utc: is_set(found, "utc"),
             count: number_of(found, "count"),
             from,
+            at: moment_of(found),
             since: number_of(found, "since"),
             zone,
             journal,
@@ -89,6 +91,9 @@ fn meaning_of(alloc: Global, matches: &ArgMatches<'_>) -> Result<Meaning, WordFa
 
 fn meaning_in(alloc: Global, found: &ArgMatches<'_>, task: Task) -> Result<Meaning, AllocError> {
     if let Some(text) = wrong_number(alloc, found)? {
+        return Ok(Meaning::Wrong(text));
+    }
+    if let Some(text) = wrong_moment(alloc, found)? {
         return Ok(Meaning::Wrong(text));
     }
     match zone_in(alloc, found)? {

@@ -35,8 +35,8 @@ pub(crate) fn number_of(found: &ArgMatches<'_>, id: &str) -> Option<u64> {
     number_in(found.get_str(id)?, u64::MAX)
 }
 
-// The decimal number that the text is, without a sign, and at most `most`.
-fn number_in(text: &str, most: u64) -> Option<u64> {
+/// The decimal number that the text is, without a sign, and at most `most`.
+pub(crate) fn number_in(text: &str, most: u64) -> Option<u64> {
     if text.is_empty() {
         return None;
     }

@@ -36,6 +36,15 @@ pub(crate) const TASKS: &[(&str, Task)] = &[
     ("plist", Task::Plist),
 ];
 
+/// A moment of a journal.
+#[derive(Clone, Copy)]
+pub enum Moment {
+    /// This second of Unix time.
+    Second(u64),
+    /// This time of the journal's last day.
+    OfDay { hour: u8, minute: u8, second: u8 },
+}
+
 /// A subcommand's words. What the subcommand does not take is absent.
 #[derive(Drop)]
 pub struct ScopeCommand {
@@ -52,10 +61,12 @@ pub struct ScopeCommand {
     pub is_utc: bool,
     /// How many starts are shown.
     pub count: Option<u64>,
-    /// The second of Unix time after which starts are shown, or from which on the clock is looked at.
+    /// The second of Unix time after which starts are shown, from which on the clock is looked at, or that is now in place of the clock's.
     pub from: Option<u64>,
     /// The second of Unix time from which on events are told.
     pub since: Option<u64>,
+    /// The moment of a journal that is asked of; where absent, its end.
+    pub at: Option<Moment>,
     /// The zone in which calendar entries are looked at.
     pub zone: ZoneWords,
     /// The journal's path.

@@ -105,7 +105,23 @@ const NEXT: &[Argument] = &[
     PATHS,
 ];
 
-const WHY: &[Argument] = &[JOURNAL, LABELS, UTC];
+const WHY: &[Argument] = &[
+    JOURNAL,
+    LABELS,
+    UTC,
+    Argument {
+        id: "at",
+        form: Form::Value { required: false },
+        value: "MOMENT",
+        help: "Say it as of this moment: HH:MM or HH:MM:SS of the journal's last day, or a second of Unix time; as of its end where absent",
+    },
+    Argument {
+        id: "now",
+        form: Form::Value { required: false },
+        value: "SECOND",
+        help: "Take this second of Unix time for now, and not the clock's",
+    },
+];
 
 const RUNS: &[Argument] = &[JOURNAL, LABELS];
 

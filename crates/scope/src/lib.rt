@@ -1,6 +1,8 @@
 //! One run of `jobscope`: its words, over the files that they name.
 #![tactic(auto)]
 
+mod age;
+mod at;
 mod charted;
 mod clock;
 mod journal;
@@ -10,6 +12,7 @@ mod page;
 mod program;
 mod report;
 mod texts;
+mod writer;
 mod zone;
 
 pub use journal::facts::JobFacts;

@@ -1,7 +1,10 @@
 //! What is told of a journal: its events, as they are read or as they come, and once it was read to its end why each job stands as it
-//! does, what its runs came to, and their picture.
+//! does, what its runs came to, and their picture; the first of these also of a moment before.
 
+use crate::age::AsOf;
+use crate::at::read_up_to;
 use crate::charted::{HeardMarks, chart_of};
+use crate::clock::now;
 use crate::journal::fault::{JournalFault, tell_fault, tell_long};
 use crate::journal::lines::JournalLines;
 use crate::journal::reader::OpenJournal;
@@ -12,6 +15,7 @@ use crate::page::coming_of;
 use crate::texts::runs::runs_table;
 use crate::texts::unknown::unknown_text;
 use crate::texts::why::{is_known, why_text};
+use crate::writer::writer_of;
 use calendar_due::Zone;
 use exit_status::BAD_FILE;
 use history_model::Text;
@@ -28,7 +32,8 @@ const COLUMNS: u16 = 80;
 
 /// Writes what is told of the jobs of the journal, or of those that are named; of a log the events from the command's second on, each in a
 /// line. If the command follows, it goes on as the journal's file grows; only this may wait. 65 if the journal can't be read, if a line is no
-/// event or too long, or if nothing has a label that `why` is asked of.
+/// event or too long, if nothing has a label that `why` is asked of, or if the journal begins behind the moment that is asked of; 71 if the
+/// clock can't be read.
 pub(crate) fn report<W: Wait>(
     host: &HostRuntime,
     waits: &W,
@@ -66,15 +71,56 @@ fn report_by(
         Task::Log => false,
         _ => true,
     };
-    let read = match read_journal(host, path, is_quiet, lines, listener) {
-        Ok(()) => tell_bad(host, name, lines),
+    let (read, as_of) = match read_as_of(host, alloc, path, is_quiet, lines, listener) {
+        Ok(as_of) => (tell_bad(host, name, lines), as_of),
         // What came before that line is told.
-        Err(JournalFault::LongLine(line)) => tell_long(host, name, line),
+        Err(JournalFault::LongLine(line)) => (tell_long(host, name, line), AsOf::End),
         Err(fault) => return tell_fault(host, name, fault),
     };
-    match write_report(host, alloc, name, listener) {
+    match write_report(host, alloc, name, listener, as_of) {
         Ok(status) => Ok(status.max(read)),
         Err(error) => Err(error),
+    }
+}
+
+// Reads the journal, and answers as of which moment it is told.
+fn read_as_of(
+    host: &HostRuntime,
+    alloc: Global,
+    path: Option<&str>,
+    is_quiet: bool,
+    lines: &mut JournalLines,
+    listener: &mut JournalListener<'_>,
+) -> Result<AsOf, JournalFault> {
+    let of = listener.of;
+    if let Some(moment) = of.at {
+        return read_up_to(host, alloc, path, moment, lines, listener);
+    }
+    match (read_journal(host, path, is_quiet, lines, listener), of.task) {
+        (Ok(()), Task::Why) => seen_now(host, alloc, path, of),
+        (Ok(()), _) => Ok(AsOf::End),
+        (Err(fault), _) => Err(fault),
+    }
+}
+
+// The journal's end, seen now. Who writes it is looked at once it was read: a launcher that ended meanwhile is gone.
+fn seen_now(
+    host: &HostRuntime,
+    alloc: Global,
+    path: Option<&str>,
+    of: &ScopeCommand,
+) -> Result<AsOf, JournalFault> {
+    let second = match of.from {
+        Some(second) => Some(second),
+        None => now(host),
+    };
+    let writer = match path {
+        Some(path) => Some(writer_of(host, alloc, path)),
+        None => None,
+    };
+    match second {
+        Some(second) => Ok(AsOf::Seen(second, writer)),
+        None => Err(JournalFault::Clock),
     }
 }
 
@@ -84,6 +130,7 @@ fn write_report(
     alloc: Global,
     name: &str,
     listener: &JournalListener<'_>,
+    as_of: AsOf,
 ) -> io::Result<u8> {
     let Some(journal) = &listener.journal else {
         return Ok(0);
@@ -92,7 +139,7 @@ fn write_report(
     let zone = zone_shown(of, &listener.utc, &journal.zone);
     let labels = of.words.as_slice();
     let written = match of.task {
-        Task::Why => put_made(host, why_text(alloc, journal, zone, labels)),
+        Task::Why => put_made(host, why_text(alloc, journal, zone, labels, as_of)),
         Task::Runs => put_runs(host, alloc, name, journal, labels),
         Task::Picture => paint(host, alloc, journal, zone, &listener.heard, of),
         _ => Ok(()),
@@ -183,7 +230,7 @@ fn paint_page(
     labels: &[Text],
 ) -> io::Result<()> {
     let table = runs_table(alloc, &journal.past, journal.table.reading(), labels)?;
-    let why = why_text(alloc, journal, zone, labels)?;
+    let why = why_text(alloc, journal, zone, labels, AsOf::End)?;
     let coming = coming_of(alloc, journal, chart)?;
     let beside = Some(Beside {
         table: table.as_str(),

@@ -7,6 +7,7 @@ A case begins with a line `=== NAME`; its parts follow, each behind a line of it
 
 `edge_scenes.py` plays them beside its own, and has what they share.
 """
+import fcntl
 import json
 import os
 import pwd
@@ -274,9 +275,52 @@ def jobscope_plist_files(stage):
         check(depth == 127, f"depth {depth}")
 
 
+# `web` of HEADER's journal, which lives two days and more after its last event.
+HELD = """\
+As of 2026-11-25 Wed 14:02:57 +0100, the journal's last event, 2 days 7 h ago.
+{writer}
+
+web is running.
+  Run 1 lives, process 5, since {since} (for {lived}).
+{throttled}  It is wanted: KeepAlive is true.
+"""
+NOBODY = "No launcher writes this journal now: it ended or was killed."
+ENDED = {"writer": NOBODY, "since": "14:02:57", "lived": "0.0 s",
+    "throttled": "  It is throttled until 14:03:07 (in 10.0 s): its last start was ordered at 14:02:57, ThrottleInterval is 10.\n"}
+
+
+def a_journal_that_is_held(stage):
+    """Spans of `why` are up to now as long as a process holds a lock on the journal's file that excludes all others."""
+    load = json.dumps({"ev": "load", "def": json.dumps({"Label": "web", "Program": "/bin/true", "KeepAlive": True})})
+    path = make(stage.at("held"), HEADER + load + '\n{"ev":"spawned","job":"web","run":1,"pid":5}\n')
+    other = make(stage.at("beside"), "")
+    lives = f"The launcher that writes this journal lives (process {os.getpid()}): spans are up to now."
+    writes = {"writer": lives, "since": "2026-11-25 Wed 14:02:57 +0100", "lived": "2 days 7 h", "throttled": ""}
+    for file, lock, wanted in ((path, fcntl.LOCK_EX, writes), (path, fcntl.LOCK_SH, ENDED), (other, fcntl.LOCK_EX, ENDED)):
+        with open(file, encoding="utf-8") as held:
+            fcntl.flock(held, lock)
+            got = ran(stage, ["why", "--now", "1795811777", "--journal", path])
+            check(got == (0, HELD.format(**wanted), ""), f"with {lock} on {file}: {got}")
+    check((got := ran(stage, ["why", "--now", "1795811777", "--journal", path])) == (0, HELD.format(**ENDED), ""), f"with no lock: {got}")
+
+
+def a_launcher_that_is_killed(stage):
+    """`why` tells that a launcher writes the journal as long as it lives, which a look at it does not hinder."""
+    launcher = stage.serve(journal="journal")
+    words = ["why", "--journal", stage.at("journal")]
+    for _ in range(3):
+        got = ran(stage, words)
+        check(f"lives (process {launcher.pid}): spans are up to now.\n" in got[1], f"of a launcher that lives: {got}")
+    launcher.process.kill()
+    launcher.process.wait()
+    check(NOBODY in (got := ran(stage, words))[1], f"of a launcher that was killed: {got}")
+
+
 def jobscope_journal(stage):
-    """`jobscope why`, `log`, `runs` and `picture` over journals; a line that is too long, and a journal that is put aside."""
+    """`jobscope why`, `log`, `runs` and `picture` over journals; a line that is too long, one that is put aside, and who writes one."""
     play_cases(stage, "journal")
+    a_journal_that_is_held(stage)
+    a_launcher_that_is_killed(stage)
     a_line_too_long(stage)
     a_journal_put_aside(stage)
 

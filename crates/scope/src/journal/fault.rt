@@ -1,6 +1,6 @@
 //! What keeps a journal from being read.
 
-use exit_status::BAD_FILE;
+use exit_status::{BAD_CLOCK, BAD_FILE};
 use run_times::telling::{tell_line, tell_of};
 use run_times::{Ink, Piece};
 use std::io;
@@ -18,10 +18,16 @@ pub enum JournalFault {
     BadZone,
     /// A name among the header's settings is no label, or its reading is past a limit.
     BadSettings,
+    /// The header's moment is behind the one that is asked of.
+    BeginsLater,
+    /// A moment is asked of a journal that has no file.
+    NoFile,
     /// A line is longer than one may be.
     LongLine(u64),
     /// A read failed.
     Read(io::Error),
+    /// The clock can't be read, and this was told.
+    Clock,
     /// What is to be shown of it can't be written.
     Write(io::Error),
 }
@@ -42,6 +48,7 @@ pub(crate) fn tell_fault(host: &HostRuntime, name: &str, fault: JournalFault) ->
     let words = match fault {
         JournalFault::NoMemory => return Err(io::Error::from(ErrorKind::OutOfMemory)),
         JournalFault::Write(error) => return Err(error),
+        JournalFault::Clock => return Ok(BAD_CLOCK),
         JournalFault::Read(error) => {
             tell_of(host, name, &error);
             drop(error);
@@ -51,6 +58,8 @@ pub(crate) fn tell_fault(host: &HostRuntime, name: &str, fault: JournalFault) ->
         JournalFault::NoHeader => "line 1: no whole line, where a journal has its header",
         JournalFault::BadHeader => "line 1: no header of a journal",
         JournalFault::BadZone => "line 1: the header's zone is none",
+        JournalFault::BeginsLater => "it begins behind the moment of --at",
+        JournalFault::NoFile => "--at reads a journal more than once, so it needs its file",
         JournalFault::BadSettings => {
             "line 1: a setting's name is no label, or the reading is past its limit"
         }

@@ -1,16 +1,19 @@
-//! Why each job stands as it does, at the journal's end.
+//! Why each job stands as it does, at the journal's end or at a moment before.
 
+use crate::age::{AsOf, add_head, clock_as_of, reading_as_of, within_limits};
+use crate::journal::facts::JobFacts;
 use crate::journal::job::{KeptJob, Record};
 use crate::journal::labels::{DisabledBy, KnownLabel};
 use crate::journal::reader::OpenJournal;
 use crate::texts::cause_lines::add_causes;
-use crate::texts::coming::{FARTHEST, calendar_next};
+use crate::texts::coming::calendar_next;
+use crate::texts::since::{add_coming, reasons_then};
 use crate::texts::told::{Keys, ToldJob};
 use crate::texts::words::{asked_name, end_words, refusal_words};
 use calendar_due::Zone;
-use history_model::{Entry, MAX_UP, MAX_WALL, Reading, Reasons, Refusal};
-use run_times::Filling::{Now, Number, Span, Text, Time};
-use run_times::{Page, next_run};
+use history_model::{Reading, Reasons, Refusal};
+use run_times::Filling::{Number, Span, Text, Time};
+use run_times::Page;
 use std::alloc::{AllocError, Global};
 
 /// For each loaded job, or for those named: its state, a line for each thing that keeps it from a start or wants it, how it ended
@@ -20,16 +23,19 @@ pub(crate) fn why_text(
     journal: &OpenJournal,
     zone: &Zone,
     labels: &[history_model::Text],
+    as_of: AsOf,
 ) -> Result<String, AllocError> {
-    let mut page = Page::new(alloc, zone, journal.table.reading());
-    page.add("As of $:\n", &[Now]);
+    let last = journal.table.reading();
+    let mut page = Page::new(alloc, zone, reading_as_of(as_of, last));
+    add_head(&mut page, as_of, last);
+    let clock = clock_as_of(as_of, last);
     if labels.is_empty() {
-        add_all(&mut page, journal);
+        add_all(&mut page, journal, clock);
     }
     for label in labels {
         let label = label.as_str();
         match journal.past.jobs.get(label) {
-            Some(job) => add_job(&mut page, journal, label, job),
+            Some(job) => add_job(&mut page, journal, label, job, clock),
             None if is_known(journal, label) => add_unloaded(&mut page, journal, label),
             None => {}
         }
@@ -79,11 +85,11 @@ fn add_label(page: &mut Page<'_>, label: &str, known: KnownLabel) {
     }
 }
 
-fn add_all(page: &mut Page<'_>, journal: &OpenJournal) {
+fn add_all(page: &mut Page<'_>, journal: &OpenJournal, clock: Reading) {
     let mut is_empty = true;
     for (label, job) in &journal.past.jobs {
         if job.def.is_some() {
-            add_job(page, journal, label.as_str(), job);
+            add_job(page, journal, label.as_str(), job, clock);
             is_empty = false;
         }
     }
@@ -94,14 +100,14 @@ fn add_all(page: &mut Page<'_>, journal: &OpenJournal) {
         let label = label.as_str();
         if journal.facts(label).is_none() {
             match journal.past.jobs.get(label) {
-                Some(job) => add_job(page, journal, label, job),
+                Some(job) => add_job(page, journal, label, job, clock),
                 None => add_unloaded(page, journal, label),
             }
         }
     }
 }
 
-fn add_job(page: &mut Page<'_>, journal: &OpenJournal, label: &str, job: &KeptJob) {
+fn add_job(page: &mut Page<'_>, journal: &OpenJournal, label: &str, job: &KeptJob, clock: Reading) {
     let (Some(def), Some(facts)) = (&job.def, journal.facts(label)) else {
         let form = "\n$ is not loaded: it was removed at $.\n";
         page.add(form, &[Text(label), Time(job.record.gone.wall)]);
@@ -110,7 +116,7 @@ fn add_job(page: &mut Page<'_>, journal: &OpenJournal, label: &str, job: &KeptJo
     let entries = def.calendar();
     let told = ToldJob {
         at: page.now,
-        facts,
+        facts: facts_then(&facts, page.now.up),
         asked: journal.past.asked_of(&job.record),
         job: &job.record,
         keys: Keys::of(def),
@@ -125,10 +131,15 @@ fn add_job(page: &mut Page<'_>, journal: &OpenJournal, label: &str, job: &KeptJo
     add_background(page, &job.record);
     add_label(page, label, journal.past.labels.of(label));
     // Of a job that nothing wants, and that nothing else keeps from a start, the ways by which it comes to start were told.
-    if !is_idle {
-        let (form, wall) = start_words(&told, entries, &journal.zone);
-        page.add(form, &[Time(wall)]);
-    }
+    let last = within_limits(journal.table.reading());
+    add_coming(page, &facts, entries, &journal.zone, last, clock, is_idle);
+}
+
+// The facts, but that a throttle which is over by then is left out.
+fn facts_then<'a>(facts: &JobFacts<'a>, up: u64) -> JobFacts<'a> {
+    let mut then = *facts;
+    then.reasons = reasons_then(&facts.reasons, up);
+    then
 }
 
 fn state_words(reasons: &Reasons) -> &'static str {
@@ -173,28 +184,5 @@ fn add_background(page: &mut Page<'_>, job: &Record) {
         page.ink.put(
             "  Does its program put itself in the background? It has to stay in the foreground.\n",
         );
-    }
-}
-
-// When it starts by the clocks alone, if it does.
-fn start_words(told: &ToldJob<'_>, entries: &[Entry], zone: &Zone) -> (&'static str, u64) {
-    let now = Reading {
-        up: told.at.up.min(MAX_UP),
-        wall: told.at.wall.min(MAX_WALL),
-    };
-    let facts = &told.facts;
-    match next_run(
-        &facts.reasons,
-        facts.spawns_from,
-        entries,
-        zone,
-        now,
-        FARTHEST,
-    ) {
-        Some(seconds) => (
-            "  It starts at $, if nothing else happens.\n",
-            now.wall.saturating_add(seconds),
-        ),
-        None => ("", 0),
     }
 }

@@ -1,0 +1,202 @@
+//! A journal up to a moment.
+
+ghost use Rattle.std.specs.Prelude.{None, OnOk};
+ghost use Rattle.scope.specs.Journals.{HearsAll, StandsAfter};
+
+use crate::age::AsOf;
+use crate::journal::fault::JournalFault;
+use crate::journal::lines::{Hears, JournalLines};
+use crate::journal::source::{open_journal, read_journal, read_source};
+use crate::listener::{JournalListener, zone_shown};
+use calendar_due::Zone;
+use history_model::MAX_WALL;
+use launchctl_words::{Moment, ScopeCommand};
+use std::alloc::Global;
+use std::io::Read;
+
+/// What finds the last event of a journal that is not behind a second of `wall`.
+#[derive(Drop)]
+struct MomentFinder<'a> {
+    listener: JournalListener<'a>,
+    until: u64,
+    /// How many bytes the lines have that were heard, and those up to that event.
+    read: u64,
+    found: u64,
+}
+
+impl Hears for MomentFinder<'_> {
+    ghost stands = { λ finder lines. StandsAfter finder.listener.journal lines };
+
+    fn hear(
+        &mut self,
+        line: &[u8],
+        is_header: bool,
+        shown: &mut String,
+    ) -> Result<bool, JournalFault> {
+        let is_event = self.listener.hear(line, is_header, shown)?;
+        self.read = self
+            .read
+            .saturating_add(line.len() as u64)
+            .saturating_add(1);
+        if last_second(&self.listener) <= self.until {
+            self.found = self.read;
+        }
+        Ok(is_event)
+    }
+}
+
+/// Where a journal is cut.
+#[derive(Clone, Copy)]
+struct Cut {
+    /// So many of its bytes are read.
+    bytes: u64,
+    /// Whether these are all.
+    is_end: bool,
+    /// The number of a line that is too long, behind which nothing is read.
+    long: Option<u64>,
+}
+
+/// Reads the journal of the path up to its last event that is not behind the moment, and answers as of when it is told: of the moment, or of the
+/// journal's end if that is before. For this it is read twice, and once more if its last day has to be known.
+pub(crate) fn read_up_to(
+    host: &HostRuntime,
+    alloc: Global,
+    path: Option<&str>,
+    moment: Moment,
+    lines: &mut JournalLines,
+    listener: &mut JournalListener<'_>,
+) -> Result<AsOf, JournalFault> {
+    let Some(path) = path else {
+        return Err(JournalFault::NoFile);
+    };
+    let of = listener.of;
+    let second = match moment {
+        Moment::Second(second) => second,
+        Moment::OfDay {
+            hour,
+            minute,
+            second,
+        } => {
+            let time = u64::from(hour) * 3_600 + u64::from(minute) * 60 + u64::from(second);
+            second_of(host, alloc, path, of, time)?
+        }
+    };
+    let cut = cut_at(host, alloc, path, of, second)?;
+    read_front_of(host, path, cut.bytes, lines, listener)?;
+    match cut.long {
+        _ if lines.count == 0 => Err(JournalFault::BeginsLater),
+        Some(line) => Err(JournalFault::LongLine(line)),
+        None => Ok(AsOf::Moment {
+            second,
+            is_end: cut.is_end,
+        }),
+    }
+}
+
+// Reads so many bytes of the journal.
+fn read_front_of<H: Hears>(
+    host: &HostRuntime,
+    path: &str,
+    bytes: u64,
+    lines: &mut JournalLines,
+    hearer: &mut H,
+) -> Result<(), JournalFault>
+    ensures { OnOk result (HearsAll H.stands None None lines.old hearer.old lines.new hearer.new) }
+{
+    match open_journal(host, path) {
+        Ok(file) => {
+            let mut front = file.take(bytes);
+            let read = read_source(host, &mut front, true, lines, hearer);
+            drop(front);
+            read
+        }
+        Err(error) => Err(JournalFault::Read(error)),
+    }
+}
+
+// Where the journal is cut for this second.
+fn cut_at(
+    host: &HostRuntime,
+    alloc: Global,
+    path: &str,
+    of: &ScopeCommand,
+    until: u64,
+) -> Result<Cut, JournalFault> {
+    let mut finder = finder_of(alloc, of, until);
+    let long = scan(host, alloc, path, &mut finder)?;
+    let is_end = finder.found == finder.read;
+    let bytes = finder.found;
+    drop(finder);
+    Ok(Cut {
+        bytes,
+        is_end,
+        long,
+    })
+}
+
+// The second of the journal's last day at which its clock shows this time, in seconds since midnight.
+fn second_of(
+    host: &HostRuntime,
+    alloc: Global,
+    path: &str,
+    of: &ScopeCommand,
+    time: u64,
+) -> Result<u64, JournalFault> {
+    let mut finder = finder_of(alloc, of, MAX_WALL);
+    let _long = scan(host, alloc, path, &mut finder)?;
+    let last = last_second(&finder.listener).min(MAX_WALL);
+    let second = match &finder.listener.journal {
+        Some(journal) => {
+            let zone = zone_shown(of, &finder.listener.utc, &journal.zone);
+            shown_at(zone, shown_at(zone, last, time), time)
+        }
+        None => last,
+    };
+    drop(finder);
+    Ok(second)
+}
+
+// The second of the day of this one that has this time by the offset of this one. Asked of that second once more it is right behind a change
+// of the offset too; of a time that the clock skips or shows twice it is one within an hour or the like.
+fn shown_at(zone: &Zone, second: u64, time: u64) -> u64 {
+    let shown = zone.civil_minute(second.min(MAX_WALL));
+    let shows = u64::from(shown.hour) * 3_600 + u64::from(shown.minute) * 60 + second % 60;
+    second
+        .saturating_add(time)
+        .saturating_sub(shows)
+        .min(MAX_WALL)
+}
+
+fn finder_of(alloc: Global, of: &ScopeCommand, until: u64) -> MomentFinder<'_> {
+    MomentFinder {
+        listener: JournalListener::new(alloc, of),
+        until,
+        read: 0,
+        found: 0,
+    }
+}
+
+// Reads the journal to its end, or to a line that is too long, whose number it answers.
+fn scan(
+    host: &HostRuntime,
+    alloc: Global,
+    path: &str,
+    finder: &mut MomentFinder<'_>,
+) -> Result<Option<u64>, JournalFault> {
+    let mut lines = JournalLines::new(alloc);
+    let read = read_journal(host, Some(path), true, &mut lines, finder);
+    drop(lines);
+    match read {
+        Ok(()) => Ok(None),
+        Err(JournalFault::LongLine(line)) => Ok(Some(line)),
+        Err(fault) => Err(fault),
+    }
+}
+
+// The second of its last event.
+fn last_second(listener: &JournalListener<'_>) -> u64 {
+    match &listener.journal {
+        Some(journal) => journal.table.reading().wall,
+        None => 0,
+    }
+}

@@ -1,0 +1,144 @@
+//! What came due since a journal's last event by the clocks alone, and when they start a job.
+
+ghost use Rattle.std.specs.Prelude.{◌≡◌, ◌≤◌, ℕ, Bool};
+ghost use Rattle.history_model.specs.declared.TheConstants.{MAX_UP, MAX_WALL};
+ghost use Rattle.history_model.specs.Items.{History};
+ghost use Rattle.history_model.specs.NextMomentByFacts.{has_come};
+ghost use Rattle.history_model.specs.NextRun.{looked_ahead};
+ghost use Rattle.calendar_due.specs.ZoneRules.{minute_at};
+ghost use Rattle.job_core.specs.JobMoments.{AreMoments, may_kill_when, may_term_when};
+ghost use Rattle.run_times.specs.Told.{IsTold};
+ghost use Rattle.scope.specs.declared.texts.coming.TheConstants.{FARTHEST};
+ghost use Rattle.scope.specs.Ages.{ComesSince, StartsSo, reasons_then};
+
+use crate::journal::facts::JobFacts;
+use crate::texts::coming::FARTHEST;
+use calendar_due::Zone;
+use history_model::{Entry, Reading, Reasons};
+use job_table::Moments;
+use run_times::Filling::{Text, Time};
+use run_times::{Page, coming_second, next_run};
+
+/// When the clocks alone start a job, by seconds of `wall`.
+#[derive(Clone, Copy)]
+pub(crate) enum StartWhen {
+    Never,
+    /// The start has been due since this second.
+    Since(u64),
+    /// It comes at this second.
+    At(u64),
+}
+
+/// When the clocks alone start the job, told at this second of `wall`, if both go on alike from its last reading on.
+pub(crate) fn start_when(
+    reasons: &Reasons,
+    spawns_from: Option<u64>,
+    entries: &[Entry],
+    zone: &Zone,
+    last: Reading,
+    now: u64,
+) -> StartWhen
+    requires up { last.up ≤ MAX_UP }
+    requires wall { last.wall ≤ MAX_WALL }
+    ensures { (past : History) → IsTold reasons.now spawns_from entries.now last past →
+        StartsSo (minute_at zone.now) past (looked_ahead last FARTHEST) last now result }
+{
+    match next_run(reasons, spawns_from, entries, zone, last, FARTHEST) {
+        Some(seconds) => {
+            let at = last.wall.saturating_add(seconds);
+            if at <= now {
+                StartWhen::Since(at)
+            } else {
+                StartWhen::At(at)
+            }
+        }
+        None => StartWhen::Never,
+    }
+}
+
+/// When KILL came due for the run that lives: after this `up` of the last reading, and up to now.
+pub(crate) fn kill_since(moments: &Moments, last: u64, now: u64) -> Option<u64>
+    ensures { (past : History) → AreMoments past moments.now →
+        ComesSince (λ at. may_kill_when at past) last now result }
+{
+    came_since(moments.kill, last, now)
+}
+
+/// The same of TERM, once more if one was refused.
+pub(crate) fn term_since(moments: &Moments, last: u64, now: u64) -> Option<u64>
+    ensures { (past : History) → AreMoments past moments.now →
+        ComesSince (λ at. may_term_when at past) last now result }
+{
+    came_since(moments.term, last, now)
+}
+
+fn came_since(from: Option<u64>, last: u64, now: u64) -> Option<u64>
+    ensures { (may : ℕ → Bool) → ((at : ℕ) → has_come from at ≡ may at) →
+        ComesSince may last now result }
+{
+    match from {
+        Some(at) if last < at && at <= now => Some(at),
+        _ => None,
+    }
+}
+
+/// The reasons as of this `up`: a throttle that is over then keeps the job from nothing.
+pub(crate) fn reasons_then(reasons: &Reasons, up: u64) -> Reasons
+    ensures { result ≡ reasons_then reasons.now up }
+{
+    let mut then = *reasons;
+    then.throttled_until = match reasons.throttled_until {
+        Some(until) if until > up => Some(until),
+        _ => None,
+    };
+    then
+}
+
+/// Adds when the job starts by the clocks alone, or what came due by them after the last reading and up to now. Of a job that waits for
+/// nothing but to be wanted, a start that comes was told among the ways.
+pub(crate) fn add_coming(
+    page: &mut Page<'_>,
+    facts: &JobFacts<'_>,
+    entries: &[Entry],
+    zone: &Zone,
+    last: Reading,
+    now: Reading,
+    is_idle: bool,
+)
+    requires up { last.up ≤ MAX_UP }
+    requires wall { last.wall ≤ MAX_WALL }
+{
+    match start_when(
+        &facts.reasons,
+        facts.spawns_from,
+        entries,
+        zone,
+        last,
+        now.wall,
+    ) {
+        StartWhen::Since(at) => {
+            page.add(
+                "  By the clocks alone its start has been due since $.\n",
+                &[Time(at)],
+            );
+        }
+        StartWhen::At(at) if !is_idle => {
+            page.add("  It starts at $, if nothing else happens.\n", &[Time(at)]);
+        }
+        _ => {}
+    }
+    let kill = kill_since(&facts.moments, last.up, now.up);
+    add_since(page, "KILL for its run", kill, last);
+    let term = term_since(&facts.moments, last.up, now.up);
+    add_since(page, "TERM for its run", term, last);
+}
+
+fn add_since(page: &mut Page<'_>, what: &'static str, up: Option<u64>, last: Reading) {
+    if let Some(up) = up {
+        let at = Time(coming_second(last, up));
+        page.add(
+            "  By the clocks alone $ has been due since $.\n",
+            &[Text(what), at],
+        );
+    }
+}
