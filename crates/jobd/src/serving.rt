@@ -24,6 +24,7 @@ use startup::{
 use std::alloc::Global;
 use std::fs::File;
 use std::io::BufWriter;
+use std::rt::Env;
 use std::sync::Wait;
 use std::{env, str};
 
@@ -64,11 +65,7 @@ fn serve_by<L: Wait>(
         Err(status) => return status,
     };
     match system_of(host, alloc, plan) {
-        Ok((edge, reading)) => {
-            let (zone, kept) = kept_for(host, alloc, plan, zone, reading);
-            let edge = StatusEdge::new(edge, kept);
-            serve_over(host, host, waits, plan, zone, edge, reading)
-        }
+        Ok((edge, reading)) => serve_kept(host, host, waits, plan, zone, edge, reading),
         Err(status) => {
             drop(zone);
             status
@@ -76,16 +73,31 @@ fn serve_by<L: Wait>(
     }
 }
 
+// Serves by the edge, and keeps the file on how the launcher stands if there is to be one.
+fn serve_kept<L: Wait, R: System + Env + Print, E: RoundEdge + Drop>(
+    host: &HostRuntime,
+    rt: &R,
+    waits: &L,
+    plan: &Plan,
+    zone: ZoneText,
+    edge: E,
+    reading: Reading,
+) -> u8 {
+    let (zone, kept) = kept_for(rt, host.alloc(), plan, zone, reading);
+    let edge = StatusEdge::new(edge, kept);
+    serve_over(host, rt, waits, plan, zone, edge, reading)
+}
+
 // What keeps the file on how the launcher stands, if the environment names one: its lock is held from now on. That it can't be kept is told,
 // and the launcher goes on without.
-fn kept_for(
-    host: &HostRuntime,
+fn kept_for<R: System + Env>(
+    rt: &R,
     alloc: Global,
     plan: &Plan,
     zone: ZoneText,
     reading: Reading,
-) -> (ZoneText, Option<(StandingFile<HostRuntime>, Keeper)>) {
-    let Ok(path) = env::var(host, STATUS_FILE) else {
+) -> (ZoneText, Option<(StandingFile<R>, Keeper)>) {
+    let Ok(path) = env::var(rt, STATUS_FILE) else {
         return (zone, None);
     };
     if path.is_empty() {
@@ -93,29 +105,55 @@ fn kept_for(
         return (zone, None);
     }
     let (zone, line) = headed(alloc, zone, reading);
-    let file = StandingFile::take(host, alloc, path.as_str(), plan.standing.user);
-    let level = plan.wishes.level;
-    let kept = match (file, line, own_process(host)) {
-        (Ok(file), Some(line), Some(own)) => {
-            let has_journal = plan.places.journal.is_some();
-            Some((file, Keeper::new(alloc, own, line, has_journal, reading)))
-        }
-        (Err(error), line, _) => {
-            drop(line);
-            report(host, level, "status file", path.as_str(), &error);
-            None
-        }
-        (Ok(file), line, _) => {
-            file.let_go();
-            drop(file);
-            drop(line);
+    let kept = match keeper_of(rt, alloc, plan, line, reading) {
+        Some(keeper) => held_with(rt, alloc, plan, path.as_str(), keeper),
+        None => {
             let why = "this process is not known, or there is no memory";
-            report(host, level, "status file", path.as_str(), &why);
+            report(rt, plan.wishes.level, "status file", path.as_str(), &why);
             None
         }
     };
     drop(path);
     (zone, kept)
+}
+
+// What is written to it, if it is known which process this is.
+fn keeper_of<R: System>(
+    rt: &R,
+    alloc: Global,
+    plan: &Plan,
+    line: Option<Text>,
+    reading: Reading,
+) -> Option<Keeper> {
+    let line = line?;
+    match own_process(rt) {
+        Some(own) => {
+            let has_journal = plan.places.journal.is_some();
+            Some(Keeper::new(alloc, own, line, has_journal, reading))
+        }
+        None => {
+            drop(line);
+            None
+        }
+    }
+}
+
+// It, with its lock.
+fn held_with<R: System>(
+    rt: &R,
+    alloc: Global,
+    plan: &Plan,
+    path: &str,
+    keeper: Keeper,
+) -> Option<(StandingFile<R>, Keeper)> {
+    match StandingFile::take(rt, alloc, path, plan.standing.user) {
+        Ok(file) => Some((file, keeper)),
+        Err(error) => {
+            drop(keeper);
+            report(rt, plan.wishes.level, "status file", path, &error);
+            None
+        }
+    }
 }
 
 // The line of a header without settings, without its newline; and the zone again.
