@@ -160,7 +160,7 @@ def a_run_has_so_many_bytes(folder):
     after, more = state()
     run("jobctl", "--socket", "s", "unload", "org.example.often.json", folder=folder)
     bytes_each = (after - before) / max(1, more - runs)
-    if len(said) != 1 or not 0.8 * min(said) <= bytes_each <= 1.25 * min(said):
+    if len(said) != 1 or not 0.85 * min(said) <= bytes_each <= 1.15 * min(said):
         faults.append(f"a run adds {bytes_each:.0f} bytes, and the pages say {said}")
 
 
