@@ -146,7 +146,7 @@ def a_run_has_so_many_bytes(folder):
     """A start of a job with its end adds about as many bytes to the journal as the pages say."""
     said = {int(number) for number in re.findall(r"adds some (\d+) bytes", read("docs/OPERATING.md"))}
     with open(f"{folder}/org.example.often.json", "w", encoding="utf-8") as it:
-        json.dump({"Label": "org.example.often", "Program": "/bin/true", "KeepAlive": True, "ThrottleInterval": 0}, it)
+        json.dump({"Label": "org.example.often", "Program": "/bin/true", "KeepAlive": True, "ThrottleInterval": 1}, it)
     run("jobctl", "--socket", "s", "load", "org.example.often.json", folder=folder)
     time.sleep(0.5)
 
@@ -156,7 +156,7 @@ def a_run_has_so_many_bytes(folder):
         return len(text), text.count('"ev":"spawned"')
 
     before, runs = state()
-    time.sleep(2)
+    time.sleep(6)
     after, more = state()
     run("jobctl", "--socket", "s", "unload", "org.example.often.json", folder=folder)
     bytes_each = (after - before) / max(1, more - runs)
