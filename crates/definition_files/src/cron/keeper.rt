@@ -25,12 +25,11 @@ pub trait LineKeeper {
     /// The lines that were judged, oldest first, each with the verdict. A keeper that does not tell it has none.
     ghost told: { Self → Option (List LineJudged) };
 
-    /// Keeps what was made of the line of this number: as a file of its own in the folder, or in the text if there is none; or tells why
-    /// there is nothing. Exactly a fault is a refusal. The one error is of memory.
+    /// Keeps what was made of the line of this number, in the text if it has no other place; or tells why there is nothing. Exactly a
+    /// fault is a refusal. The one error is of memory.
     fn keep(
         &mut self,
         alloc: Global,
-        into: Option<&str>,
         number: usize,
         line: &Text,
         made: Result<Option<Made>, LineFault>,
@@ -41,10 +40,12 @@ pub trait LineKeeper {
             ((line.now, verdict) ∷ []) (Self.told self.new)) };
 }
 
-/// Keeps definitions in the system's files. It does not tell what was judged.
+/// Keeps definitions in a folder, or in the text if there is none. It does not tell what was judged.
 #[derive(Clone, Copy)]
 pub struct HostLines<'a> {
     pub host: &'a HostRuntime,
+    /// The folder in which each definition becomes a file of its own.
+    pub into: Option<&'a str>,
 }
 
 impl LineKeeper for HostLines<'_> {
@@ -53,7 +54,6 @@ impl LineKeeper for HostLines<'_> {
     fn keep(
         &mut self,
         alloc: Global,
-        into: Option<&str>,
         number: usize,
         _line: &Text,
         made: Result<Option<Made>, LineFault>,
@@ -61,7 +61,7 @@ impl LineKeeper for HostLines<'_> {
     ) -> Result<LineVerdict, AllocError> {
         match made {
             Ok(Some(made)) => {
-                let kept = keep_made(self.host, alloc, into, &made, text);
+                let kept = keep_made(self.host, alloc, self.into, &made, text);
                 drop(made);
                 match kept {
                     Ok(true) => Ok(LineVerdict::Well),

@@ -24,14 +24,13 @@ struct Above {
     comment: String,
 }
 
-/// A definition for each line that runs a command, which the keeper is given, with the folder. Each line is judged once, in order. What is wrong with a
+/// A definition for each line that runs a command, which the keeper is given. Each line is judged once, in order. What is wrong with a
 /// line is told, and so is what of it no definition takes over. The status is 65 if a definition could not be kept; else 1 if a line was
 /// refused: the others' definitions are written all the same; else 0.
 pub fn definitions_of<K: LineKeeper>(
     host: &HostRuntime,
     alloc: Global,
     keeper: &mut K,
-    into: Option<&str>,
     lines: &[Text],
     around: &Surroundings,
 ) -> Result<Outcome, AllocError>
@@ -43,9 +42,7 @@ pub fn definitions_of<K: LineKeeper>(
         settings: Settings::new(alloc),
         comment: String::new(alloc),
     };
-    let judged = judge_each(
-        host, alloc, keeper, into, lines, around, &mut above, &mut text,
-    );
+    let judged = judge_each(host, alloc, keeper, lines, around, &mut above, &mut text);
     drop(above);
     match judged {
         Ok(verdicts) => Ok(Outcome {
@@ -63,7 +60,6 @@ fn judge_each<K: LineKeeper>(
     host: &HostRuntime,
     alloc: Global,
     keeper: &mut K,
-    into: Option<&str>,
     lines: &[Text],
     around: &Surroundings,
     above: &mut Above,
@@ -77,7 +73,7 @@ fn judge_each<K: LineKeeper>(
     for line in lines {
         number = number.saturating_add(1);
         let made = made_of(host, alloc, number, line.as_str(), around, above);
-        match keeper.keep(alloc, into, number, line, made, text) {
+        match keeper.keep(alloc, number, line, made, text) {
             Ok(verdict) => verdicts = verdicts.with(verdict),
             Err(error) => return Err(error),
         }

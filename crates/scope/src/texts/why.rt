@@ -4,13 +4,14 @@ use crate::journal::job::{KeptJob, Record};
 use crate::journal::labels::{DisabledBy, KnownLabel};
 use crate::journal::reader::OpenJournal;
 use crate::texts::cause_lines::add_causes;
+use crate::texts::causes::throttle_end;
 use crate::texts::coming::{FARTHEST, calendar_next};
 use crate::texts::told::{Keys, ToldJob};
 use crate::texts::words::{asked_name, end_words, refusal_words};
 use calendar_due::Zone;
 use history_model::{Entry, MAX_UP, MAX_WALL, Reading, Reasons, Refusal};
 use run_times::Filling::{Now, Number, Span, Text, Time};
-use run_times::{Page, next_run};
+use run_times::{Page, coming_second, next_run};
 use std::alloc::{AllocError, Global};
 
 /// For each loaded job, or for those named: its state, a line for each thing that keeps it from a start or wants it, how it ended
@@ -123,6 +124,7 @@ fn add_job(page: &mut Page<'_>, journal: &OpenJournal, label: &str, job: &KeptJo
     let is_idle = add_causes(page, &told);
     add_past(page, &job.record);
     add_background(page, &job.record);
+    add_inert(page, def.not_acted_on());
     add_label(page, label, journal.past.labels.of(label));
     // Of a job that nothing wants, and that nothing else keeps from a start, the ways by which it comes to start were told.
     if !is_idle {
@@ -167,6 +169,16 @@ fn add_past(page: &mut Page<'_>, job: &Record) {
     }
 }
 
+// The conditions of `KeepAlive` among the keys that nothing acts on.
+fn add_inert(page: &mut Page<'_>, keys: &[history_model::Text]) {
+    for key in keys {
+        if let Some(condition) = key.as_str().strip_prefix("KeepAlive.") {
+            let form = "  Nothing acts on its KeepAlive $: that never wants it.\n";
+            page.add(form, &[Text(condition)]);
+        }
+    }
+}
+
 // What is asked of a job whose program seems to put itself in the background.
 fn add_background(page: &mut Page<'_>, job: &Record) {
     if job.is_in_background() {
@@ -193,8 +205,18 @@ fn start_words(told: &ToldJob<'_>, entries: &[Entry], zone: &Zone) -> (&'static 
     ) {
         Some(seconds) => (
             "  It starts at $, if nothing else happens.\n",
-            now.wall.saturating_add(seconds),
+            shown_start(told, now.wall.saturating_add(seconds)),
         ),
         None => ("", 0),
+    }
+}
+
+// A start at the end of the throttle is told at the moment that is told for that.
+fn shown_start(told: &ToldJob<'_>, wall: u64) -> u64 {
+    match told.facts.reasons.throttled_until {
+        Some(up) if coming_second(told.at, up) == wall => {
+            throttle_end(told.job, told.keys.throttle_interval, up, told.at)
+        }
+        _ => wall,
     }
 }
