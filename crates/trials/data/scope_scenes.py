@@ -158,7 +158,7 @@ def jobscope_cron(stage):
 
 
 def a_line_too_long(stage):
-    """`why` tells what stands before a line that is too long, and that it is."""
+    """`why`, `runs` and `picture` tell what stands before a line that is too long, and that it is."""
     lines = [HEADER, load_of("web"), '{"ev":"start","job":"web"}\n', " " * 262145 + "\n", '{"ev":"spawned","job":"web","run":1,"pid":5}\n']
     path = make(stage.at("long"), "".join(lines))
     ran = subprocess.run([*stage.given.jobscope, "why", "--journal", path], capture_output=True, timeout=BOUND, text=True)
@@ -166,6 +166,10 @@ def a_line_too_long(stage):
     awaited = "The start of run 1 was ordered, and the answer is awaited."
     check((ran.returncode, ran.stderr) == (65, told), f"a line too long got {ran.returncode} {ran.stderr!r}")
     check(awaited in ran.stdout, f"before a line too long stood {ran.stdout!r}")
+    for word, wanted in (("runs", "\nweb\t1\t0\t"), ("picture", ">web</text>")):
+        it = subprocess.run([*stage.given.jobscope, word, "--journal", path], capture_output=True, timeout=BOUND, text=True)
+        check((it.returncode, it.stderr) == (65, told), f"{word}: a line too long got {it.returncode} {it.stderr!r}")
+        check(wanted in it.stdout, f"{word}: before a line too long stood {it.stdout!r}")
 
 
 def a_journal_put_aside(stage):
@@ -285,8 +289,27 @@ def jobscope_journal(stage):
 DRAWN = ("three_runs", "killed", "live_end")
 
 
+def a_long_journal(stage):
+    """A picture has each of 140,000 runs, from the first to the last: more than could be kept one by one."""
+    count, wall = 140_000, 1795611777
+    path = stage.at("long_journal")
+    with open(path, "w", encoding="utf-8") as journal:
+        journal.write(HEADER + json.dumps({"ev": "load", "def": '{"Label": "r", "Program": "/bin/r", "ThrottleInterval": 0}'}) + "\n")
+        for run in range(1, count + 1):
+            journal.write('{"ev":"start","job":"r"}\n' + f'{{"ev":"spawned","job":"r","run":{run},"pid":5}}\n')
+            journal.write(f'{{"ev":"clock","up":{1000 * run},"wall":{wall + run}}}\n' + f'{{"ev":"ended","job":"r","run":{run},"code":0}}\n')
+    it = subprocess.run([*stage.given.jobscope, "picture", "--journal", path], capture_output=True, timeout=LONGEST, text=True)
+    os.remove(path)
+    check((it.returncode, it.stderr) == (0, ""), f"a long journal: {it.returncode} {it.stderr!r}")
+    drawn = [int(runs) for runs in re.findall('data-runs="([0-9]+)"', it.stdout)]
+    check(sum(drawn) == count, f"{count} runs began, and {sum(drawn)} are drawn")
+    check(100 < len(drawn) < 2000, f"they stand in {len(drawn)} bars")
+    check("from run 1 on" in it.stdout and "Not drawn" not in it.stdout, "the first run is not drawn, or some are told as not drawn")
+
+
 def jobscope_pictures(stage):
-    """The SVG, the page and the terminal's blocks show each run of a journal, from its begin to its end, and no other."""
+    """The SVG, the page and the terminal's blocks show each run of a journal, from its begin to its end, and no other. A long one is drawn whole."""
+    a_long_journal(stage)
     for name in DRAWN:
         faults = list(faults_of(stage.given.jobscope, os.path.join(HERE, "scope", "journal", f"{name}.jsonl")))
         check(not faults, f"{name}: {'; '.join(faults)}")
