@@ -3,6 +3,7 @@
 
 mod charted;
 mod clock;
+mod ended;
 mod journal;
 mod listener;
 mod log;
@@ -12,6 +13,7 @@ mod report;
 mod texts;
 mod zone;
 
+pub use ended::{check_ended, cron_ended, next_ended, plist_ended};
 pub use journal::facts::JobFacts;
 pub use journal::fault::JournalFault;
 pub use journal::lines::{Hears, JournalLines};

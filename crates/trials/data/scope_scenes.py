@@ -166,7 +166,7 @@ def a_line_too_long(stage):
     awaited = "The start of run 1 was ordered, and the answer is awaited."
     check((ran.returncode, ran.stderr) == (65, told), f"a line too long got {ran.returncode} {ran.stderr!r}")
     check(awaited in ran.stdout, f"before a line too long stood {ran.stdout!r}")
-    for word, wanted in (("runs", "\nweb\t1\t0\t"), ("picture", ">web</text>")):
+    for word, wanted in (("runs", "\nweb\t1\t0\t"), ("picture", ">web<title>web</title></text>")):
         it = subprocess.run([*stage.given.jobscope, word, "--journal", path], capture_output=True, timeout=BOUND, text=True)
         check((it.returncode, it.stderr) == (65, told), f"{word}: a line too long got {it.returncode} {it.stderr!r}")
         check(wanted in it.stdout, f"{word}: before a line too long stood {it.stdout!r}")
