@@ -96,7 +96,8 @@ fn add_file<S: DefinitionSource>(
             drop(bytes);
             verdict
         }
-        Ok(_) => Ok(Verdict::Unread),
+        Ok(Contents::Unread) => Ok(Verdict::Unread),
+        Ok(Contents::Nothing) => Ok(Verdict::Unread),
         Err(error) => Err(error),
     }
 }
