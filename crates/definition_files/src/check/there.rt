@@ -108,7 +108,7 @@ fn put_line(host: &HostRuntime, alloc: Global, told: &str) -> io::Result<()> {
         return Ok(());
     }
     let mut ink = Ink::new(alloc);
-    ink.put_all(&[Text("  Now: "), Text(told), Text(".\n")]);
+    ink.fill("  Now: $.\n", &[Text(told)]);
     put_made(host, ink.into_text())
 }
 
