@@ -186,6 +186,10 @@ impl<E: RoundEdge, R: System> RoundEdge for StatusEdge<E, R> {
         self.edge.listener_from(job)
     }
 
+    fn room(&self) -> usize {
+        self.edge.room()
+    }
+
     fn listens_at(&self, origin: Origin) -> bool {
         self.edge.listens_at(origin)
     }
