@@ -1,0 +1,282 @@
+//! The store that a launcher's settings last in: it goes on after its disk failed.
+
+ghost use Rattle.std.specs.Prelude.{◌≡◌, ◌⊎◌, ◌<◌, ◌≤◌, ◌∷◌, IfErr, IfOk, IsSomeAnd, IsTrue, None, Option, [], reverse, true, false};
+ghost use Rattle.std.specs.Vec.{vec_capacity, vec_len};
+ghost use Rattle.sqlite.specs.Held.{state};
+ghost use Rattle.sqlite.specs.State.{HasCleanDisk};
+ghost use Rattle.sqlite.specs.Tree.{Trees};
+ghost use Rattle.sqlite.specs.View.{IsClean};
+ghost use Rattle.history_model.specs.declared.TheConstants.{MAX_WALL};
+ghost use Rattle.history_model.specs.Labels.{is_label};
+ghost use Rattle.override_store.specs.OverrideStores.{AreFit, HoldsAs};
+ghost use Rattle.override_store.specs.KnownSettings.{AtHand, HasMade, HoldsKnown, HoldsLast, IfFit, StampsLast, TellAlike, known_as};
+
+use crate::known::{Known, known_of, put, rising};
+use crate::place::{StoreNews, StorePlace, Telling};
+use crate::renewal::{open_all, renewed};
+use crate::stored_settings::fault_of;
+use crate::{OverrideStore, StoreFault};
+use history_model::{Setting, Text};
+use outside::{self, SettingStore};
+use sqlite::{Alter, Connection};
+use std::alloc::Global;
+
+/// As many labels have a setting at most, but for those that a store had before. Each takes two pages of a database at most.
+pub const MOST_LABELS: usize = 16_384;
+
+/// The store at its place, with the settings that it has to hold. A setting that is refused shuts it. The next one opens it anew, and
+/// what its database then has otherwise is written back before that one is made. Once it is let go, its database is closed whole.
+pub struct LastingSettings<S: Alter, P: StorePlace<S>> {
+    alloc: Global,
+    pub place: P,
+    /// The store, if it is not shut.
+    pub store: Option<OverrideStore<S>>,
+    /// One that a refusal shut. It keeps the place from others.
+    shut: Option<OverrideStore<S>>,
+    pub known: Vec<Known>,
+    /// Whether it was opened anew.
+    pub is_renewed: bool,
+    /// Whether it is told that the store refuses.
+    is_told: bool,
+    /// Whether it is told that there are too many labels.
+    is_full: bool,
+}
+
+impl<S: Alter + Drop, P: StorePlace<S> + Drop> Drop for LastingSettings<S, P> {
+    fn drop(self) {
+        let LastingSettings {
+            alloc,
+            place,
+            store,
+            shut,
+            known,
+            is_renewed: _,
+            is_told: _,
+            is_full: _,
+        } = self;
+        drop(store);
+        drop(shut);
+        settle(alloc, &place, known.as_slice());
+        drop(known);
+        drop(place);
+    }
+}
+
+// Opens the store anew, so that what others did to its files meanwhile is seen and mended, and closes it.
+fn settle<S: Alter + Drop, P: StorePlace<S>>(alloc: Global, place: &P, known: &[Known]) {
+    if let Ok((store, is_mended)) = renewed(alloc, place, known, Telling::AllButBusy) {
+        if is_mended {
+            place.tell(StoreNews::Mended);
+        }
+        place.close(store.close_on());
+    }
+}
+
+/// The store on a connection to the database at the place, and the settings that it holds, by rising bytes of their labels. Refused as
+/// `opened` is.
+pub fn lasting<S: Alter + Drop, P: StorePlace<S> + Drop>(
+    alloc: Global,
+    place: P,
+    conn: Connection<S>,
+) -> Result<(LastingSettings<S, P>, Vec<Setting>), (StoreFault, S)>
+    ensures holds { IfOk result (λ r. AreFit (state S.Store conn).committed.trees →
+        HoldsLast S.Store (P.fits r.0.place) r.0.is_renewed r.0.store r.0.known.items (reverse r.1.items)) }
+    ensures stamped { IfOk result (λ r. AreFit (state S.Store conn).committed.trees →
+        StampsLast S.Store (P.fits r.0.place) r.0.is_renewed r.0.store r.0.known.items []) }
+    ensures left { IfErr result (λ e. IsClean (S.Store.view e.1) →
+        AreFit (state S.Store conn).committed.trees → (db : Trees) → S.Store.recovers e.1 db →
+        (state S.Store conn).may_leave db ⊎ HoldsAs (state S.Store conn).committed.trees db) }
+{
+    let (store, known) = match open_all(alloc, conn) {
+        Ok(both) => both,
+        Err(refused) => {
+            drop(place);
+            return Err(refused);
+        }
+    };
+    match rising(alloc, known.as_slice()) {
+        Ok(settings) => Ok((
+            LastingSettings {
+                alloc,
+                place,
+                store: Some(store),
+                shut: None,
+                known,
+                is_renewed: false,
+                is_told: false,
+                is_full: false,
+            },
+            settings,
+        )),
+        Err(fault) => {
+            drop(place);
+            drop(known);
+            Err((fault, store.close_on().into_store()))
+        }
+    }
+}
+
+impl<S: Alter + Drop, P: StorePlace<S> + Drop> LastingSettings<S, P> {
+    // The store, taken out. It is opened anew if it is shut.
+    fn at_hand(&mut self) -> Result<OverrideStore<S>, StoreFault>
+        ensures place { self.new.place ≡ self.old.place }
+        ensures known { self.new.known ≡ self.old.known }
+        ensures taken { self.new.store ≡ None }
+        ensures holds { AtHand S.Store self.old.is_renewed (P.fits self.old.place)
+            self.old.store self.old.known.items →
+            IfOk result (λ store. IfFit self.new.is_renewed (P.fits self.old.place)
+            (HoldsKnown (state S.Store store) self.old.known.items)) }
+    {
+        match self.store.take() {
+            Some(store) => Ok(store),
+            None => self.open_anew(),
+        }
+    }
+
+    fn open_anew(&mut self) -> Result<OverrideStore<S>, StoreFault>
+        ensures place { self.new.place ≡ self.old.place }
+        ensures known { self.new.known ≡ self.old.known }
+        ensures taken { self.new.store ≡ self.old.store }
+        ensures holds { IfOk result (λ store. IfFit self.new.is_renewed (P.fits self.old.place)
+            (HoldsKnown (state S.Store store) self.old.known.items)) }
+    {
+        drop(self.shut.take());
+        let telling = if self.is_told {
+            Telling::Nothing
+        } else {
+            Telling::All
+        };
+        match renewed(self.alloc, &self.place, self.known.as_slice(), telling) {
+            Ok((store, _)) => {
+                self.is_renewed = true;
+                self.is_told = false;
+                Ok(store)
+            }
+            Err(fault) => {
+                self.is_told = true;
+                Err(fault)
+            }
+        }
+    }
+
+    // Shuts the store, which refused a setting. That is told, unless it is known.
+    fn shut(&mut self, store: OverrideStore<S>, fault: StoreFault)
+        ensures place { self.new.place ≡ self.old.place }
+        ensures known { self.new.known ≡ self.old.known }
+        ensures store { self.new.store ≡ self.old.store }
+        ensures renewed { self.new.is_renewed ≡ self.old.is_renewed }
+    {
+        if !self.is_told {
+            self.place.tell(StoreNews::Refused(fault));
+        }
+        self.is_told = true;
+        self.shut = Some(store);
+    }
+
+    /// Makes the setting in the store, which is opened anew first if it is shut: true, and it lasts. What is known stays as it was, so
+    /// the caller has to note it. False: the store is shut, and the setting may be in its database.
+    fn write(&mut self, label: &str, disabled: bool, changed: u64) -> bool
+        requires label { IsTrue (is_label label.now) }
+        requires second { changed ≤ MAX_WALL }
+        ensures place { self.new.place ≡ self.old.place }
+        ensures known { self.new.known ≡ self.old.known }
+        ensures refused { result ≡ false → self.new.store ≡ None }
+        ensures made { IsTrue result → AtHand S.Store self.old.is_renewed (P.fits self.old.place)
+            self.old.store self.old.known.items →
+            IsSomeAnd self.new.store (λ store. IfFit self.new.is_renewed (P.fits self.old.place)
+            (HasCleanDisk (state S.Store store) →
+            HasMade (state S.Store store) label.now disabled changed self.old.known.items)) }
+    {
+        let mut store = match self.at_hand() {
+            Ok(store) => store,
+            Err(_) => return false,
+        };
+        match store.set(label, disabled, changed) {
+            Ok(()) => {
+                self.store = Some(store);
+                true
+            }
+            Err(fault) => {
+                self.shut(store, fault);
+                false
+            }
+        }
+    }
+
+    // Whether the label may have a setting: it has one, or there are not too many. Room for one more is then there.
+    fn has_room(&mut self, label: &str) -> bool
+        ensures place { self.new.place ≡ self.old.place }
+        ensures store { self.new.store ≡ self.old.store }
+        ensures renewed { self.new.is_renewed ≡ self.old.is_renewed }
+        ensures known { self.new.known.items ≡ self.old.known.items }
+        ensures room { result ≡ true → vec_len self.new.known < vec_capacity self.new.known }
+    {
+        let is_new = known_of(self.known.as_slice(), label).is_none();
+        if is_new && self.known.len() >= MOST_LABELS {
+            if !self.is_full {
+                self.place.tell(StoreNews::TooMany);
+            }
+            self.is_full = true;
+            return false;
+        }
+        self.known.reserve(1).is_ok()
+    }
+
+    /// As `set` of `SettingStore`, which is this: once it answers true the setting lasts, and the store has all that was set, whatever
+    /// was refused before. False: nothing of it has to be held, though the database may have it until the store is opened anew.
+    pub fn keep(&mut self, label: &str, disabled: bool, changed: u64) -> bool
+        requires label { IsTrue (is_label label.now) }
+        requires second { changed ≤ MAX_WALL }
+        ensures place { self.new.place ≡ self.old.place }
+        ensures refused { result ≡ false →
+            (self.new.known.items ≡ self.old.known.items) × (self.new.store ≡ None ⊎
+            (self.new.store ≡ self.old.store) × (self.new.is_renewed ≡ self.old.is_renewed)) }
+        ensures told { IsTrue result →
+            TellAlike self.new.known.items (known_as label.now disabled changed ∷ self.old.known.items) }
+        ensures made { IsTrue result → AtHand S.Store self.old.is_renewed (P.fits self.old.place)
+            self.old.store self.old.known.items →
+            IsSomeAnd self.new.store (λ store. IfFit self.new.is_renewed (P.fits self.old.place)
+            (HasCleanDisk (state S.Store store) →
+            HasMade (state S.Store store) label.now disabled changed self.old.known.items)) }
+    {
+        if !self.has_room(label) {
+            return false;
+        }
+        let text = match Text::copy_of(self.alloc, label) {
+            Ok(text) => text,
+            Err(_) => return false,
+        };
+        if self.write(label, disabled, changed) {
+            let setting = Setting {
+                label: text,
+                disabled,
+            };
+            put(&mut self.known, Known { setting, changed });
+            true
+        } else {
+            drop(text);
+            false
+        }
+    }
+}
+
+impl<S: Alter + Drop, P: StorePlace<S> + Drop> SettingStore for LastingSettings<S, P> {
+    ghost holds = { λ s settings. HoldsLast S.Store (P.fits s.place) s.is_renewed s.store s.known.items settings };
+
+    ghost stamped = { λ s stamps. StampsLast S.Store (P.fits s.place) s.is_renewed s.store s.known.items stamps };
+
+    ghost told = { λ s. None };
+
+    ghost may_give = { λ s answer. Unit {0} };
+
+    fn set(&mut self, label: &str, disabled: bool, changed: u64) -> bool {
+        self.keep(label, disabled, changed)
+    }
+
+    fn all(&mut self, alloc: Global) -> Result<Vec<Setting>, outside::StoreFault> {
+        match rising(alloc, self.known.as_slice()) {
+            Ok(all) => Ok(all),
+            Err(fault) => Err(fault_of(fault)),
+        }
+    }
+}
