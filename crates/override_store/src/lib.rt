@@ -225,7 +225,7 @@ impl<S: Alter> OverrideStore<S> {
 
     /// Each label's setting with its second, by falling bytes of the labels. Refused as `all` is.
     pub(crate) fn known(&mut self, alloc: Global) -> Result<Vec<Known>, StoreFault>
-        ensures { Between S.Store self.old self.new (λ old new. (HasCleanDisk old → IsOurs old) →
+        ensures tells { Between S.Store self.old self.new (λ old new. (HasCleanDisk old → IsOurs old) →
             IfOk result (λ all. HoldsKnown new all.items)) }
         ensures clean { doubt (state S.Store self.old).is_clean ≤ doubt (state S.Store self.new).is_clean }
     {
@@ -233,14 +233,12 @@ impl<S: Alter> OverrideStore<S> {
             Ok(rows) => rows,
             Err(fault) => return Err(fault),
         };
-        match lists::all_known(alloc, rows.as_slice()) {
-            Ok(all) => {
-                let mut all = all;
-                all.reverse();
-                Ok(all)
-            }
-            Err(fault) => Err(fault),
-        }
+        let mut all = match lists::all_known(alloc, rows.as_slice()) {
+            Ok(all) => all,
+            Err(fault) => return Err(fault),
+        };
+        all.reverse();
+        Ok(all)
     }
 
     /// Takes the label's setting out, and promises nothing of what is left.

@@ -1,0 +1,39 @@
+-- What a launcher's store holds once a setting was made in it.
+use Rattle.std.proofs.Common.{◌≡◌, inl, inr, ℕ, Bool, true, false, List, ◌∷◌, Option, Some, None, refl, sym, ◌∙◌, IsSomeAnd}
+use Rattle.std.proofs.lemmas.Bool.{cases_Bool}
+use Rattle.sqlite.specs.Held.{Held, state}
+use Rattle.sqlite.specs.Store.{Ghosts}
+use Rattle.sqlite.specs.State.{State, HasCleanDisk}
+use Rattle.history_model.specs.declared.event.Setting.{Setting}
+use Rattle.history_model.specs.Labels.{Label, is_same}
+use Rattle.override_store.specs.declared.known.Known.{Known}
+use Rattle.override_store.specs.OverrideStores.{rows_now}
+use Rattle.override_store.specs.Settings.{Change, ListAlike}
+use Rattle.override_store.specs.KnownSettings.{AtHand, HasMade, HoldsKnown, IfFit, TellAlike, TellsStamps, known_as, settings_of, stamps_of}
+use Rattle.override_store.proofs.KnownLemmas.{holds_alike, more_alike, seconds_alike, settings_alike, stamps_alike}
+use Rattle.override_store.proofs.TieLemmas.{head_second}
+
+module _ (label : Label) (disabled : Bool) (changed : ℕ) (known new : List Known) (told : TellAlike new (known_as label disabled changed ∷ known)) where
+  abbrev one : Known
+  one = known_as label disabled changed
+
+  -- the list tells the setting, and else what is told before
+  pub lists_more : (held : List Setting) → ListAlike (settings_of known) held → ListAlike (settings_of new) (one.setting ∷ held)
+  lists_more held alike l = settings_alike new (one ∷ known) l (told l) ∙ more_alike one.setting (settings_of known) held l (alike l)
+
+  pub stamps_told : (held : List Change) → TellsStamps known held → TellsStamps new ((label, changed) ∷ held)
+  stamps_told held tells l s e = seconds_alike new (one ∷ known) l (told l) ∙ elim (cases_Bool (is_same l label)) [
+    | inl same ↦ head_second (label, changed) (stamps_of known) l true same ∙ sym (head_second (label, changed) held l true same) ∙ e
+    | inr other ↦ head_second (label, changed) (stamps_of known) l false other ∙ tells l s (sym (head_second (label, changed) held l false other) ∙ e)
+  ]
+
+  now_known : (s : State) → HasMade s label disabled changed known → HoldsKnown s new
+  now_known s made = (
+    λ clean up. (made.ours, holds_alike (rows_now s) (settings_of (one ∷ known)) (settings_of new) (λ l. settings_alike new (one ∷ known) l (told l)) made.settings),
+    λ clean up. (made.ours, stamps_alike (rows_now s) (stamps_of (one ∷ known)) (stamps_of new) (λ l. seconds_alike new (one ∷ known) l (told l)) made.stamps),
+  )
+
+  pub at_hand_made : {S : Type 0} (g : Ghosts S) (renewed : Bool) (Fits : Type 0) (store : Option (Held S)) →
+      IsSomeAnd store (λ s. IfFit renewed Fits (HasCleanDisk (state g s) → HasMade (state g s) label disabled changed known)) → AtHand g renewed Fits store new
+  at_hand_made g renewed Fits None made = absurd made
+  at_hand_made g renewed Fits (Some s) made = λ fits. (λ clean up. (now_known (state g s) (made fits clean)).0 clean up, λ clean up. (now_known (state g s) (made fits clean)).1 clean up)
