@@ -40,18 +40,26 @@ fn is_behind<'x>(label: &'x str, other: &'x str) -> bool {
     }
 }
 
+fn is_above(one: &Known, label: &str) -> bool {
+    is_behind(one.label(), label)
+}
+
 /// Where the label stands, or else where it belongs.
 pub(crate) fn place_in_order(known: &[Known], label: &str) -> usize
     ensures { result ≤ length known.now }
 {
-    known.partition_point(|one| is_behind(one.label(), label))
+    known.partition_point(|one| is_above(one, label))
 }
 
 /// What is known of the label.
 pub(crate) fn known_of<'x>(known: &'x [Known], label: &str) -> Option<&'x Known> {
     let place = place_in_order(known, label);
-    if place < known.len() && known[place].is_of(label) {
-        Some(&known[place])
+    if place >= known.len() {
+        return None;
+    }
+    let one = &known[place];
+    if one.is_of(label) {
+        Some(one)
     } else {
         None
     }
