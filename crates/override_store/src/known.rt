@@ -58,11 +58,7 @@ pub(crate) fn known_of<'x>(known: &'x [Known], label: &str) -> Option<&'x Known>
         return None;
     }
     let one = &known[place];
-    if one.is_of(label) {
-        Some(one)
-    } else {
-        None
-    }
+    if one.is_of(label) { Some(one) } else { None }
 }
 
 /// Where the label stands first.

@@ -28,13 +28,13 @@ mod statements;
 mod stored_settings;
 
 use history_model::Setting;
+pub use known::Known;
+pub use lasting_settings::{LastingSettings, MOST_LABELS, lasting};
+pub use place::{StoreNews, StorePlace, Telling};
 use sqlite::{Alter, Connection, Error, ErrorCode};
 use sqlite_trees::store::Store;
 use std::alloc::Global;
 use std::marker::Model;
-pub use known::Known;
-pub use lasting_settings::{LastingSettings, MOST_LABELS, lasting};
-pub use place::{StoreNews, StorePlace, Telling};
 pub use stored_settings::{StoredSettings, opened, opened_again};
 
 /// Why a store refuses.
