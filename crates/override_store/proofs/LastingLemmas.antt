@@ -9,7 +9,7 @@ use Rattle.history_model.specs.Labels.{Label, is_same}
 use Rattle.override_store.specs.declared.known.Known.{Known}
 use Rattle.override_store.specs.OverrideStores.{rows_now}
 use Rattle.override_store.specs.Settings.{Change, ListAlike}
-use Rattle.override_store.specs.KnownSettings.{AtHand, HasMade, HoldsKnown, IfFit, TellAlike, TellsStamps, known_as, settings_of, stamps_of}
+use Rattle.override_store.specs.KnownSettings.{AtHand, HasMade, HoldsKnown, TellAlike, TellsStamps, known_as, settings_of, stamps_of}
 use Rattle.override_store.proofs.KnownLemmas.{holds_alike, more_alike, seconds_alike, settings_alike, stamps_alike}
 use Rattle.override_store.proofs.TieLemmas.{head_second}
 
@@ -33,7 +33,7 @@ module _ (label : Label) (disabled : Bool) (changed : ℕ) (known new : List Kno
     λ clean up. (made.ours, stamps_alike (rows_now s) (stamps_of (one ∷ known)) (stamps_of new) (λ l. seconds_alike new (one ∷ known) l (told l)) made.stamps),
   )
 
-  pub at_hand_made : {S : Type 0} (g : Ghosts S) (renewed : Bool) (Fits : Type 0) (store : Option (Held S)) →
-      IsSomeAnd store (λ s. IfFit renewed Fits (HasCleanDisk (state g s) → HasMade (state g s) label disabled changed known)) → AtHand g renewed Fits store new
-  at_hand_made g renewed Fits None made = absurd made
-  at_hand_made g renewed Fits (Some s) made = λ fits. (λ clean up. (now_known (state g s) (made fits clean)).0 clean up, λ clean up. (now_known (state g s) (made fits clean)).1 clean up)
+  pub at_hand_made : {S : Type 0} (g : Ghosts S) (store : Option (Held S)) →
+      IsSomeAnd store (λ s. HasCleanDisk (state g s) → HasMade (state g s) label disabled changed known) → AtHand g store new
+  at_hand_made g None made = absurd made
+  at_hand_made g (Some s) made = (λ clean up. (now_known (state g s) (made clean)).0 clean up, λ clean up. (now_known (state g s) (made clean)).1 clean up)

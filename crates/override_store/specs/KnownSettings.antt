@@ -5,11 +5,13 @@ use Rattle.sqlite.specs.declared.types.Value.TheVariants.{Int}
 use Rattle.sqlite.specs.Order.{Row, column}
 use Rattle.sqlite.specs.Held.{Held, state}
 use Rattle.sqlite.specs.Store.{Ghosts}
+use Rattle.sqlite.specs.Schema.{Schema}
 use Rattle.sqlite.specs.State.{State, HasCleanDisk}
 use Rattle.history_model.specs.declared.event.Setting.{Setting}
 use Rattle.history_model.specs.Labels.{Label, is_same}
 use Rattle.history_model.specs.Search.{first}
 use Rattle.override_store.specs.declared.known.Known.{Known}
+use Rattle.override_store.specs.StoreTables.{both_schema}
 use Rattle.override_store.specs.Settings.{Change, HoldsEach, IsEntry, ListAlike, StampsEach, second_in}
 use Rattle.override_store.specs.OverrideStores.{HoldsSettings, HoldsStamps, IsOurs, LeavesAll, rows_now}
 
@@ -62,23 +64,19 @@ pub record HasMade (s : State) (label : List ℕ) (disabled : Bool) (changed : �
   pub stamps : StampsEach (rows_now s) ((label, changed) ∷ stamps_of known)
   pub lasts : LeavesAll s
 
--- A store that was opened anew holds it if what stood at its place then was a store's.
-abbrev pub IfFit : Bool → Type 0 → Type 0 → Type 0
-IfFit renewed Fits Holds = (IsTrue renewed → Fits) → Holds
-
 -- the store at hand, if there is one, holds what is known
-abbrev pub AtHand : {S : Type 0} → Ghosts S → Bool → Type 0 → Option (Held S) → List Known → Type 0
-AtHand g renewed Fits store known =
-    MatchOption store ⊤ (λ s. IfFit renewed Fits (HoldsKnown (state g s) known))
+abbrev pub AtHand : {S : Type 0} → Ghosts S → Option (Held S) → List Known → Type 0
+AtHand g store known = MatchOption store ⊤ (λ s. HoldsKnown (state g s) known)
 
--- a launcher's store holds these settings: it has to, and the store at hand does
-abbrev pub HoldsLast : {S : Type 0} → Ghosts S → Type 0 → Bool → Option (Held S) → List Known →
+-- A launcher's store holds these settings: it has to, and the store at hand does. One that is opened
+-- anew is held against the schema of a store.
+abbrev pub HoldsLast : {S : Type 0} → Ghosts S → Schema → Option (Held S) → List Known →
     List Setting → Type 0
-HoldsLast g Fits renewed store known settings =
-    ListAlike (settings_of known) settings × AtHand g renewed Fits store known
+HoldsLast g pattern store known settings =
+    (pattern ≡ both_schema) × ListAlike (settings_of known) settings × AtHand g store known
 
 -- and so of the seconds
-abbrev pub StampsLast : {S : Type 0} → Ghosts S → Type 0 → Bool → Option (Held S) → List Known →
+abbrev pub StampsLast : {S : Type 0} → Ghosts S → Schema → Option (Held S) → List Known →
     List Change → Type 0
-StampsLast g Fits renewed store known stamps =
-    TellsStamps known stamps × AtHand g renewed Fits store known
+StampsLast g pattern store known stamps =
+    (pattern ≡ both_schema) × TellsStamps known stamps × AtHand g store known

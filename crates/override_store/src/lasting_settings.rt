@@ -9,16 +9,19 @@ ghost use Rattle.sqlite.specs.View.{IsClean};
 ghost use Rattle.history_model.specs.declared.TheConstants.{MAX_WALL};
 ghost use Rattle.history_model.specs.Labels.{is_label};
 ghost use Rattle.override_store.specs.OverrideStores.{AreFit, HoldsAs};
-ghost use Rattle.override_store.specs.KnownSettings.{AtHand, HasMade, HoldsKnown, HoldsLast, IfFit, StampsLast, TellAlike, known_as};
+ghost use Rattle.override_store.specs.StoreTables.{both_schema};
+ghost use Rattle.override_store.specs.KnownSettings.{AtHand, HasMade, HoldsKnown, HoldsLast, StampsLast, TellAlike, known_as};
 
 use crate::known::{Known, known_of, put, rising};
 use crate::place::{StoreNews, StorePlace, Telling};
-use crate::renewal::{open_all, renewed};
+use crate::renewal::{open_all, pattern, renewed};
 use crate::stored_settings::fault_of;
 use crate::{OverrideStore, StoreFault};
 use history_model::{Setting, Text};
 use outside::{self, SettingStore};
 use sqlite::{Alter, Connection};
+use sqlite_schema::schema::Schema;
+use sqlite_trees::store::Store;
 use std::alloc::Global;
 
 /// As many labels have a setting at most, but for those that a store had before. Each takes two pages of a database at most.
@@ -34,8 +37,8 @@ pub struct LastingSettings<S: Alter, P: StorePlace<S>> {
     /// One that a refusal shut. It keeps the place from others.
     shut: Option<OverrideStore<S>>,
     pub known: Vec<Known>,
-    /// Whether it was opened anew.
-    pub is_renewed: bool,
+    /// The schema of a store, against which one is held that is opened anew.
+    pub pattern: Schema,
     /// Whether it is told that the store refuses.
     is_told: bool,
     /// Whether it is told that there are too many labels.
@@ -50,21 +53,27 @@ impl<S: Alter + Drop, P: StorePlace<S> + Drop> Drop for LastingSettings<S, P> {
             store,
             shut,
             known,
-            is_renewed: _,
+            pattern,
             is_told: _,
             is_full: _,
         } = self;
         drop(store);
         drop(shut);
-        settle(alloc, &place, known.as_slice());
+        settle(alloc, &place, &pattern, known.as_slice());
+        drop(pattern);
         drop(known);
         drop(place);
     }
 }
 
 // Opens the store anew, so that what others did to its files meanwhile is seen and mended, and closes it.
-fn settle<S: Alter + Drop, P: StorePlace<S>>(alloc: Global, place: &P, known: &[Known]) {
-    if let Ok((store, is_mended)) = renewed(alloc, place, known, Telling::AllButBusy) {
+fn settle<S: Alter + Drop, P: StorePlace<S>>(
+    alloc: Global,
+    place: &P,
+    pattern: &Schema,
+    known: &[Known],
+) {
+    if let Ok((store, is_mended)) = renewed(alloc, place, pattern, known, Telling::AllButBusy) {
         if is_mended {
             place.tell(StoreNews::Mended);
         }
@@ -80,17 +89,25 @@ pub fn lasting<S: Alter + Drop, P: StorePlace<S> + Drop>(
     conn: Connection<S>,
 ) -> Result<(LastingSettings<S, P>, Vec<Setting>), (StoreFault, S)>
     ensures holds { IfOk result (λ r. AreFit (state S.Store conn).committed.trees →
-        HoldsLast S.Store (P.fits r.0.place) r.0.is_renewed r.0.store r.0.known.items (reverse r.1.items)) }
+        HoldsLast S.Store r.0.pattern r.0.store r.0.known.items (reverse r.1.items)) }
     ensures stamped { IfOk result (λ r. AreFit (state S.Store conn).committed.trees →
-        StampsLast S.Store (P.fits r.0.place) r.0.is_renewed r.0.store r.0.known.items []) }
+        StampsLast S.Store r.0.pattern r.0.store r.0.known.items []) }
     ensures left { IfErr result (λ e. IsClean (S.Store.view e.1) →
         AreFit (state S.Store conn).committed.trees → (db : Trees) → S.Store.recovers e.1 db →
         (state S.Store conn).may_leave db ⊎ HoldsAs (state S.Store conn).committed.trees db) }
 {
+    let pattern = match pattern(alloc) {
+        Ok(pattern) => pattern,
+        Err(fault) => {
+            drop(place);
+            return Err((fault, conn.into_store()));
+        }
+    };
     let (store, known) = match open_all(alloc, conn) {
         Ok(both) => both,
         Err(refused) => {
             drop(place);
+            drop(pattern);
             return Err(refused);
         }
     };
@@ -102,7 +119,7 @@ pub fn lasting<S: Alter + Drop, P: StorePlace<S> + Drop>(
                 store: Some(store),
                 shut: None,
                 known,
-                is_renewed: false,
+                pattern,
                 is_told: false,
                 is_full: false,
             },
@@ -110,6 +127,7 @@ pub fn lasting<S: Alter + Drop, P: StorePlace<S> + Drop>(
         )),
         Err(fault) => {
             drop(place);
+            drop(pattern);
             drop(known);
             Err((fault, store.close_on().into_store()))
         }
@@ -119,13 +137,12 @@ pub fn lasting<S: Alter + Drop, P: StorePlace<S> + Drop>(
 impl<S: Alter + Drop, P: StorePlace<S> + Drop> LastingSettings<S, P> {
     // The store, taken out. It is opened anew if it is shut.
     fn at_hand(&mut self) -> Result<OverrideStore<S>, StoreFault>
-        ensures place { self.new.place ≡ self.old.place }
+        ensures pattern { self.new.pattern ≡ self.old.pattern }
         ensures known { self.new.known ≡ self.old.known }
         ensures taken { self.new.store ≡ None }
-        ensures holds { AtHand S.Store self.old.is_renewed (P.fits self.old.place)
-            self.old.store self.old.known.items →
-            IfOk result (λ store. IfFit self.new.is_renewed (P.fits self.old.place)
-            (HoldsKnown (state S.Store store) self.old.known.items)) }
+        ensures holds { self.old.pattern ≡ both_schema →
+            AtHand S.Store self.old.store self.old.known.items →
+            IfOk result (λ store. HoldsKnown (state S.Store store) self.old.known.items) }
     {
         match self.store.take() {
             Some(store) => Ok(store),
@@ -134,11 +151,11 @@ impl<S: Alter + Drop, P: StorePlace<S> + Drop> LastingSettings<S, P> {
     }
 
     fn open_anew(&mut self) -> Result<OverrideStore<S>, StoreFault>
-        ensures place { self.new.place ≡ self.old.place }
+        ensures pattern { self.new.pattern ≡ self.old.pattern }
         ensures known { self.new.known ≡ self.old.known }
         ensures taken { self.new.store ≡ self.old.store }
-        ensures holds { IfOk result (λ store. IfFit self.new.is_renewed (P.fits self.old.place)
-            (HoldsKnown (state S.Store store) self.old.known.items)) }
+        ensures holds { self.old.pattern ≡ both_schema →
+            IfOk result (λ store. HoldsKnown (state S.Store store) self.old.known.items) }
     {
         drop(self.shut.take());
         let telling = if self.is_told {
@@ -146,9 +163,14 @@ impl<S: Alter + Drop, P: StorePlace<S> + Drop> LastingSettings<S, P> {
         } else {
             Telling::All
         };
-        match renewed(self.alloc, &self.place, self.known.as_slice(), telling) {
+        match renewed(
+            self.alloc,
+            &self.place,
+            &self.pattern,
+            self.known.as_slice(),
+            telling,
+        ) {
             Ok((store, _)) => {
-                self.is_renewed = true;
                 self.is_told = false;
                 Ok(store)
             }
@@ -161,10 +183,9 @@ impl<S: Alter + Drop, P: StorePlace<S> + Drop> LastingSettings<S, P> {
 
     // Shuts the store, which refused a setting. That is told, unless it is known.
     fn shut(&mut self, store: OverrideStore<S>, fault: StoreFault)
-        ensures place { self.new.place ≡ self.old.place }
+        ensures pattern { self.new.pattern ≡ self.old.pattern }
         ensures known { self.new.known ≡ self.old.known }
         ensures store { self.new.store ≡ self.old.store }
-        ensures renewed { self.new.is_renewed ≡ self.old.is_renewed }
     {
         if !self.is_told {
             self.place.tell(StoreNews::Refused(fault));
@@ -178,13 +199,11 @@ impl<S: Alter + Drop, P: StorePlace<S> + Drop> LastingSettings<S, P> {
     fn write(&mut self, label: &str, disabled: bool, changed: u64) -> bool
         requires label { IsTrue (is_label label.now) }
         requires second { changed ≤ MAX_WALL }
-        ensures place { self.new.place ≡ self.old.place }
+        ensures pattern { self.new.pattern ≡ self.old.pattern }
         ensures known { self.new.known ≡ self.old.known }
         ensures refused { result ≡ false → self.new.store ≡ None }
-        ensures made { IsTrue result → AtHand S.Store self.old.is_renewed (P.fits self.old.place)
-            self.old.store self.old.known.items →
-            IsSomeAnd self.new.store (λ store. IfFit self.new.is_renewed (P.fits self.old.place)
-            (HasCleanDisk (state S.Store store) →
+        ensures made { IsTrue result → self.old.pattern ≡ both_schema → AtHand S.Store self.old.store self.old.known.items →
+            IsSomeAnd self.new.store (λ store. (HasCleanDisk (state S.Store store) →
             HasMade (state S.Store store) label.now disabled changed self.old.known.items)) }
     {
         let mut store = match self.at_hand() {
@@ -205,9 +224,8 @@ impl<S: Alter + Drop, P: StorePlace<S> + Drop> LastingSettings<S, P> {
 
     // Whether the label may have a setting: it has one, or there are not too many. Room for one more is then there.
     fn has_room(&mut self, label: &str) -> bool
-        ensures place { self.new.place ≡ self.old.place }
+        ensures pattern { self.new.pattern ≡ self.old.pattern }
         ensures store { self.new.store ≡ self.old.store }
-        ensures renewed { self.new.is_renewed ≡ self.old.is_renewed }
         ensures known { self.new.known.items ≡ self.old.known.items }
         ensures room { result ≡ true → vec_len self.new.known < vec_capacity self.new.known }
     {
@@ -227,16 +245,14 @@ impl<S: Alter + Drop, P: StorePlace<S> + Drop> LastingSettings<S, P> {
     pub fn keep(&mut self, label: &str, disabled: bool, changed: u64) -> bool
         requires label { IsTrue (is_label label.now) }
         requires second { changed ≤ MAX_WALL }
-        ensures place { self.new.place ≡ self.old.place }
+        ensures pattern { self.new.pattern ≡ self.old.pattern }
         ensures refused { result ≡ false →
             (self.new.known.items ≡ self.old.known.items) × (self.new.store ≡ None ⊎
-            (self.new.store ≡ self.old.store) × (self.new.is_renewed ≡ self.old.is_renewed)) }
+            self.new.store ≡ self.old.store) }
         ensures told { IsTrue result →
             TellAlike self.new.known.items (known_as label.now disabled changed ∷ self.old.known.items) }
-        ensures made { IsTrue result → AtHand S.Store self.old.is_renewed (P.fits self.old.place)
-            self.old.store self.old.known.items →
-            IsSomeAnd self.new.store (λ store. IfFit self.new.is_renewed (P.fits self.old.place)
-            (HasCleanDisk (state S.Store store) →
+        ensures made { IsTrue result → self.old.pattern ≡ both_schema → AtHand S.Store self.old.store self.old.known.items →
+            IsSomeAnd self.new.store (λ store. (HasCleanDisk (state S.Store store) →
             HasMade (state S.Store store) label.now disabled changed self.old.known.items)) }
     {
         if !self.has_room(label) {
@@ -261,9 +277,9 @@ impl<S: Alter + Drop, P: StorePlace<S> + Drop> LastingSettings<S, P> {
 }
 
 impl<S: Alter + Drop, P: StorePlace<S> + Drop> SettingStore for LastingSettings<S, P> {
-    ghost holds = { λ s settings. HoldsLast S.Store (P.fits s.place) s.is_renewed s.store s.known.items settings };
+    ghost holds = { λ s settings. HoldsLast S.Store s.pattern s.store s.known.items settings };
 
-    ghost stamped = { λ s stamps. StampsLast S.Store (P.fits s.place) s.is_renewed s.store s.known.items stamps };
+    ghost stamped = { λ s stamps. StampsLast S.Store s.pattern s.store s.known.items stamps };
 
     ghost told = { λ s. None };
 

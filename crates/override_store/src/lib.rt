@@ -24,6 +24,7 @@ mod lists;
 mod open;
 mod place;
 mod renewal;
+mod sameness;
 mod statements;
 mod stored_settings;
 

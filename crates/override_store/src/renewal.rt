@@ -1,6 +1,8 @@
 //! A store that is opened anew: its database is made to have what it has to hold.
 
-ghost use Rattle.std.specs.Prelude.{◌≡◌, ◌⊎◌, IfErr, IfOk, None};
+ghost use Rattle.std.specs.Prelude.{◌≡◌, ◌⊎◌, IfErr, IfOk, IsTrue, None};
+ghost use Rattle.sqlite_catalog.specs.Listing.{IsSound};
+ghost use Rattle.override_store.specs.StoreTables.{both_schema};
 ghost use Rattle.sqlite.specs.Held.{state};
 ghost use Rattle.sqlite.specs.State.{HasCleanDisk};
 ghost use Rattle.sqlite.specs.Tree.{Trees};
@@ -9,10 +11,13 @@ ghost use Rattle.override_store.specs.OverrideStores.{AreFit, HoldsAs};
 ghost use Rattle.override_store.specs.KnownSettings.{HoldsKnown};
 
 use crate::known::{Known, are_same, is_same, known_of};
+use crate::open::open_tables;
 use crate::place::{StoreNews, StorePlace, Telling};
+use crate::sameness::Same;
 use crate::{OverrideStore, StoreFault};
 use history_model::{MAX_WALL, is_label};
 use sqlite::{Alter, Connection};
+use sqlite_schema::schema::Schema;
 use sqlite_trees::store::Store;
 use std::alloc::Global;
 
@@ -21,7 +26,8 @@ pub(crate) fn open_all<S: Alter + Drop>(
     alloc: Global,
     conn: Connection<S>,
 ) -> Result<(OverrideStore<S>, Vec<Known>), (StoreFault, S)>
-    ensures holds { (HasCleanDisk (state S.Store conn) → AreFit (state S.Store conn).committed.trees) →
+    ensures holds { (HasCleanDisk (state S.Store conn) → IsTrue (state S.Store conn).is_open →
+        AreFit (state S.Store conn).committed.trees) →
         IfOk result (λ r. HoldsKnown (state S.Store r.0) r.1.items) }
     ensures left { IfErr result (λ e. IsClean (S.Store.view e.1) →
         AreFit (state S.Store conn).committed.trees → (db : Trees) → S.Store.recovers e.1 db →
@@ -41,20 +47,74 @@ pub(crate) fn open_all<S: Alter + Drop>(
 fn open_at<S: Alter + Drop, P: StorePlace<S>>(
     alloc: Global,
     place: &P,
+    pattern: &Schema,
     telling: Telling,
 ) -> Result<(OverrideStore<S>, Vec<Known>), StoreFault>
-    ensures { P.fits place.now → IfOk result (λ r. HoldsKnown (state S.Store r.0) r.1.items) }
+    ensures { pattern.now ≡ both_schema → IfOk result (λ r. HoldsKnown (state S.Store r.0) r.1.items) }
 {
     let conn = match place.open(alloc, telling) {
         Ok(conn) => conn,
         Err(fault) => return Err(fault),
     };
-    match open_all(alloc, conn) {
+    let opened = match fit(conn, pattern) {
+        Ok(conn) => open_all(alloc, conn),
+        Err(refused) => Err(refused),
+    };
+    match opened {
         Ok(both) => Ok(both),
         Err((fault, store)) => {
             drop(store);
             Err(told(place, telling, fault))
         }
+    }
+}
+
+// The connection with the tables of a store, and with nothing else.
+fn fit<S: Alter + Drop>(
+    conn: Connection<S>,
+    pattern: &Schema,
+) -> Result<Connection<S>, (StoreFault, S)>
+    ensures { pattern.now ≡ both_schema →
+        IfOk result (λ conn. HasCleanDisk (state S.Store conn) → IsTrue (state S.Store conn).is_open →
+        AreFit (state S.Store conn).committed.trees) }
+{
+    let mut conn = conn;
+    if let Err(fault) = open_tables(&mut conn) {
+        return Err((fault, conn.into_store()));
+    }
+    if has_schema(&conn, pattern) {
+        Ok(conn)
+    } else {
+        Err((StoreFault::Foreign, conn.into_store()))
+    }
+}
+
+// Whether the database has this schema, with no transaction open.
+fn has_schema<S: Alter>(conn: &Connection<S>, pattern: &Schema) -> bool
+    ensures { IsTrue result → IsTrue (state S.Store conn.now).is_open →
+        IsSound pattern.now (state S.Store conn.now).committed.trees }
+{
+    let is_settled = conn.is_autocommit();
+    is_settled && conn.schema().is_same(pattern)
+}
+
+/// The schema of a store.
+pub(crate) fn pattern(alloc: Global) -> Result<Schema, StoreFault>
+    ensures { IfOk result (λ schema. schema ≡ both_schema) }
+{
+    let conn = match Connection::open_in_memory(alloc) {
+        Ok(conn) => conn,
+        Err(_) => return Err(StoreFault::NoMemory),
+    };
+    let conn = match OverrideStore::open_on(alloc, conn) {
+        Ok(store) => store.close_on(),
+        Err(fault) => return Err(fault),
+    };
+    let copy = conn.schema().copy(alloc);
+    drop(conn);
+    match copy {
+        Ok(schema) => Ok(schema),
+        Err(_) => Err(StoreFault::NoMemory),
     }
 }
 
@@ -72,13 +132,14 @@ fn told<S: Alter, P: StorePlace<S>>(place: &P, telling: Telling, fault: StoreFau
 fn look<S: Alter + Drop, P: StorePlace<S>>(
     alloc: Global,
     place: &P,
+    pattern: &Schema,
     known: &[Known],
     telling: Telling,
 ) -> Result<(OverrideStore<S>, Option<Vec<Known>>), StoreFault>
-    ensures { P.fits place.now →
+    ensures { pattern.now ≡ both_schema →
         IfOk result (λ r. r.1 ≡ None → HoldsKnown (state S.Store r.0) known.now) }
 {
-    let (store, found) = match open_at(alloc, place, telling) {
+    let (store, found) = match open_at(alloc, place, pattern, telling) {
         Ok(both) => both,
         Err(fault) => return Err(fault),
     };
@@ -94,15 +155,16 @@ fn look<S: Alter + Drop, P: StorePlace<S>>(
 pub(crate) fn renewed<S: Alter + Drop, P: StorePlace<S>>(
     alloc: Global,
     place: &P,
+    pattern: &Schema,
     known: &[Known],
     telling: Telling,
 ) -> Result<(OverrideStore<S>, bool), StoreFault>
-    ensures { P.fits place.now → IfOk result (λ r. HoldsKnown (state S.Store r.0) known.now) }
+    ensures { pattern.now ≡ both_schema → IfOk result (λ r. HoldsKnown (state S.Store r.0) known.now) }
 {
-    match look(alloc, place, known, telling) {
+    match look(alloc, place, pattern, known, telling) {
         Ok((store, None)) => Ok((store, false)),
         Ok((store, Some(found))) => match mend(store, known, found) {
-            Ok(()) => look_again(alloc, place, known, telling),
+            Ok(()) => look_again(alloc, place, pattern, known, telling),
             Err(fault) => Err(told(place, telling, fault)),
         },
         Err(fault) => Err(fault),
@@ -113,12 +175,13 @@ pub(crate) fn renewed<S: Alter + Drop, P: StorePlace<S>>(
 fn look_again<S: Alter + Drop, P: StorePlace<S>>(
     alloc: Global,
     place: &P,
+    pattern: &Schema,
     known: &[Known],
     telling: Telling,
 ) -> Result<(OverrideStore<S>, bool), StoreFault>
-    ensures { P.fits place.now → IfOk result (λ r. HoldsKnown (state S.Store r.0) known.now) }
+    ensures { pattern.now ≡ both_schema → IfOk result (λ r. HoldsKnown (state S.Store r.0) known.now) }
 {
-    match look(alloc, place, known, telling) {
+    match look(alloc, place, pattern, known, telling) {
         Ok((store, None)) => Ok((store, true)),
         Ok((store, Some(found))) => {
             drop(store);

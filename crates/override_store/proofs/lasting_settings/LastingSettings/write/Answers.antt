@@ -7,11 +7,11 @@ use Rattle.override_store.proofs.TieLemmas.{stamps_more}
 use Rattle.override_store.proofs.lasting_settings.LastingSettings.write.Goals as goal
 
 pub returns-in-Ok-set-clause-made : goal.returns-in-Ok-set-clause-made
-returns-in-Ok-set-clause-made g c true held fits clean =
+returns-in-Ok-set-clause-made g c true is held clean =
     let old = state g.S.Store c.in-Ok.store in
     let new = state g.S.Store c.set.new.self in
     let known = c.args.self.now.known.items in
-    let had = c.in-Ok.ensures.holds held fits in
+    let had = c.in-Ok.ensures.holds is held in
     let early : HasCleanDisk old = omega (arith, clean, c.set.ensures.crash.clean) in
     let up = c.in-Ok-set.ensures.ran clean in
     let ours = (had.0 early up).0 in

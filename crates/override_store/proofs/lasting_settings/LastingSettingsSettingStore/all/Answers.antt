@@ -9,7 +9,7 @@ returns-in-Ok g c = record {
   same = λ settings holds. holds;
   kept = λ stamps had. had;
   answers = tt;
-  gives = λ settings holds. (λ l. ap (λ xs. setting_in xs l) (sym c.in-Ok.ensures), holds.1);
+  gives = λ settings holds. (holds.0, λ l. ap (λ xs. setting_in xs l) (sym c.in-Ok.ensures), holds.2);
 }
 
 pub returns-in-Err : goal.returns-in-Err
