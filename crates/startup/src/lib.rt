@@ -5,9 +5,7 @@
 
 mod connections;
 mod journal;
-mod kept_settings;
 mod looking;
-mod made_settings;
 mod medium;
 mod one_file;
 mod overrides;

@@ -1,20 +1,18 @@
 //! The store of a launcher: opened, served from, and settled once the launcher has let go of it.
 
-use crate::connections::{Media, Task, close_files, over_files};
-use crate::kept_settings::KeptSettings;
+use crate::connections::{Media, MediaConnection, Task, connection_over, over_files};
 use crate::looking::{Found, look};
-use crate::made_settings::MadeSettings;
 use crate::medium::Medium;
 use crate::one_file::taken_for_store;
 use crate::plan::Plan;
 use crate::refusal::{StoreRefusal, refuse_store};
-use crate::reporting::{Level, refuse};
-use exit_status::STORE;
+use crate::reporting::{Level, report};
 use files_and_process::own_files::make_private;
 use history_model::Setting;
 use outside::SettingStore;
-use override_store::{OverrideStore, StoredSettings, opened};
-use sqlite::{Alter, Connection, Files, Options, Unknown};
+use override_store::{StoreFault, StoreNews, StorePlace, Telling, lasting};
+use sqlite::{File, FileStore, Files, Options, Unknown};
+use sqlite_disk::Memory;
 use sqlite_std_file::OpenError;
 use std::alloc::Global;
 use std::hash::{BuildHasher, RandomState};
@@ -32,12 +30,12 @@ pub trait StoreUser {
     fn use_store<T: SettingStore + Drop>(self, store: T, settings: Vec<Setting>) -> Result<u8, u8>;
 }
 
-/// Opens the store at the path, which is made, for this user alone, if it is not there, and has it used. At the end the settings that it
-/// was told are looked for in its files, which others may have changed meanwhile: what is not there is written again, and that is told. Then what
-/// the log beside the store holds is moved into the store's file. Neither is done if nothing was set. That it is refused is told, unless
-/// another launcher has the store by then. Status 5, with the user given back, if it is no store or can't be opened, as while another
-/// launcher has it open, if its tables or its settings are refused, or if its file is the lock of another place or one that the clearing
-/// of the spool may remove.
+/// Opens the store at the path, which is made, for this user alone, if it is not there, and has it used. A setting that its disk refuses
+/// shuts it, and the next one opens it anew. At the end it is opened once more, and what its files have otherwise than it was told is
+/// written again, which is told; then what the log beside it holds is moved into its file. That this is refused is told, unless another
+/// launcher has the store by then. Status 5, with the user given back, if it is no store or can't be opened, as while another launcher
+/// has it open, if its tables or its settings are refused, or if its file is the lock of another place or one that the clearing of the
+/// spool may remove.
 pub fn with_store<U: StoreUser>(
     rt: &HostRuntime,
     alloc: Global,
@@ -48,18 +46,26 @@ pub fn with_store<U: StoreUser>(
     if let Err(refusal) = look_at_own(rt, alloc, plan) {
         return Err((refuse_store(rt, level, path, refusal), user));
     }
-    match over_store(rt, path, Opening { rt, plan, user }) {
-        Ok((Ok(status), made)) => {
-            end(rt, level, path, &made);
-            drop(made);
-            Ok(status)
-        }
-        Ok((Err(status), made)) => {
-            drop(made);
-            Ok(status)
-        }
-        Err((refusal, opening)) => {
-            let Opening { rt, plan: _, user } = opening;
+    let place = StoreFiles { rt, level, path };
+    match connection_at(rt, path) {
+        Ok(conn) => used_over(alloc, place, conn, user),
+        Err(refusal) => Err((refuse_store(rt, level, path, refusal), user)),
+    }
+}
+
+fn used_over<U: StoreUser>(
+    alloc: Global,
+    place: StoreFiles<'_>,
+    conn: MediaConnection,
+    user: U,
+) -> Result<u8, (u8, U)> {
+    let StoreFiles { rt, level, path } = place;
+    match lasting(alloc, StoreFiles { rt, level, path }, conn) {
+        Ok((store, settings)) => match user.use_store(store, settings) {
+            Ok(status) | Err(status) => Ok(status),
+        },
+        Err((fault, _)) => {
+            let refusal = StoreRefusal::Settings(fault);
             Err((refuse_store(rt, level, path, refusal), user))
         }
     }
@@ -80,67 +86,67 @@ fn private_file(rt: &HostRuntime, alloc: Global, plan: &Plan) -> io::Result<Opti
     taken_for_store(rt, alloc, plan)
 }
 
-/// Opens the settings of a database, and hands them to who uses them.
-struct Opening<'a, U> {
+/// Where a launcher's store stands among the files of the system.
+#[derive(Drop)]
+struct StoreFiles<'a> {
     rt: &'a HostRuntime,
-    plan: &'a Plan,
-    user: U,
+    level: Level,
+    path: &'a str,
 }
 
-impl<'a, U: StoreUser> Task for Opening<'a, U> {
-    /// What the user gave, and what the store was told.
-    type Done = (Result<u8, u8>, MadeSettings);
-
-    fn over<S: Alter + Drop>(
-        self,
-        conn: Connection<S>,
-    ) -> Result<(Result<u8, u8>, MadeSettings), (StoreRefusal, Opening<'a, U>)> {
-        let Opening { rt, plan, user } = self;
-        match opened_and_read(rt.alloc(), conn) {
-            Ok((store, settings, made)) => Ok(used(rt, plan, user, store, settings, made)),
-            Err(refusal) => Err((refusal, Opening { rt, plan, user })),
+impl StorePlace<FileStore<Medium<File, Memory>>> for StoreFiles<'_> {
+    fn open(&self, _alloc: Global, telling: Telling) -> Result<MediaConnection, StoreFault> {
+        match private_connection_at(self.rt, self.path) {
+            Ok(conn) => Ok(conn),
+            Err(refusal) => Err(fault_of(self, telling, refusal)),
         }
+    }
+
+    fn close(&self, conn: MediaConnection) {
+        if let Err(error) = conn.close() {
+            report(self.rt, self.level, "store", self.path, &error);
+        }
+    }
+
+    fn tell(&self, news: StoreNews) {
+        let why = match news {
+            StoreNews::Refused(StoreFault::NoMemory) => "memory was refused",
+            StoreNews::Refused(StoreFault::Refused) => "disk I/O error",
+            StoreNews::Refused(StoreFault::Full) => "database or disk is full",
+            StoreNews::Refused(StoreFault::Foreign) => "a database, but no store of overrides",
+            StoreNews::TooMany => "16,384 labels have a setting, and no other may have one",
+            StoreNews::Mended =>
+                "its files had other settings than the last ones: they are written again",
+        };
+        report(self.rt, self.level, "store", self.path, &why);
     }
 }
 
-fn opened_and_read<S: Alter + Drop>(
-    alloc: Global,
-    conn: Connection<S>,
-) -> Result<(StoredSettings<S>, Vec<Setting>, MadeSettings), StoreRefusal> {
-    let (store, settings) = match opened(alloc, conn) {
-        Ok(both) => both,
-        Err((fault, _)) => return Err(StoreRefusal::Settings(fault)),
+// Why the store was not opened, which is told as it is asked for.
+fn fault_of(place: &StoreFiles<'_>, telling: Telling, refusal: StoreRefusal) -> StoreFault {
+    let is_told = match telling {
+        Telling::Nothing => false,
+        Telling::All => true,
+        Telling::AllButBusy => !matches!(refusal, StoreRefusal::Files(OpenError::Busy)),
     };
-    let mut store = store;
-    match MadeSettings::read(alloc, &mut store.store) {
-        Ok(made) => Ok((store, settings, made)),
-        Err(fault) => {
-            drop(store);
-            drop(settings);
-            Err(StoreRefusal::Settings(fault))
-        }
+    if is_told {
+        let _status = refuse_store(place.rt, place.level, place.path, refusal);
+    }
+    StoreFault::Refused
+}
+
+fn private_connection_at(rt: &HostRuntime, path: &str) -> Result<MediaConnection, StoreRefusal> {
+    match make_private(rt, path) {
+        Ok(()) => connection_at(rt, path),
+        Err(error) => Err(StoreRefusal::System("store", error)),
     }
 }
 
-fn used<U: StoreUser, T: SettingStore + Drop>(
-    rt: &HostRuntime,
-    plan: &Plan,
-    user: U,
-    store: T,
-    settings: Vec<Setting>,
-    made: MadeSettings,
-) -> (Result<u8, u8>, MadeSettings) {
-    let mut made = made;
-    let kept = KeptSettings {
-        rt,
-        alloc: rt.alloc(),
-        level: plan.wishes.level,
-        path: plan.places.store.as_str(),
-        store,
-        made: &mut made,
-    };
-    let status = user.use_store(kept, settings);
-    (status, made)
+fn connection_at(rt: &HostRuntime, path: &str) -> Result<MediaConnection, StoreRefusal> {
+    match files_at(rt, path) {
+        Ok((files, options)) => connection_over(rt.alloc(), files, options),
+        Err(error) => Err(refused(error)),
+    }
 }
 
 /// Does the task over the database in the file at the path.
@@ -175,70 +181,4 @@ fn files_at(rt: &HostRuntime, path: &str) -> Result<(Media, Options), OpenError>
         ..Options::new(state.hash_one(&0u8))
     };
     Ok((files, options))
-}
-
-// The store has let go of its files.
-fn end(rt: &HostRuntime, level: Level, path: &str, made: &MadeSettings) {
-    if let Err(error) = make_private(rt, path) {
-        let _status = refuse(rt, level, STORE, "store", path, &error);
-        return;
-    }
-    match over_store(rt, path, Mending { rt, made }) {
-        Ok(0) => settle(rt, level, path),
-        Ok(count) => {
-            tell_mended(rt, level, path, count);
-            settle(rt, level, path);
-        }
-        Err((StoreRefusal::Files(OpenError::Busy), _)) => {}
-        Err((refusal, _)) => {
-            let _status = refuse_store(rt, level, path, refusal);
-        }
-    }
-}
-
-fn tell_mended(rt: &impl Eprint, level: Level, path: &str, count: usize) {
-    let front = level.warning();
-    let _written = eprintln!(rt;
-        "{front}jobd: store {path}: its files had not the last settings of {count} labels: they are written again"
-    );
-}
-
-/// Writes again what a database has not of the settings that were made.
-#[derive(Drop)]
-struct Mending<'a> {
-    rt: &'a HostRuntime,
-    made: &'a MadeSettings,
-}
-
-impl<'a> Task for Mending<'a> {
-    /// How many were written.
-    type Done = usize;
-
-    fn over<S: Alter + Drop>(
-        self,
-        conn: Connection<S>,
-    ) -> Result<usize, (StoreRefusal, Mending<'a>)> {
-        let alloc = self.rt.alloc();
-        let mut store = match OverrideStore::open_on(alloc, conn) {
-            Ok(store) => store,
-            Err(fault) => return Err((StoreRefusal::Settings(fault), self)),
-        };
-        let written = self.made.write_again(alloc, &mut store);
-        drop(store);
-        match written {
-            Ok(count) => Ok(count),
-            Err(fault) => Err((StoreRefusal::Settings(fault), self)),
-        }
-    }
-}
-
-fn settle(rt: &HostRuntime, level: Level, path: &str) {
-    let settled = match files_at(rt, path) {
-        Ok((files, options)) => close_files(rt.alloc(), files, options),
-        Err(OpenError::Busy) => return,
-        Err(error) => Err(refused(error)),
-    };
-    if let Err(refusal) = settled {
-        let _status = refuse_store(rt, level, path, refusal);
-    }
 }
