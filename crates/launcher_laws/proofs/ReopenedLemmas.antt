@@ -25,3 +25,20 @@ module _ {T : Type 0} (state_of : T → State) where
         lasts,
         λ label. same_settings (setting_rows again.now.trees) (reverse listed) (settings_at_last lasts) told (held_on (state_of last.store) again opened (settings_at_last lasts) lasts.held clean).1 label,
       )
+
+-- so of a store that goes on after its disk failed, if it is at hand
+module _ {T S : Type 0} (g : Ghosts S) (pattern_of : T → Schema) (store_of : T → Option (Held S)) (known_of : T → List Known) where
+  abbrev HoldsNowIn : T → List Setting → Type 0
+  HoldsNowIn t = HoldsLast g (pattern_of t) (store_of t) (known_of t)
+
+  pub reopened_last : (header : Header) (calls : Option (List ToldCall)) (stores : Option (List StoreCall)) (journal : JournalState) (store : T) (first last : Snapshot T) (turns : List (Turn T)) (at_end : Held S) (again : State) →
+      (new : IsNew header calls stores journal first.stands (HoldsNowIn store) (HoldsNowIn first.store)) → AreTurns HoldsNowIn first turns last →
+      (list : List Setting) → HoldsNowIn store list → store_of last.store ≡ Some at_end → IsOpenedOn (state g at_end) again → HasCleanDisk again → (listed : List Setting) → HoldsEach (setting_rows again.now.trees) (reverse listed) →
+      (lasts : Lasts HoldsNowIn new.machine turns last) × ((label : List ℕ) → setting_in (reverse listed) label ≡ setting_in (settings_at_last lasts) label)
+  reopened_last header calls stores journal store first last turns at_end again new heard list held is opened clean listed told =
+      let lasts = lasted HoldsNowIn header calls stores journal store first last turns new heard list held in
+      let known = known_of last.store in
+      let there : HoldsKnown (state g at_end) known = subst (λ (o : Option (Held S)). AtHand g o known) is lasts.held.2 in (
+        lasts,
+        λ label. same_settings (setting_rows again.now.trees) (reverse listed) (settings_of known) told (held_on (state g at_end) again opened (settings_of known) there.0 clean).1 label ∙ lasts.held.1 label,
+      )

@@ -116,7 +116,7 @@ impl StorePlace<FileStore<Medium<File, Memory>>> for StoreFiles<'_> {
             StoreNews::Refused(StoreFault::Foreign) => "a database, but no store of overrides",
             StoreNews::TooMany => "16,384 labels have a setting, and no other may have one",
             StoreNews::Mended =>
-                "its files had other settings than the last ones: they are written again",
+                "its files had not the last settings of all labels: they are written again",
         };
         report(self.rt, self.level, "store", self.path, &why);
     }
