@@ -49,19 +49,25 @@ module _ {S : Type 0} (g : Ghosts S) (label : Label) (disabled : Bool) (changed 
       (held : List Setting) → HoldsLast g before old known held → HoldsLast g after store new (set_if result label disabled held)
   kept_last true refused told made held holds = (same ∙ holds.0, lists_more label disabled changed known new (told refl) held holds.1, at_hand_made label disabled changed known new (told refl) g store (made refl holds.0 holds.2))
   kept_last false refused told made held holds =
-      let it = refused refl in
-      (same ∙ holds.0, subst (λ (k : List Known). ListAlike (settings_of k) held) (sym it.0) holds.1, elim it.1 [
-        | inl none ↦ subst (λ (o : Option (Held S)). AtHand g o new) (sym none) tt
-        | inr stays ↦ subst (λ (o : Option (Held S)). AtHand g o new) (sym stays) (subst (λ (k : List Known). AtHand g old k) (sym it.0) holds.2)
-      ])
+      let it = refused refl in (
+        same ∙ holds.0,
+        subst (λ (k : List Known). ListAlike (settings_of k) held) (sym it.0) holds.1,
+        elim it.1 [
+          | inl none ↦ subst (λ (o : Option (Held S)). AtHand g o new) (sym none) tt
+          | inr stays ↦ subst (λ (o : Option (Held S)). AtHand g o new) (sym stays) (subst (λ (k : List Known). AtHand g old k) (sym it.0) holds.2)
+        ],
+      )
 
   pub kept_stamps : (result : Bool) → (result ≡ false → (new ≡ known) × ((store ≡ None) ⊎ (store ≡ old))) → (IsTrue result → TellAlike new (known_as label disabled changed ∷ known)) →
       (IsTrue result → before ≡ both_schema → AtHand g old known → IsSomeAnd store (λ s. HasCleanDisk (state g s) → HasMade (state g s) label disabled changed known)) →
       (held : List Change) → StampsLast g before old known held → StampsLast g after store new (stamp_if result label changed held)
   kept_stamps true refused told made held had = (same ∙ had.0, stamps_told label disabled changed known new (told refl) held had.1, at_hand_made label disabled changed known new (told refl) g store (made refl had.0 had.2))
   kept_stamps false refused told made held had =
-      let it = refused refl in
-      (same ∙ had.0, subst (λ (k : List Known). TellsStamps k held) (sym it.0) had.1, elim it.1 [
-        | inl none ↦ subst (λ (o : Option (Held S)). AtHand g o new) (sym none) tt
-        | inr stays ↦ subst (λ (o : Option (Held S)). AtHand g o new) (sym stays) (subst (λ (k : List Known). AtHand g old k) (sym it.0) had.2)
-      ])
+      let it = refused refl in (
+        same ∙ had.0,
+        subst (λ (k : List Known). TellsStamps k held) (sym it.0) had.1,
+        elim it.1 [
+          | inl none ↦ subst (λ (o : Option (Held S)). AtHand g o new) (sym none) tt
+          | inr stays ↦ subst (λ (o : Option (Held S)). AtHand g o new) (sym stays) (subst (λ (k : List Known). AtHand g old k) (sym it.0) had.2)
+        ],
+      )

@@ -14,7 +14,7 @@ ghost use Rattle.override_store.specs.KnownSettings.{AtHand, HasMade, HoldsKnown
 
 use crate::known::{Known, known_of, put, rising};
 use crate::place::{StoreNews, StorePlace, Telling};
-use crate::renewal::{open_all, pattern, renewed};
+use crate::renewal::{open_all, renewed, store_schema};
 use crate::stored_settings::fault_of;
 use crate::{OverrideStore, StoreFault};
 use history_model::{Setting, Text};
@@ -96,7 +96,7 @@ pub fn lasting<S: Alter + Drop, P: StorePlace<S> + Drop>(
         AreFit (state S.Store conn).committed.trees → (db : Trees) → S.Store.recovers e.1 db →
         (state S.Store conn).may_leave db ⊎ HoldsAs (state S.Store conn).committed.trees db) }
 {
-    let pattern = match pattern(alloc) {
+    let pattern = match store_schema(alloc) {
         Ok(pattern) => pattern,
         Err(fault) => {
             drop(place);

@@ -99,7 +99,7 @@ fn has_schema<S: Alter>(conn: &Connection<S>, pattern: &Schema) -> bool
 }
 
 /// The schema of a store.
-pub(crate) fn pattern(alloc: Global) -> Result<Schema, StoreFault>
+pub(crate) fn store_schema(alloc: Global) -> Result<Schema, StoreFault>
     ensures { IfOk result (λ schema. schema ≡ both_schema) }
 {
     let conn = match Connection::open_in_memory(alloc) {
