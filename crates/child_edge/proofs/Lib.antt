@@ -1,2 +1,3 @@
 pub mod CallsLemmas
 mod VariableLemmas
+mod RepliesLemmas
