@@ -1,0 +1,5 @@
+pub mod Facts
+pub mod States
+pub mod Tokens
+pub mod Lines
+pub mod Jobs

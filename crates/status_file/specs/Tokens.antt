@@ -1,0 +1,266 @@
+-- The tokens of JSON (RFC 8259) of which the lines of a status file consist.
+use Rattle.std.specs.Prelude.{◌≡◌, ℕ, List, [], ◌∷◌, ◌++◌, map, Bool, Option, Some, None, codes, decimal}
+use Rattle.std.specs.List.{flat_map}
+use Rattle.std.specs.Borrow.{Bor}
+use Rattle.json.specs.Token.{Token, begin_object, end_object, begin_array, end_array, key, string, number, boolean, null}
+use Rattle.history_model.specs.Texts.{state_text}
+use Rattle.history_model.specs.declared.Reading.{Reading}
+use Rattle.history_model.specs.declared.Entry.{Entry}
+use Rattle.history_model.specs.declared.Ended.{Ended}
+use Rattle.history_model.specs.declared.Ended.TheVariants.{Code, Signal}
+use Rattle.history_model.specs.declared.Act.{Act}
+use Rattle.history_model.specs.declared.Act.TheVariants.{Spawn, Term, Kill, Close, Gone}
+use Rattle.history_model.specs.declared.reasons.DemandKind.{DemandKind}
+use Rattle.history_model.specs.declared.reasons.DemandKind.TheVariants as kinds
+use Rattle.history_model.specs.declared.reasons.Reasons.{Reasons}
+use Rattle.history_model.specs.declared.reasons.StandingChild.{StandingChild}
+use Rattle.history_model.specs.declared.reasons.Wants.{Wants}
+use Rattle.status_file.specs.States.{state_by_reasons}
+use Rattle.status_file.specs.declared.facts.JobFacts.{JobFacts}
+use Rattle.status_file.specs.declared.line.Piece.{Piece}
+use Rattle.status_file.specs.declared.line.Piece.TheVariants as pieces
+use Rattle.status_file.specs.declared.status.DisabledBy.{DisabledBy}
+use Rattle.status_file.specs.declared.status.DisabledBy.TheVariants.{Definition, Override}
+use Rattle.status_file.specs.declared.status.JobKeys.{JobKeys}
+use Rattle.status_file.specs.declared.status.JobNote.{JobNote}
+use Rattle.status_file.specs.declared.status.JobStatus.{JobStatus}
+use Rattle.status_file.specs.declared.status.RefusedStart.{RefusedStart}
+use Rattle.status_file.specs.declared.status.RunEnd.{RunEnd}
+
+-- ---- pieces
+
+-- the token that a piece is
+abbrev pub token_in : Piece → Token
+token_in pieces.Open = begin_object
+token_in pieces.Close = end_object
+token_in pieces.OpenList = begin_array
+token_in pieces.CloseList = end_array
+token_in (pieces.Key name) = key name.now
+token_in (pieces.Text text) = string text.now
+token_in (pieces.Count count) = number (decimal count)
+token_in (pieces.Flag flag) = boolean flag
+token_in pieces.Null = null
+
+abbrev pub tokens_in : List Piece → List Token
+tokens_in ps = map token_in ps
+
+-- ---- values that may be absent
+
+abbrev pub count_token : Option ℕ → Token
+count_token None = null
+count_token (Some count) = number (decimal count)
+
+abbrev pub text_token : Option (Bor (List ℕ)) → Token
+text_token None = null
+text_token (Some text) = string text.now
+
+abbrev pub flag_token : Option Bool → Token
+flag_token None = null
+flag_token (Some flag) = boolean flag
+
+-- ---- words
+
+abbrev pub demand_text : DemandKind → List ℕ
+demand_text kinds.Load = codes "load"
+demand_text kinds.Start = codes "start"
+demand_text kinds.Kickstart = codes "kickstart"
+demand_text kinds.Interval = codes "interval"
+demand_text kinds.Calendar = codes "calendar"
+demand_text kinds.Path = codes "path"
+
+abbrev pub demand_token : Option DemandKind → Token
+demand_token None = null
+demand_token (Some kind) = string (demand_text kind)
+
+abbrev pub order_text : Act → List ℕ
+order_text (Spawn run conn) = codes "spawn"
+order_text (Term run) = codes "term"
+order_text (Kill run) = codes "kill"
+order_text (Close conn) = codes "close"
+order_text Gone = codes "gone"
+
+abbrev pub disabled_text : DisabledBy → List ℕ
+disabled_text Definition = codes "definition"
+disabled_text Override = codes "override"
+
+abbrev pub disabled_token : Option DisabledBy → Token
+disabled_token None = null
+disabled_token (Some by) = string (disabled_text by)
+
+-- ---- readings
+
+abbrev pub reading_tokens : Reading → List Token
+reading_tokens at =
+    begin_object ∷ key (codes "up") ∷ number (decimal at.up)
+    ∷ key (codes "wall") ∷ number (decimal at.wall) ∷ end_object ∷ []
+
+-- a reading under its key, null if there is none
+abbrev pub moment_tokens : List ℕ → Option Reading → List Token
+moment_tokens name None = key name ∷ null ∷ []
+moment_tokens name (Some at) = key name ∷ reading_tokens at
+
+-- ---- what the table tells
+
+abbrev pub child_pid : Option StandingChild → Option ℕ
+child_pid None = None
+child_pid (Some child) = Some child.pid
+
+-- the run of an order, and its connection
+abbrev pub order_run : Act → Option ℕ
+order_run (Spawn run conn) = Some run
+order_run (Term run) = Some run
+order_run (Kill run) = Some run
+order_run (Close conn) = None
+order_run Gone = None
+
+abbrev pub order_conn : Act → Option ℕ
+order_conn (Spawn run conn) = conn
+order_conn (Term run) = None
+order_conn (Kill run) = None
+order_conn (Close conn) = Some conn
+order_conn Gone = None
+
+abbrev pub child_tokens : Option StandingChild → List Token
+child_tokens None = key (codes "child") ∷ null ∷ []
+child_tokens (Some child) =
+    key (codes "child") ∷ begin_object
+    ∷ key (codes "run") ∷ number (decimal child.run)
+    ∷ key (codes "pid") ∷ number (decimal child.pid)
+    ∷ key (codes "stopped") ∷ boolean child.is_stopped
+    ∷ key (codes "struck") ∷ boolean child.is_struck
+    ∷ end_object ∷ []
+
+abbrev pub awaited_tokens : Option Act → List Token
+awaited_tokens None = key (codes "awaited") ∷ null ∷ []
+awaited_tokens (Some act) =
+    key (codes "awaited") ∷ begin_object
+    ∷ key (codes "order") ∷ string (order_text act)
+    ∷ key (codes "run") ∷ count_token (order_run act)
+    ∷ key (codes "conn") ∷ count_token (order_conn act)
+    ∷ end_object ∷ []
+
+abbrev pub wants_tokens : Wants → List Token
+wants_tokens w =
+    key (codes "wants") ∷ begin_object
+    ∷ key (codes "demand") ∷ boolean w.demand
+    ∷ key (codes "connections") ∷ number (decimal w.connections)
+    ∷ key (codes "keep_alive") ∷ boolean w.keep_alive
+    ∷ key (codes "successful_exit") ∷ boolean w.successful_exit
+    ∷ key (codes "crashed") ∷ boolean w.crashed
+    ∷ key (codes "path_state") ∷ boolean w.path_state
+    ∷ key (codes "queue_directories") ∷ boolean w.queue_directories
+    ∷ end_object ∷ []
+
+-- what keeps it from a start, but for its child and an order whose answer is awaited
+abbrev pub held_tokens : Reasons → List Token
+held_tokens r =
+    key (codes "reasons") ∷ begin_object
+    ∷ key (codes "removing") ∷ boolean r.is_removing
+    ∷ key (codes "throttled_until") ∷ count_token r.throttled_until
+    ∷ key (codes "launch_spent") ∷ boolean r.is_launch_spent
+    ∷ key (codes "runs_spent") ∷ boolean r.are_runs_spent ∷ []
+
+-- all its reasons
+abbrev pub reasons_tokens : Reasons → List Token
+reasons_tokens r =
+    held_tokens r
+    ++ (child_tokens r.child ++ (awaited_tokens r.awaited ++ (wants_tokens r.wants ++ end_object ∷ [])))
+
+-- its moments, what made its demand, and which path holds it wanted
+abbrev pub moments_tokens : JobFacts → List Token
+moments_tokens f =
+    key (codes "moments") ∷ begin_object
+    ∷ key (codes "term") ∷ count_token f.moments.term
+    ∷ key (codes "kill") ∷ count_token f.moments.kill
+    ∷ key (codes "interval") ∷ count_token f.moments.interval
+    ∷ key (codes "spawn") ∷ count_token f.spawns_from
+    ∷ end_object
+    ∷ key (codes "demand") ∷ demand_token f.demand
+    ∷ key (codes "path") ∷ text_token f.path ∷ []
+
+-- ---- what is kept beside the table
+
+abbrev pub front_tokens : JobStatus → List Token
+front_tokens j =
+    begin_object ∷ key (codes "job") ∷ begin_object
+    ∷ key (codes "label") ∷ string j.label.now
+    ∷ key (codes "state") ∷ string (state_text (state_by_reasons j.facts.reasons))
+    ∷ key (codes "pid") ∷ count_token (child_pid j.facts.reasons.child)
+    ∷ key (codes "run") ∷ number (decimal j.note.run)
+    ∷ key (codes "starts") ∷ number (decimal j.note.starts)
+    ∷ key (codes "failures") ∷ number (decimal j.note.failures)
+    ∷ key (codes "connections") ∷ number (decimal j.facts.reasons.wants.connections)
+    ∷ key (codes "disabled") ∷ disabled_token j.disabled ∷ []
+
+abbrev pub end_key : Ended → List ℕ
+end_key (Code code) = codes "code"
+end_key (Signal signal) = codes "signal"
+
+abbrev pub end_number : Ended → ℕ
+end_number (Code code) = code
+end_number (Signal signal) = signal
+
+abbrev pub end_tokens : Option RunEnd → List Token
+end_tokens None = key (codes "last_end") ∷ null ∷ []
+end_tokens (Some end) =
+    (key (codes "last_end") ∷ begin_object
+    ∷ key (codes "run") ∷ number (decimal end.run)
+    ∷ key (end_key end.how) ∷ number (decimal (end_number end.how)) ∷ [])
+    ++ (moment_tokens (codes "began") (Some end.began)
+    ++ (moment_tokens (codes "ended") (Some end.ended) ++ end_object ∷ []))
+
+abbrev pub refused_tokens : Option RefusedStart → List Token
+refused_tokens None = key (codes "refused") ∷ null ∷ []
+refused_tokens (Some start) =
+    (key (codes "refused") ∷ begin_object
+    ∷ key (codes "run") ∷ number (decimal start.run)
+    ∷ key (codes "reason") ∷ text_token start.reason ∷ [])
+    ++ (moment_tokens (codes "at") (Some start.at) ++ end_object ∷ [])
+
+-- what was heard of its runs
+abbrev pub note_tokens : JobNote → List Token
+note_tokens n =
+    moment_tokens (codes "since") (Some n.since)
+    ++ (moment_tokens (codes "started") n.started
+    ++ (moment_tokens (codes "term") n.term
+    ++ (moment_tokens (codes "kill") n.kill
+    ++ (end_tokens n.last_end ++ refused_tokens n.refused))))
+
+-- ---- what the definition says
+
+abbrev pub keys_tokens : JobKeys → List Token
+keys_tokens k =
+    key (codes "keys") ∷ begin_object
+    ∷ key (codes "run_at_load") ∷ boolean k.run_at_load
+    ∷ key (codes "successful_exit") ∷ flag_token k.successful_exit
+    ∷ key (codes "crashed") ∷ flag_token k.crashed
+    ∷ key (codes "path_state") ∷ boolean k.has_path_state
+    ∷ key (codes "path_exists") ∷ flag_token k.path_exists
+    ∷ key (codes "start_interval") ∷ count_token k.start_interval
+    ∷ key (codes "throttle_interval") ∷ number (decimal k.throttle_interval)
+    ∷ key (codes "exit_time_out") ∷ number (decimal k.exit_time_out)
+    ∷ key (codes "watch_paths") ∷ boolean k.has_watch_paths
+    ∷ key (codes "queue_directories") ∷ boolean k.has_queue_directories
+    ∷ key (codes "sockets") ∷ boolean k.has_sockets
+    ∷ end_object ∷ []
+
+-- an entry of its calendar: minute, hour, day, weekday, month, null for a key that is absent
+abbrev pub entry_tokens : Entry → List Token
+entry_tokens e =
+    begin_array ∷ count_token e.minute ∷ count_token e.hour ∷ count_token e.day
+    ∷ count_token e.weekday ∷ count_token e.month ∷ end_array ∷ []
+
+abbrev pub calendar_tokens : List Entry → List Token
+calendar_tokens entries =
+    (key (codes "calendar") ∷ begin_array ∷ [])
+    ++ (flat_map entry_tokens entries ++ (end_array ∷ end_object ∷ end_object ∷ []))
+
+-- ---- the line of a job
+
+abbrev pub job_tokens : JobStatus → List Entry → List Token
+job_tokens j entries =
+    front_tokens j
+    ++ (note_tokens j.note
+    ++ (reasons_tokens j.facts.reasons
+    ++ (moments_tokens j.facts
+    ++ (keys_tokens j.keys ++ calendar_tokens entries))))

@@ -1,0 +1,166 @@
+//! The members of an object of a line, each by its key and kind. The first fault is kept and told at the end: so those who read have one way out.
+
+use crate::read::StatusFault;
+use history_model::Reading;
+use serde_json::Value;
+
+/// An object of a line, as far as it is read.
+#[derive(Clone, Copy)]
+pub(crate) struct Fields<'a> {
+    object: Option<&'a Value>,
+    pub(crate) fault: Option<StatusFault>,
+}
+
+impl<'a> Fields<'a> {
+    pub(crate) fn of(object: &'a Value) -> Fields<'a> {
+        Fields {
+            object: Some(object),
+            fault: None,
+        }
+    }
+
+    fn fail(&mut self, fault: StatusFault) {
+        if self.fault.is_none() {
+            self.fault = Some(fault);
+        }
+    }
+
+    // What stands under the key. A key that is absent is a fault.
+    fn found(&mut self, key: &'static str) -> Option<&'a Value> {
+        let object = self.object?;
+        let found = object.get(key);
+        if found.is_none() {
+            self.fail(StatusFault::Missing(key));
+        }
+        found
+    }
+
+    // What stands under the key and is not null.
+    fn filled(&mut self, key: &'static str) -> Option<&'a Value> {
+        match self.found(key) {
+            Some(Value::Null) => None,
+            found => found,
+        }
+    }
+
+    /// The number under the key, or none if it is null.
+    pub(crate) fn count_if(&mut self, key: &'static str) -> Option<u64> {
+        let count = self.filled(key)?.as_u64();
+        if count.is_none() {
+            self.fail(StatusFault::Wrong(key));
+        }
+        count
+    }
+
+    /// The number under the key; 0 beside a fault.
+    pub(crate) fn count(&mut self, key: &'static str) -> u64 {
+        let count = self.found(key).and_then(Value::as_u64);
+        self.present(key, count.is_some());
+        count.unwrap_or(0)
+    }
+
+    /// The number under the key, which has 32 bits.
+    pub(crate) fn short(&mut self, key: &'static str) -> u32 {
+        let count = self.count(key);
+        match u32::try_from(count) {
+            Ok(count) => count,
+            Err(_) => {
+                self.fail(StatusFault::Wrong(key));
+                0
+            }
+        }
+    }
+
+    /// The flag under the key.
+    pub(crate) fn flag(&mut self, key: &'static str) -> bool {
+        let flag = self.found(key).and_then(Value::as_bool);
+        self.present(key, flag.is_some());
+        flag.unwrap_or(false)
+    }
+
+    /// The flag under the key, or none if it is null.
+    pub(crate) fn flag_if(&mut self, key: &'static str) -> Option<bool> {
+        let flag = self.filled(key)?.as_bool();
+        if flag.is_none() {
+            self.fail(StatusFault::Wrong(key));
+        }
+        flag
+    }
+
+    /// The text under the key.
+    pub(crate) fn text(&mut self, key: &'static str) -> &'a str {
+        let text = self.found(key).and_then(Value::as_str);
+        self.present(key, text.is_some());
+        text.unwrap_or("")
+    }
+
+    /// The text under the key, or none if it is null.
+    pub(crate) fn text_if(&mut self, key: &'static str) -> Option<&'a str> {
+        let text = self.filled(key)?.as_str();
+        if text.is_none() {
+            self.fail(StatusFault::Wrong(key));
+        }
+        text
+    }
+
+    // What stands under the key is of another kind.
+    fn present(&mut self, key: &'static str, is_found: bool) {
+        if !is_found {
+            self.fail(StatusFault::Wrong(key));
+        }
+    }
+
+    /// Whether something stands under the key. That nothing does is no fault.
+    pub(crate) fn has(&self, key: &str) -> bool {
+        match self.object {
+            Some(object) => object.get(key).is_some(),
+            None => false,
+        }
+    }
+
+    /// The object under the key, with the faults so far.
+    pub(crate) fn inside(&mut self, key: &'static str) -> Fields<'a> {
+        let object = self.found(key);
+        Fields {
+            object,
+            fault: self.fault,
+        }
+    }
+
+    /// The object under the key, or none if it is null.
+    pub(crate) fn inside_if(&mut self, key: &'static str) -> Option<Fields<'a>> {
+        let object = self.filled(key)?;
+        Some(Fields {
+            object: Some(object),
+            fault: self.fault,
+        })
+    }
+
+    /// The faults of an object inside this one, behind its own.
+    pub(crate) fn with(&mut self, inside: Fields<'a>) {
+        self.fault = inside.fault;
+    }
+
+    /// The reading: `up` and `wall`.
+    pub(crate) fn reading(&mut self) -> Reading {
+        Reading {
+            up: self.count("up"),
+            wall: self.count("wall"),
+        }
+    }
+
+    /// The words under a key are none of those that may stand there.
+    pub(crate) fn refuse(&mut self, key: &'static str) {
+        self.fail(StatusFault::Wrong(key));
+    }
+
+    /// The members of the list under the key; none beside a fault.
+    pub(crate) fn list(&mut self, key: &'static str) -> &'a [Value] {
+        let list = self.found(key).and_then(Value::as_array);
+        self.present(key, list.is_some());
+        match list {
+            Some(list) => list.as_slice(),
+            None => &[],
+        }
+    }
+}

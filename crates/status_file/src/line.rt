@@ -1,0 +1,152 @@
+//! The text of a file, line by line, and the pieces of which a line is written.
+
+ghost use Rattle.std.specs.Prelude.{◌≡◌, ◌++◌, ◌∷◌, [], true, false};
+ghost use Rattle.status_file.specs.Tokens.{token_in, tokens_in, count_token, text_token, flag_token};
+ghost use Rattle.status_file.specs.Lines.{Puts, line_of};
+
+use json::Writer;
+use std::alloc::Global;
+use std::mem;
+
+/// A piece of a line: a token of JSON.
+#[derive(Clone, Copy)]
+pub(crate) enum Piece<'a> {
+    Open,
+    Close,
+    OpenList,
+    CloseList,
+    Key(&'a str),
+    Text(&'a str),
+    Count(u64),
+    Flag(bool),
+    Null,
+}
+
+/// The number, or null.
+pub(crate) fn count_piece(count: Option<u64>) -> Piece<'static>
+    ensures { token_in result.entry ≡ count_token count }
+{
+    match count {
+        Some(count) => Piece::Count(count),
+        None => Piece::Null,
+    }
+}
+
+/// The text, or null.
+pub(crate) fn text_piece<'a>(text: Option<&'a str>) -> Piece<'a>
+    ensures { token_in result.entry ≡ text_token text.entry }
+{
+    match text {
+        Some(text) => Piece::Text(text),
+        None => Piece::Null,
+    }
+}
+
+/// The flag, or null.
+pub(crate) fn flag_piece(flag: Option<bool>) -> Piece<'static>
+    ensures { token_in result.entry ≡ flag_token flag }
+{
+    match flag {
+        Some(flag) => Piece::Flag(flag),
+        None => Piece::Null,
+    }
+}
+
+/// A line that is being written. A refusal of memory is kept, and told once the line is taken.
+#[derive(Drop)]
+pub(crate) struct Line {
+    pub(crate) writer: Writer,
+    pub(crate) is_refused: bool,
+}
+
+impl Line {
+    /// Adds the pieces, if there is memory for them.
+    pub(crate) fn put(&mut self, pieces: &[Piece<'_>])
+        ensures { Puts (tokens_in pieces.now) self.old self.new }
+    {
+        for piece in pieces {
+            self.put_piece(*piece);
+        }
+    }
+
+    fn put_piece(&mut self, piece: Piece<'_>)
+        ensures { Puts (token_in piece.entry ∷ []) self.old self.new }
+    {
+        let writer = &mut self.writer;
+        let answer = match piece {
+            Piece::Open => writer.begin_object(),
+            Piece::Close => writer.end_object(),
+            Piece::OpenList => writer.begin_array(),
+            Piece::CloseList => writer.end_array(),
+            Piece::Key(name) => writer.key(name),
+            Piece::Text(text) => writer.string(text),
+            Piece::Count(count) => writer.u64(count),
+            Piece::Flag(flag) => writer.boolean(flag),
+            Piece::Null => writer.null(),
+        };
+        self.is_refused = self.is_refused || answer.is_err();
+    }
+}
+
+/// The text of a file, as far as it is written. A refusal of memory is kept: who writes has one way out.
+#[derive(Drop)]
+pub struct StatusText {
+    pub(crate) bytes: Vec<u8>,
+    pub(crate) is_refused: bool,
+}
+
+impl StatusText {
+    /// Nothing is written yet, into this room. What stood there goes.
+    pub fn new(room: Vec<u8>) -> StatusText
+        ensures empty { result.bytes.items ≡ [] }
+        ensures well { result.is_refused ≡ false }
+    {
+        let mut bytes = room;
+        bytes.clear();
+        StatusText {
+            bytes,
+            is_refused: false,
+        }
+    }
+
+    /// The text, and whether all of it found memory. If not, it is the room for a later one.
+    pub fn into_bytes(self) -> (Vec<u8>, bool)
+        ensures bytes { result.0.items ≡ self.bytes.items }
+        ensures well { result.1 ≡ true → self.is_refused ≡ false }
+    {
+        let StatusText { bytes, is_refused } = self;
+        (bytes, !is_refused)
+    }
+
+    /// Memory was refused for what was to be written.
+    pub(crate) fn refuse(&mut self)
+        ensures { self.new.is_refused ≡ true }
+    {
+        self.is_refused = true;
+    }
+
+    /// A line behind what is written: what it is to hold is put on it, and it is then given back by `end`.
+    pub(crate) fn begin(&mut self, alloc: Global) -> Line
+        ensures before { result.writer.before ≡ self.old.bytes.items }
+        ensures empty { result.writer.tokens ≡ [] }
+        ensures refused { result.is_refused ≡ self.old.is_refused }
+    {
+        let bytes = mem::replace(&mut self.bytes, Vec::new(alloc));
+        Line {
+            writer: Writer::new(bytes),
+            is_refused: self.is_refused,
+        }
+    }
+
+    /// Takes the line back, and ends it.
+    pub(crate) fn end(&mut self, line: Line)
+        ensures taken { self.new.is_refused ≡ false → self.new.bytes.items ≡ line.writer.before ++ line_of line.writer.tokens }
+        ensures kept { self.new.is_refused ≡ false → line.is_refused ≡ false }
+    {
+        let Line { writer, is_refused } = line;
+        let mut bytes = writer.into_inner();
+        let is_ended = bytes.push(b'\n').is_ok();
+        drop(mem::replace(&mut self.bytes, bytes));
+        self.is_refused = is_refused || !is_ended;
+    }
+}

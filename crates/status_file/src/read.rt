@@ -1,0 +1,345 @@
+//! The lines of a file, read.
+
+use crate::facts::JobFacts;
+use crate::fields::Fields;
+use crate::names::{DEMANDS, demand_name};
+use crate::status::{
+    DisabledBy, JobKeys, JobNote, JobStatus, JournalStatus, LauncherStatus, RefusedStart, RunEnd,
+};
+use history_model::{Act, DemandKind, Ended, Entry, Reading, Reasons, StandingChild, Wants};
+use job_table::Moments;
+use json_kinds::json_value;
+use serde_json::Value;
+use std::alloc::{AllocError, Global};
+
+/// Why a line is none of a status file.
+#[derive(Clone, Copy)]
+pub enum StatusFault {
+    /// Memory ran out. This tells nothing of the line.
+    NoMemory,
+    /// It is no JSON text.
+    NotJson,
+    /// Nothing stands under this key, which has to stand.
+    Missing(&'static str),
+    /// What stands under this key is none of what may stand there.
+    Wrong(&'static str),
+}
+
+impl From<AllocError> for StatusFault {
+    fn from(_error: AllocError) -> StatusFault {
+        StatusFault::NoMemory
+    }
+}
+
+/// A line that was read as JSON. What it says is lent by it.
+#[derive(Drop)]
+pub struct StatusLine {
+    value: Value,
+}
+
+/// The line, without its newline. NotJson if it is no JSON text; NoMemory.
+pub fn read_line(alloc: Global, line: &[u8]) -> Result<StatusLine, StatusFault> {
+    match json_value(alloc, line) {
+        Ok(Some(value)) => Ok(StatusLine { value }),
+        Ok(None) => Err(StatusFault::NotJson),
+        Err(_) => Err(StatusFault::NoMemory),
+    }
+}
+
+impl StatusLine {
+    /// Whether it is the launcher's, which stands first in a file. The others are those of jobs.
+    pub fn is_launcher(&self) -> bool {
+        Fields::of(&self.value).has("launcher")
+    }
+
+    /// What a line says of the launcher. Missing and Wrong, with the key of the first fault.
+    pub fn launcher(&self) -> Result<LauncherStatus<'_>, StatusFault> {
+        let mut fields = Fields::of(&self.value).inside("launcher");
+        let journal_reason = fields.text_if("journal_reason");
+        let launcher = LauncherStatus {
+            version: fields.text("version"),
+            pid: fields.short("pid"),
+            began: fields.count("began"),
+            header: fields.text("header"),
+            at: reading_in(&mut fields, "at"),
+            journal: match fields.text("journal") {
+                "none" => JournalStatus::None,
+                "open" => JournalStatus::Open,
+                "closed" => JournalStatus::Closed(journal_reason.unwrap_or("")),
+                _ => {
+                    fields.refuse("journal");
+                    JournalStatus::None
+                }
+            },
+            store: fields.text_if("store"),
+        };
+        match fields.fault {
+            Some(fault) => Err(fault),
+            None => Ok(launcher),
+        }
+    }
+
+    /// What a line says of a job. Missing and Wrong, with the key of the first fault.
+    pub fn job(&self) -> Result<JobStatus<'_>, StatusFault> {
+        let mut fields = Fields::of(&self.value).inside("job");
+        let job = JobStatus {
+            label: fields.text("label"),
+            facts: facts_in(&mut fields),
+            note: note_in(&mut fields),
+            keys: keys_in(&mut fields),
+            disabled: disabled_in(&mut fields),
+        };
+        match fields.fault {
+            Some(fault) => Err(fault),
+            None => Ok(job),
+        }
+    }
+
+    /// The entries of the calendar of a job. Missing and Wrong, with the key; NoMemory.
+    pub fn calendar(&self, alloc: Global) -> Result<Vec<Entry>, StatusFault> {
+        let mut fields = Fields::of(&self.value).inside("job");
+        let list = fields.list("calendar");
+        if let Some(fault) = fields.fault {
+            return Err(fault);
+        }
+        let mut entries = Vec::new(alloc);
+        for item in list {
+            let answer = match entry_in(item) {
+                Some(entry) => entries.push(entry).is_ok(),
+                None => {
+                    drop(entries);
+                    return Err(StatusFault::Wrong("calendar"));
+                }
+            };
+            if !answer {
+                drop(entries);
+                return Err(StatusFault::NoMemory);
+            }
+        }
+        Ok(entries)
+    }
+}
+
+// Five numbers, each or null.
+fn entry_in(item: &Value) -> Option<Entry> {
+    let parts = item.as_array()?.as_slice();
+    if parts.len() != 5 {
+        return None;
+    }
+    Some(Entry {
+        minute: part_in(&parts[0])?,
+        hour: part_in(&parts[1])?,
+        day: part_in(&parts[2])?,
+        weekday: part_in(&parts[3])?,
+        month: part_in(&parts[4])?,
+    })
+}
+
+fn part_in(part: &Value) -> Option<Option<u8>> {
+    if let Value::Null = part {
+        return Some(None);
+    }
+    let count = part.as_u64()?;
+    if count < 60 {
+        Some(Some(count as u8))
+    } else {
+        None
+    }
+}
+
+fn disabled_in(fields: &mut Fields<'_>) -> Option<DisabledBy> {
+    match fields.text_if("disabled")? {
+        "definition" => Some(DisabledBy::Definition),
+        "override" => Some(DisabledBy::Override),
+        _ => {
+            fields.refuse("disabled");
+            None
+        }
+    }
+}
+
+// The reading under the key; both 0 beside a fault.
+fn reading_in(fields: &mut Fields<'_>, key: &'static str) -> Reading {
+    let mut inside = fields.inside(key);
+    let at = inside.reading();
+    fields.with(inside);
+    at
+}
+
+fn reading_if(fields: &mut Fields<'_>, key: &'static str) -> Option<Reading> {
+    let mut inside = fields.inside_if(key)?;
+    let at = inside.reading();
+    fields.with(inside);
+    Some(at)
+}
+
+fn note_in<'a>(fields: &mut Fields<'a>) -> JobNote<'a> {
+    JobNote {
+        since: reading_in(fields, "since"),
+        run: fields.count("run"),
+        starts: fields.count("starts"),
+        failures: fields.count("failures"),
+        started: reading_if(fields, "started"),
+        term: reading_if(fields, "term"),
+        kill: reading_if(fields, "kill"),
+        last_end: end_in(fields),
+        refused: refused_in(fields),
+    }
+}
+
+fn end_in(fields: &mut Fields<'_>) -> Option<RunEnd> {
+    let mut end = fields.inside_if("last_end")?;
+    let is_code = end.has("code");
+    let kind = if is_code { "code" } else { "signal" };
+    let number = end.count(kind);
+    if number > 255 {
+        end.refuse(kind);
+    }
+    let short = number as u8;
+    let told = RunEnd {
+        run: end.count("run"),
+        how: if is_code {
+            Ended::Code(short)
+        } else {
+            Ended::Signal(short)
+        },
+        began: reading_in(&mut end, "began"),
+        ended: reading_in(&mut end, "ended"),
+    };
+    fields.with(end);
+    Some(told)
+}
+
+fn refused_in<'a>(fields: &mut Fields<'a>) -> Option<RefusedStart<'a>> {
+    let mut start = fields.inside_if("refused")?;
+    let told = RefusedStart {
+        run: start.count("run"),
+        reason: start.text_if("reason"),
+        at: reading_in(&mut start, "at"),
+    };
+    fields.with(start);
+    Some(told)
+}
+
+fn keys_in(fields: &mut Fields<'_>) -> JobKeys {
+    let mut keys = fields.inside("keys");
+    let interval = keys.count_if("start_interval");
+    let start_interval = match interval {
+        Some(seconds) => u32::try_from(seconds).ok(),
+        None => None,
+    };
+    let told = JobKeys {
+        run_at_load: keys.flag("run_at_load"),
+        successful_exit: keys.flag_if("successful_exit"),
+        crashed: keys.flag_if("crashed"),
+        has_path_state: keys.flag("path_state"),
+        path_exists: keys.flag_if("path_exists"),
+        start_interval,
+        throttle_interval: keys.short("throttle_interval"),
+        exit_time_out: keys.short("exit_time_out"),
+        has_watch_paths: keys.flag("watch_paths"),
+        has_queue_directories: keys.flag("queue_directories"),
+        has_sockets: keys.flag("sockets"),
+    };
+    if interval.is_some() && start_interval.is_none() {
+        keys.refuse("start_interval");
+    }
+    fields.with(keys);
+    told
+}
+
+fn facts_in<'a>(fields: &mut Fields<'a>) -> JobFacts<'a> {
+    let reasons = reasons_in(fields);
+    let mut moments = fields.inside("moments");
+    let told = Moments {
+        term: moments.count_if("term"),
+        kill: moments.count_if("kill"),
+        interval: moments.count_if("interval"),
+    };
+    let spawns_from = moments.count_if("spawn");
+    fields.with(moments);
+    JobFacts {
+        reasons,
+        moments: told,
+        spawns_from,
+        demand: demand_in(fields),
+        path: fields.text_if("path"),
+    }
+}
+
+fn demand_in(fields: &mut Fields<'_>) -> Option<DemandKind> {
+    let word = fields.text_if("demand")?;
+    for kind in DEMANDS {
+        if demand_name(kind) == word {
+            return Some(kind);
+        }
+    }
+    fields.refuse("demand");
+    None
+}
+
+fn reasons_in(fields: &mut Fields<'_>) -> Reasons {
+    let mut reasons = fields.inside("reasons");
+    let child = child_in(&mut reasons);
+    let awaited = awaited_in(&mut reasons);
+    let wants = wants_in(&mut reasons);
+    let told = Reasons {
+        is_removing: reasons.flag("removing"),
+        child,
+        awaited,
+        wants,
+        throttled_until: reasons.count_if("throttled_until"),
+        is_launch_spent: reasons.flag("launch_spent"),
+        are_runs_spent: reasons.flag("runs_spent"),
+    };
+    fields.with(reasons);
+    told
+}
+
+fn child_in(reasons: &mut Fields<'_>) -> Option<StandingChild> {
+    let mut child = reasons.inside_if("child")?;
+    let told = StandingChild {
+        run: child.count("run"),
+        pid: child.short("pid"),
+        is_stopped: child.flag("stopped"),
+        is_struck: child.flag("struck"),
+    };
+    reasons.with(child);
+    Some(told)
+}
+
+fn awaited_in(reasons: &mut Fields<'_>) -> Option<Act> {
+    let mut order = reasons.inside_if("awaited")?;
+    let run = order.count_if("run").unwrap_or(0);
+    let conn = order.count_if("conn");
+    let told = match order.text("order") {
+        "spawn" => Some(Act::Spawn { run, conn }),
+        "term" => Some(Act::Term { run }),
+        "kill" => Some(Act::Kill { run }),
+        "close" => Some(Act::Close {
+            conn: conn.unwrap_or(0),
+        }),
+        "gone" => Some(Act::Gone),
+        _ => {
+            order.refuse("order");
+            None
+        }
+    };
+    reasons.with(order);
+    told
+}
+
+fn wants_in(reasons: &mut Fields<'_>) -> Wants {
+    let mut wants = reasons.inside("wants");
+    let told = Wants {
+        demand: wants.flag("demand"),
+        connections: wants.count("connections") as usize,
+        keep_alive: wants.flag("keep_alive"),
+        successful_exit: wants.flag("successful_exit"),
+        crashed: wants.flag("crashed"),
+        path_state: wants.flag("path_state"),
+        queue_directories: wants.flag("queue_directories"),
+    };
+    reasons.with(wants);
+    told
+}

@@ -1,0 +1,170 @@
+//! What a status file says, as plain data. Its texts are borrowed: of the launcher that writes it, or of the line that was read.
+
+ghost use Rattle.std.specs.Prelude.{◌≡◌};
+ghost use Rattle.status_file.specs.States.{state_by_reasons};
+
+use crate::facts::JobFacts;
+use history_model::definition::Def;
+use history_model::{Act, Ended, JobState, Reading, Reasons};
+
+/// How the journal of a launcher stands.
+#[derive(Clone, Copy)]
+pub enum JournalStatus<'a> {
+    /// The launcher writes none.
+    None,
+    /// Each line so far was written.
+    Open,
+    /// Nothing more is written to it, for this reason.
+    Closed(&'a str),
+}
+
+/// The launcher, at the round in which the file was written.
+#[derive(Clone, Copy)]
+pub struct LauncherStatus<'a> {
+    pub version: &'a str,
+    /// Its process.
+    pub pid: u32,
+    /// The moment of its start, in ticks since the boot, as field 22 of `/proc/PID/stat` has it. Another process of the same number has another.
+    pub began: u64,
+    /// The line, without its newline, of the header with which a journal of this launcher begins, but without settings: `ctl_protocol::read_header` reads the zone and the
+    /// launcher's first reading from it.
+    pub header: &'a str,
+    /// The reading of the round.
+    pub at: Reading,
+    pub journal: JournalStatus<'a>,
+    /// What the store refused last, if it refused something.
+    pub store: Option<&'a str>,
+}
+
+/// How a run ended, and at which readings it began and ended.
+#[derive(Clone, Copy)]
+pub struct RunEnd {
+    pub run: u64,
+    pub how: Ended,
+    /// When its start was ordered.
+    pub began: Reading,
+    pub ended: Reading,
+}
+
+/// A start that the system refused.
+#[derive(Clone, Copy)]
+pub struct RefusedStart<'a> {
+    pub run: u64,
+    /// What the system said, as it is told on standard error behind the run; None if that found no memory, or no place among the lines to be told.
+    pub reason: Option<&'a str>,
+    pub at: Reading,
+}
+
+/// By what a label is disabled.
+#[derive(Clone, Copy)]
+pub enum DisabledBy {
+    /// Its definition's `Disabled`.
+    Definition,
+    /// A setting: `disable`, or `unload -w`.
+    Override,
+}
+
+/// What a launcher heard of a job since its load.
+#[derive(Clone, Copy)]
+pub struct JobNote<'a> {
+    /// When its last run began, was refused or ended, whichever came last. Of a job without a start, when it was written first: at most a second after its load.
+    pub since: Reading,
+    /// The number of its last start, 0 if there was none.
+    pub run: u64,
+    /// How many starts were ordered, refused ones too.
+    pub starts: u64,
+    /// How many starts were refused, and how many runs did not end with code 0, together.
+    pub failures: u64,
+    /// When its last start was ordered, also if it was refused.
+    pub started: Option<Reading>,
+    /// When the first TERM, and when the last KILL, was ordered for its last run.
+    pub term: Option<Reading>,
+    pub kill: Option<Reading>,
+    pub last_end: Option<RunEnd>,
+    /// The last start that was refused.
+    pub refused: Option<RefusedStart<'a>>,
+}
+
+/// What a definition says, as far as it makes a difference to what is told of its job.
+#[derive(Clone, Copy)]
+pub struct JobKeys {
+    pub run_at_load: bool,
+    pub successful_exit: Option<bool>,
+    pub crashed: Option<bool>,
+    pub has_path_state: bool,
+    /// Whether the condition of `PathState` that holds wants its path to be there. None if none holds.
+    pub path_exists: Option<bool>,
+    /// In seconds, and so are the next two.
+    pub start_interval: Option<u32>,
+    pub throttle_interval: u32,
+    pub exit_time_out: u32,
+    pub has_watch_paths: bool,
+    pub has_queue_directories: bool,
+    pub has_sockets: bool,
+}
+
+impl JobKeys {
+    /// Those of a definition. The path is the one that holds its job wanted.
+    pub fn of(def: &Def, path: Option<&str>) -> JobKeys {
+        let path_exists = match path {
+            Some(path) => wish_of(def, path),
+            None => None,
+        };
+        JobKeys {
+            run_at_load: def.run_at_load(),
+            successful_exit: def.successful_exit(),
+            crashed: def.crashed(),
+            has_path_state: !def.path_state().is_empty(),
+            path_exists,
+            start_interval: def.start_interval(),
+            throttle_interval: def.throttle_interval(),
+            exit_time_out: def.exit_time_out(),
+            has_watch_paths: !def.watch_paths().is_empty(),
+            has_queue_directories: !def.queue_directories().is_empty(),
+            has_sockets: def.has_sockets(),
+        }
+    }
+}
+
+// What the first condition of `PathState` on this path wants.
+fn wish_of(def: &Def, path: &str) -> Option<bool> {
+    for state in def.path_state() {
+        if state.path.as_str() == path {
+            return Some(state.present);
+        }
+    }
+    None
+}
+
+/// A loaded job, but for the entries of its calendar.
+#[derive(Clone, Copy)]
+pub struct JobStatus<'a> {
+    pub label: &'a str,
+    /// What the launcher's table tells of it.
+    pub facts: JobFacts<'a>,
+    pub note: JobNote<'a>,
+    pub keys: JobKeys,
+    /// By what its label is disabled now, if it is.
+    pub disabled: Option<DisabledBy>,
+}
+
+/// What a job is doing, by its reasons.
+pub fn state_of(reasons: &Reasons) -> JobState
+    ensures { result ≡ state_by_reasons reasons.now }
+{
+    let (has_child, is_ending) = match &reasons.child {
+        Some(child) => (true, child.is_stopped || child.is_struck),
+        None => (false, false),
+    };
+    if reasons.is_removing {
+        JobState::Removing
+    } else if matches!(reasons.awaited, Some(Act::Spawn { .. })) {
+        JobState::Spawning
+    } else if !has_child {
+        JobState::Idle
+    } else if is_ending {
+        JobState::Stopping
+    } else {
+        JobState::Running
+    }
+}

@@ -1,0 +1,408 @@
+//! The lines of a file, written.
+
+ghost use Rattle.std.specs.Prelude.{◌≡◌, ◌++◌, ◌∷◌, []};
+ghost use Rattle.std.specs.List.{flat_map};
+ghost use Rattle.status_file.specs.Lines.{Adds, Puts};
+ghost use Rattle.status_file.specs.Tokens.{token_in, awaited_tokens, calendar_tokens, child_pid, child_tokens, count_token, demand_token, disabled_token, end_key, end_number, end_tokens, entry_tokens, front_tokens, held_tokens, job_tokens, keys_tokens, moment_tokens, moments_tokens, note_tokens, order_conn, order_run, reasons_tokens, refused_tokens, wants_tokens};
+
+use crate::facts::JobFacts;
+use crate::line::{Line, Piece, StatusText, count_piece, flag_piece, text_piece};
+use crate::names::{demand_name, disabled_name, order_name, state_name};
+use crate::status::{
+    DisabledBy, JobKeys, JobNote, JobStatus, JournalStatus, LauncherStatus, RefusedStart, RunEnd,
+    state_of,
+};
+use Piece::{Close, CloseList, Count, Flag, Key, Null, Open, OpenList, Text};
+use history_model::{Act, DemandKind, Ended, Entry, Reading, Reasons, StandingChild, Wants};
+use std::alloc::Global;
+
+/// Adds the launcher's line. It stands first in a file.
+pub fn add_launcher(text: &mut StatusText, alloc: Global, launcher: &LauncherStatus<'_>) {
+    let (journal, reason) = match launcher.journal {
+        JournalStatus::None => ("none", None),
+        JournalStatus::Open => ("open", None),
+        JournalStatus::Closed(reason) => ("closed", Some(reason)),
+    };
+    let mut line = text.begin(alloc);
+    line.put(&[
+        Open,
+        Key("launcher"),
+        Open,
+        Key("version"),
+        Text(launcher.version),
+        Key("pid"),
+        Count(u64::from(launcher.pid)),
+        Key("began"),
+        Count(launcher.began),
+        Key("header"),
+        Text(launcher.header),
+    ]);
+    put_moment(&mut line, "at", Some(launcher.at));
+    line.put(&[
+        Key("journal"),
+        Text(journal),
+        Key("journal_reason"),
+        text_piece(reason),
+        Key("store"),
+        text_piece(launcher.store),
+        Close,
+        Close,
+    ]);
+    text.end(line);
+}
+
+/// Adds the line of a job, with the entries of its calendar.
+pub(crate) fn add_job(text: &mut StatusText, alloc: Global, job: &JobStatus<'_>, calendar: &[Entry])
+    ensures { Adds (job_tokens job.now calendar.now) text.old text.new }
+{
+    let mut line = text.begin(alloc);
+    put_front(&mut line, job);
+    put_note(&mut line, &job.note);
+    put_reasons(&mut line, &job.facts.reasons);
+    put_moments(&mut line, &job.facts);
+    put_keys(&mut line, job.keys);
+    put_calendar(&mut line, calendar);
+    text.end(line);
+}
+
+fn child_pid(child: Option<StandingChild>) -> Option<u64>
+    ensures { result ≡ child_pid child }
+{
+    match child {
+        Some(child) => Some(u64::from(child.pid)),
+        None => None,
+    }
+}
+
+fn disabled_piece(by: Option<DisabledBy>) -> Piece<'static>
+    ensures { token_in result.entry ≡ disabled_token by }
+{
+    match by {
+        Some(by) => Text(disabled_name(by)),
+        None => Null,
+    }
+}
+
+fn put_front(line: &mut Line, job: &JobStatus<'_>)
+    ensures { Puts (front_tokens job.now) line.old line.new }
+{
+    let reasons = &job.facts.reasons;
+    line.put(&[
+        Open,
+        Key("job"),
+        Open,
+        Key("label"),
+        Text(job.label),
+        Key("state"),
+        Text(state_name(state_of(reasons))),
+        Key("pid"),
+        count_piece(child_pid(reasons.child)),
+        Key("run"),
+        Count(job.note.run),
+        Key("starts"),
+        Count(job.note.starts),
+        Key("failures"),
+        Count(job.note.failures),
+        Key("connections"),
+        Count(reasons.wants.connections as u64),
+        Key("disabled"),
+        disabled_piece(job.disabled),
+    ]);
+}
+
+fn end_parts(how: Ended) -> (&'static str, u64)
+    ensures { (result.0.now, result.1) ≡ (end_key how, end_number how) }
+{
+    match how {
+        Ended::Code(code) => ("code", u64::from(code)),
+        Ended::Signal(signal) => ("signal", u64::from(signal)),
+    }
+}
+
+// A reading under its key.
+fn put_moment(line: &mut Line, name: &str, at: Option<Reading>)
+    ensures { Puts (moment_tokens name.now at) line.old line.new }
+{
+    match at {
+        Some(at) => line.put(&[
+            Key(name),
+            Open,
+            Key("up"),
+            Count(at.up),
+            Key("wall"),
+            Count(at.wall),
+            Close,
+        ]),
+        None => line.put(&[Key(name), Null]),
+    }
+}
+
+fn put_end(line: &mut Line, end: Option<RunEnd>)
+    ensures { Puts (end_tokens end) line.old line.new }
+{
+    match end {
+        Some(end) => {
+            let (kind, number) = end_parts(end.how);
+            line.put(&[
+                Key("last_end"),
+                Open,
+                Key("run"),
+                Count(end.run),
+                Key(kind),
+                Count(number),
+            ]);
+            put_moment(line, "began", Some(end.began));
+            put_moment(line, "ended", Some(end.ended));
+            line.put(&[Close]);
+        }
+        None => line.put(&[Key("last_end"), Null]),
+    }
+}
+
+fn put_refused(line: &mut Line, refused: Option<RefusedStart<'_>>)
+    ensures { Puts (refused_tokens refused.entry) line.old line.new }
+{
+    match refused {
+        Some(start) => {
+            line.put(&[
+                Key("refused"),
+                Open,
+                Key("run"),
+                Count(start.run),
+                Key("reason"),
+                text_piece(start.reason),
+            ]);
+            put_moment(line, "at", Some(start.at));
+            line.put(&[Close]);
+        }
+        None => line.put(&[Key("refused"), Null]),
+    }
+}
+
+fn put_note(line: &mut Line, note: &JobNote<'_>)
+    ensures { Puts (note_tokens note.now) line.old line.new }
+{
+    put_moment(line, "since", Some(note.since));
+    put_moment(line, "started", note.started);
+    put_moment(line, "term", note.term);
+    put_moment(line, "kill", note.kill);
+    put_end(line, note.last_end);
+    put_refused(line, note.refused);
+}
+
+fn put_reasons(line: &mut Line, reasons: &Reasons)
+    ensures { Puts (reasons_tokens reasons.now) line.old line.new }
+{
+    put_held(line, reasons);
+    put_child(line, reasons.child);
+    put_awaited(line, reasons.awaited);
+    put_wants(line, reasons.wants);
+    line.put(&[Close]);
+}
+
+fn put_held(line: &mut Line, reasons: &Reasons)
+    ensures { Puts (held_tokens reasons.now) line.old line.new }
+{
+    line.put(&[
+        Key("reasons"),
+        Open,
+        Key("removing"),
+        Flag(reasons.is_removing),
+        Key("throttled_until"),
+        count_piece(reasons.throttled_until),
+        Key("launch_spent"),
+        Flag(reasons.is_launch_spent),
+        Key("runs_spent"),
+        Flag(reasons.are_runs_spent),
+    ]);
+}
+
+fn put_child(line: &mut Line, child: Option<StandingChild>)
+    ensures { Puts (child_tokens child) line.old line.new }
+{
+    match child {
+        Some(child) => line.put(&[
+            Key("child"),
+            Open,
+            Key("run"),
+            Count(child.run),
+            Key("pid"),
+            Count(u64::from(child.pid)),
+            Key("stopped"),
+            Flag(child.is_stopped),
+            Key("struck"),
+            Flag(child.is_struck),
+            Close,
+        ]),
+        None => line.put(&[Key("child"), Null]),
+    }
+}
+
+/// The run of an order, and its connection.
+fn order_parts(order: Act) -> (Option<u64>, Option<u64>)
+    ensures { result ≡ (order_run order, order_conn order) }
+{
+    match order {
+        Act::Spawn { run, conn } => (Some(run), conn),
+        Act::Term { run } | Act::Kill { run } => (Some(run), None),
+        Act::Close { conn } => (None, Some(conn)),
+        Act::Gone => (None, None),
+    }
+}
+
+fn put_awaited(line: &mut Line, awaited: Option<Act>)
+    ensures { Puts (awaited_tokens awaited) line.old line.new }
+{
+    match awaited {
+        Some(order) => {
+            let (run, conn) = order_parts(order);
+            line.put(&[
+                Key("awaited"),
+                Open,
+                Key("order"),
+                Text(order_name(order)),
+                Key("run"),
+                count_piece(run),
+                Key("conn"),
+                count_piece(conn),
+                Close,
+            ]);
+        }
+        None => line.put(&[Key("awaited"), Null]),
+    }
+}
+
+fn put_wants(line: &mut Line, wants: Wants)
+    ensures { Puts (wants_tokens wants) line.old line.new }
+{
+    line.put(&[
+        Key("wants"),
+        Open,
+        Key("demand"),
+        Flag(wants.demand),
+        Key("connections"),
+        Count(wants.connections as u64),
+        Key("keep_alive"),
+        Flag(wants.keep_alive),
+        Key("successful_exit"),
+        Flag(wants.successful_exit),
+        Key("crashed"),
+        Flag(wants.crashed),
+        Key("path_state"),
+        Flag(wants.path_state),
+        Key("queue_directories"),
+        Flag(wants.queue_directories),
+        Close,
+    ]);
+}
+
+fn demand_piece(demand: Option<DemandKind>) -> Piece<'static>
+    ensures { token_in result.entry ≡ demand_token demand }
+{
+    match demand {
+        Some(demand) => Text(demand_name(demand)),
+        None => Null,
+    }
+}
+
+fn put_moments(line: &mut Line, facts: &JobFacts<'_>)
+    ensures { Puts (moments_tokens facts.now) line.old line.new }
+{
+    line.put(&[
+        Key("moments"),
+        Open,
+        Key("term"),
+        count_piece(facts.moments.term),
+        Key("kill"),
+        count_piece(facts.moments.kill),
+        Key("interval"),
+        count_piece(facts.moments.interval),
+        Key("spawn"),
+        count_piece(facts.spawns_from),
+        Close,
+        Key("demand"),
+        demand_piece(facts.demand),
+        Key("path"),
+        text_piece(facts.path),
+    ]);
+}
+
+fn widened(count: Option<u32>) -> Option<u64>
+    ensures { result ≡ count }
+{
+    match count {
+        Some(count) => Some(u64::from(count)),
+        None => None,
+    }
+}
+
+fn put_keys(line: &mut Line, keys: JobKeys)
+    ensures { Puts (keys_tokens keys) line.old line.new }
+{
+    line.put(&[
+        Key("keys"),
+        Open,
+        Key("run_at_load"),
+        Flag(keys.run_at_load),
+        Key("successful_exit"),
+        flag_piece(keys.successful_exit),
+        Key("crashed"),
+        flag_piece(keys.crashed),
+        Key("path_state"),
+        Flag(keys.has_path_state),
+        Key("path_exists"),
+        flag_piece(keys.path_exists),
+        Key("start_interval"),
+        count_piece(widened(keys.start_interval)),
+        Key("throttle_interval"),
+        Count(u64::from(keys.throttle_interval)),
+        Key("exit_time_out"),
+        Count(u64::from(keys.exit_time_out)),
+        Key("watch_paths"),
+        Flag(keys.has_watch_paths),
+        Key("queue_directories"),
+        Flag(keys.has_queue_directories),
+        Key("sockets"),
+        Flag(keys.has_sockets),
+        Close,
+    ]);
+}
+
+fn short_piece(count: Option<u8>) -> Piece<'static>
+    ensures { token_in result.entry ≡ count_token count }
+{
+    match count {
+        Some(count) => Count(u64::from(count)),
+        None => Null,
+    }
+}
+
+fn put_calendar(line: &mut Line, calendar: &[Entry])
+    ensures { Puts (calendar_tokens calendar.now) line.old line.new }
+{
+    line.put(&[Key("calendar"), OpenList]);
+    put_entries(line, calendar);
+    line.put(&[CloseList, Close, Close]);
+}
+
+fn put_entries(line: &mut Line, calendar: &[Entry])
+    ensures { Puts (flat_map entry_tokens calendar.now) line.old line.new }
+{
+    for entry in calendar {
+        put_entry(line, *entry);
+    }
+}
+
+fn put_entry(line: &mut Line, entry: Entry)
+    ensures { Puts (entry_tokens entry) line.old line.new }
+{
+    line.put(&[
+        OpenList,
+        short_piece(entry.minute),
+        short_piece(entry.hour),
+        short_piece(entry.day),
+        short_piece(entry.weekday),
+        short_piece(entry.month),
+        CloseList,
+    ]);
+}
