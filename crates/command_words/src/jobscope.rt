@@ -31,13 +31,14 @@ fn command_in(
 ) -> Result<ScopeCommand, AllocError> {
     let words = words_in(alloc, task, found);
     let from = match task {
-        Task::Check | Task::Why => number_of(found, "now"),
+        Task::Check | Task::Why | Task::Status => number_of(found, "now"),
         _ => number_of(found, "from"),
     };
     let journal = value_of(alloc, found, "journal");
+    let status_file = value_of(alloc, found, "status-file");
     let into = value_of(alloc, found, "into");
-    match (words, journal, into) {
-        (Ok(words), Ok(journal), Ok(into)) => Ok(ScopeCommand {
+    match (words, journal, status_file, into) {
+        (Ok(words), Ok(journal), Ok(status_file), Ok(into)) => Ok(ScopeCommand {
             task,
             is_strict: is_set(found, "strict"),
             follows: is_set(found, "follow"),
@@ -50,12 +51,14 @@ fn command_in(
             since: number_of(found, "since"),
             zone,
             journal,
+            status_file,
             into,
             words,
         }),
-        (words, journal, into) => {
+        (words, journal, status_file, into) => {
             drop(words);
             drop(journal);
+            drop(status_file);
             drop(into);
             drop(zone);
             Err(AllocError)
@@ -67,7 +70,7 @@ fn words_in(alloc: Global, task: Task, found: &ArgMatches<'_>) -> Result<Paths, 
     let id = match task {
         Task::Check | Task::Next | Task::Plist => "paths",
         Task::Cron => "lines",
-        Task::Why | Task::Log | Task::Runs | Task::Picture => "labels",
+        Task::Status | Task::Why | Task::Log | Task::Runs | Task::Picture => "labels",
     };
     match values_of(alloc, found, id)? {
         Some(words) => Ok(words),

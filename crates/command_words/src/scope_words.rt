@@ -18,6 +18,9 @@ const PLIST_EXIT: &str =
 const JOURNAL_EXIT: &str =
     "Exit status: 0 done; 1 no memory; 64 these words are no command; 65 the journal can't be read, or is none.";
 
+const STATUS_EXIT: &str =
+    "Exit status: 0 done; 1 no memory; 64 these words are no command; 65 the status file can't be read, is not whole, or is none, or it has no job of a label; 71 the clock can't be read.";
+
 const ZONE: Argument = Argument {
     id: "zone",
     form: Form::Value { required: false },
@@ -105,21 +108,33 @@ const NEXT: &[Argument] = &[
     PATHS,
 ];
 
+const STATUS_FILE: Argument = Argument {
+    id: "status-file",
+    form: Form::Value { required: false },
+    value: "PATH",
+    help: "The launcher's status file; where absent, that of JOBD_STATUS_FILE, else the package's",
+};
+
+const NOW: Argument = Argument {
+    id: "now",
+    form: Form::Value { required: false },
+    value: "SECOND",
+    help: "Take this second of Unix time for now, and not the clock's",
+};
+
+const STATUS: &[Argument] = &[STATUS_FILE, LABELS, UTC, NOW];
+
 const WHY: &[Argument] = &[
+    STATUS_FILE,
     JOURNAL,
     LABELS,
     UTC,
+    NOW,
     Argument {
         id: "at",
         form: Form::Value { required: false },
         value: "MOMENT",
         help: "Say it as of this moment: HH:MM or HH:MM:SS of the journal's last day, or a second of Unix time; as of its end where absent",
-    },
-    Argument {
-        id: "now",
-        form: Form::Value { required: false },
-        value: "SECOND",
-        help: "Take this second of Unix time for now, and not the clock's",
     },
 ];
 
@@ -201,6 +216,12 @@ const SUBCOMMANDS: &[Subcommand] = &[
         about: "Show the coming starts of calendars and intervals, in the order of time",
         after: NEXT_EXIT,
         arguments: NEXT,
+    },
+    Subcommand {
+        name: "status",
+        about: "Show how each job of a launcher stands, a line a job",
+        after: STATUS_EXIT,
+        arguments: STATUS,
     },
     Subcommand {
         name: "why",
