@@ -16,3 +16,4 @@ pub use chart::{Bar, Chart, End, Mark, MarkKind, Row};
 pub use html::{Beside, Coming};
 pub use piece::picture_piece;
 pub use svg::PLACES;
+pub use words::{columns_of, columns_of_char};

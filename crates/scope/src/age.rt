@@ -24,12 +24,9 @@ pub(crate) enum AsOf {
 /// one that is gone.
 pub(crate) fn reading_as_of(as_of: AsOf, last: Reading) -> Reading {
     match as_of {
-        AsOf::Seen(second, Some(Writer::Process(_)))
-        | AsOf::Moment {
-            second,
-            is_end: false,
-        } => { gone_on(within_limits(last), second) }
-        AsOf::End | AsOf::Seen(..) | AsOf::Moment { .. } => last,
+        AsOf::Seen(second, Some(Writer::Process(_))) => gone_on(within_limits(last), second),
+        AsOf::Moment { second, is_end } if !is_end => gone_on(within_limits(last), second),
+        _ => last,
     }
 }
 

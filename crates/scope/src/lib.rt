@@ -11,6 +11,7 @@ mod log;
 mod page;
 mod program;
 mod report;
+mod status;
 mod texts;
 mod writer;
 mod zone;

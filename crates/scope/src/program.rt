@@ -2,6 +2,7 @@
 
 use crate::clock::now;
 use crate::report::report;
+use crate::status::show_status;
 use crate::zone::{Named, zone_of};
 use ctl_protocol::LINE_LIMIT;
 use definition_files::check::check_files;
@@ -61,6 +62,7 @@ fn run<W: Wait>(
         }
         Task::Cron => put_outcome(&mut host.stdout(), by_lines(host, alloc, command)),
         Task::Plist => put_outcome(&mut host.stdout(), of_lists(host, alloc, command)),
+        Task::Status => show_status(host, alloc, command),
         _ => report(host, waits, alloc, command),
     }
 }
