@@ -14,17 +14,15 @@ use ctl_protocol::{ReadFault, read_header};
 use history_model::{Ended, JobState, MAX_WALL, Reading, SECOND, Text};
 use run_times::Filling::{Moment, Number};
 use run_times::picture::columns_of;
-use run_times::{Ink, Page, Piece, time_text, utc};
+use run_times::{Ink, Page, time_text, utc};
 use status_file::LauncherStatus;
 use std::alloc::{AllocError, Global};
 use table_opening::zone_of;
 
 /// The columns behind the label, which have this width each: state, process, since when, last end, starts, failures, and what comes next.
-const WIDTHS: [usize; 7] = [9, 8, 10, 10, 6, 8, 20];
+const WIDTHS: [usize; 7] = [8, 7, 10, 9, 6, 6, 12];
 
-const HEADS: [&str; 7] = [
-    "STATE", "PROCESS", "SINCE", "LAST END", "STARTS", "FAILURES", "NEXT",
-];
+const HEAD: &str = " STATE    PROCESS SINCE      LAST END  STARTS FAILED NEXT\n";
 
 /// What ends a colour.
 const PLAIN: &str = "\x1b[0m";
@@ -165,11 +163,7 @@ fn label_columns(rows: &[Row<'_>], columns: usize) -> usize {
 fn add_rows(page: &mut Page<'_>, rows: &[Row<'_>], look: Look) {
     let columns = label_columns(rows, look.columns);
     put_cell(&mut page.ink, "LABEL", columns);
-    for (head, width) in HEADS.iter().zip(WIDTHS.iter()) {
-        page.ink.put(" ");
-        put_cell(&mut page.ink, *head, *width);
-    }
-    page.ink.put("\n");
+    page.ink.put(HEAD);
     add_lines(page, rows, columns, look.has_colour);
 }
 
@@ -228,11 +222,10 @@ fn put_cells(page: &mut Page<'_>, row: &Row<'_>)
     put_last(page, row.last, WIDTHS[3]);
     put_count(page, Some(row.starts), WIDTHS[4]);
     put_count(page, Some(row.failures), WIDTHS[5]);
-    page.ink.put(" ");
     match row.next {
-        Next::Nothing => page.ink.put("-"),
+        Next::Nothing => page.ink.put(" -"),
         Next::At(second) => put_moment(page, second, 0),
-        Next::Due => page.ink.put("due"),
+        Next::Due => page.ink.put(" due"),
         Next::For(what) => page
             .ink
             .put_all(&[Piece::Text("waits for "), Piece::Text(what)]),
