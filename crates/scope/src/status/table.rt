@@ -226,9 +226,10 @@ fn put_cells(page: &mut Page<'_>, row: &Row<'_>)
         Next::Nothing => page.ink.put(" -"),
         Next::At(second) => put_moment(page, second, 0),
         Next::Due => page.ink.put(" due"),
-        Next::For(what) => page
-            .ink
-            .put_all(&[Piece::Text("waits for "), Piece::Text(what)]),
+        Next::For(what) => {
+            page.ink.put(" ");
+            page.ink.put(what);
+        }
     }
 }
 
