@@ -108,6 +108,8 @@ version = read("VERSION").strip()
 for path in ("crates/command_words/src/version.rt", "docs/USING.md", "crates/trials/data/word_scenes.py"):
     if {f"Kivgrond {version}"} != set(re.findall(r"Kivgrond [0-9.]*[0-9]", read(path))):
         faults.append(f"{path}: it does not name the version {version} alone")
+if re.findall(r'VERSION: &str = "([0-9.]+)"', read("crates/status_file/src/lib.rt")) != [version]:
+    faults.append(f"crates/status_file/src/lib.rt: it does not name the version {version}")
 newest = re.search(r"^## (\S+), \d{4}-\d\d-\d\d$", read("CHANGELOG.md"), re.M)
 if newest is None or newest.group(1) != version:
     faults.append(f"CHANGELOG.md: the newest version is not {version}")

@@ -39,7 +39,7 @@ lent edge round = record round { host = record round.host { edge = edge } }
 -- The outside was asked something, and nothing was handed in; or the closing of the journal was reported.
 abbrev pub AsksEdge : {T E W : Type 0} → RoundLauncher T E W → RoundLauncher T E W → Type 0
 AsksEdge {E = E} old new = ((edge : E) × (new ≡ lent edge old))
-    ⊎ (new ≡ record old { host = record old.host { journal = reported old.host.journal } })
+    ⊎ ((edge : E) × (new ≡ record old { host = record old.host { edge = edge; journal = reported old.host.journal } }))
 
 -- what a look gives, if the system did not refuse it
 abbrev pub seen_by : Result Obs EdgeFault → Option Obs
@@ -211,8 +211,9 @@ module _ {T E W : Type 0} (calls : E → Option (List ToldCall)) (stores : T →
     pub its : IsLabelOf old.host.table job label
     pub handed : TellsCame label job conn answer (lent edge old) new
 
-  -- a control client's line was handed in, and this is its reply; a load that was accepted is noted
+  -- a control client's line was handed in, and this is its reply; a load that was accepted is noted, and then the outside hears of the reply
   pub record AnswersLine (line : List ℕ) (reply : Reply) (old new : RoundLauncher T E W) : Type 0 where
     pub mid : RoundLauncher T E W
     pub gives : Gives (asked_by line) reply.refusal reply.text old mid
-    pub noted : new ≡ record mid { has_loaded = mid.has_loaded || mid.host.has_loaded }
+    pub edge : E
+    pub noted : new ≡ record (lent edge mid) { has_loaded = mid.has_loaded || mid.host.has_loaded }

@@ -1,3 +1,4 @@
 pub mod Launches
 pub mod Found
 pub mod KillWaits
+pub mod Standings

@@ -3,16 +3,21 @@
 //! the turns by `RoundLauncher`.
 #![tactic(auto)]
 
+mod keeper;
 mod kill_waits;
 mod news;
+mod own_process;
 mod round_edge;
 mod round_launcher;
 mod serving;
 mod sleep;
+mod standing_file;
+mod status_edge;
 mod words;
 
 use child_edge::OsEdge;
 use exit_status::NO_MEMORY;
+pub use keeper::Keeper;
 pub use kill_waits::is_kill_awaited;
 use launchctl_words::{DaemonCommand, WordFault, read_daemon_words};
 pub use launcher::{Host, HostFault, Input};

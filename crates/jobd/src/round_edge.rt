@@ -1,11 +1,12 @@
 //! What the rounds of a live loop ask of an edge beside what a launcher's turns ask of it. The launcher of a loop is over any such edge,
 //! so that only the few lines below are proved for all that the edge of the system holds.
 
-ghost use Rattle.std.specs.Prelude.{◌≡◌, ◌≤◌, ℕ, Option, Some};
+ghost use Rattle.std.specs.Prelude.{◌≡◌, ◌≤◌, ℕ, List, Option, Some, true};
 
+use crate::keeper::Keeper;
 use crate::sleep::slept;
 use child_edge::{ChildEdge, Client, ClockEdge, Notice, OsEdge, PathEdge, SocketEdge, System};
-use history_model::JobNo;
+use history_model::{JobNo, Reading, Refusal};
 use live_loop::{Caller, Origin};
 use mio::{Registry, Token};
 
@@ -27,6 +28,9 @@ impl<R: System> SleepEdge for OsEdge<R> {
 pub trait RoundEdge: ChildEdge + SleepEdge + PathEdge + SocketEdge {
     /// To the question whose child is over, from this job on, this answer may lead from the one to the other: a job, and its run.
     ghost Finds: { ℕ → Option (ℕ × ℕ) → Self → Self → Type 0 };
+
+    /// That this text was handed to the file on how the launcher stands may lead from the one to the other.
+    ghost Hands: { List ℕ → Self → Self → Type 0 };
 
     /// The least job, this one or above it, whose child is over, with the child's run.
     fn over_from(&mut self, job: JobNo) -> Option<(JobNo, u64)>
@@ -56,12 +60,28 @@ pub trait RoundEdge: ChildEdge + SleepEdge + PathEdge + SocketEdge {
     /// The oldest of what is to be told and was not.
     fn next_notice(&mut self) -> Option<Notice>;
 
+    /// A client was answered: with this refusal, or well.
+    fn note_reply(&mut self, refusal: Option<Refusal>);
+
+    /// The journal is closed.
+    fn note_closing(&mut self);
+
+    /// What keeps the file on how the launcher stands, if it is to be written at this reading. It is given back by `hand`.
+    fn lend_keeper(&mut self, at: Reading, has_changed: bool) -> Option<Keeper>;
+
+    /// Gives it back. If its text is whole, it is handed to the file.
+    fn hand(&mut self, keeper: Keeper, is_whole: bool, at: Reading)
+        ensures { is_whole ≡ true → Self.Hands keeper.text.bytes.items self.old self.new };
+
     /// The job whose child is over is this one or one above it.
     ghost rises: { (first job run : ℕ) (old new : Self) → Finds first (Some (job, run)) old new → first ≤ job };
 }
 
 impl<R: System> RoundEdge for OsEdge<R> {
     ghost use Rattle.jobd.specs.Found.{IsFrom};
+
+    // It keeps no file.
+    ghost Hands = { λ text old new. Unit {0} };
 
     // No child is let go by the question. Which one is over is the system's word.
     ghost Finds = { λ first found old new. IsFrom first found × (new ≡ old) };
@@ -115,4 +135,14 @@ impl<R: System> RoundEdge for OsEdge<R> {
     fn next_notice(&mut self) -> Option<Notice> {
         OsEdge::next_notice(self)
     }
+
+    fn note_reply(&mut self, _refusal: Option<Refusal>) {}
+
+    fn note_closing(&mut self) {}
+
+    fn lend_keeper(&mut self, _at: Reading, _has_changed: bool) -> Option<Keeper> {
+        None
+    }
+
+    fn hand(&mut self, _keeper: Keeper, _is_whole: bool, _at: Reading) {}
 }

@@ -1,9 +1,10 @@
 //! What a round of the live loop finds, handed to the launcher one by one.
 
-ghost use Rattle.std.specs.Prelude.{◌≡◌, true, false};
+ghost use Rattle.std.specs.Prelude.{◌≡◌, ℕ, List, true, false};
 ghost use Rattle.launcher.specs.Inputs.{input_event, wants_memory};
 ghost use Rattle.launcher.specs.LoadTurns.{is_memory};
 
+use crate::keeper::Keeper;
 use crate::kill_waits::{counted, counting};
 use crate::news::{is_news, later_of};
 use crate::round_edge::{RoundEdge, SleepEdge};
@@ -190,7 +191,35 @@ impl<T: SettingStore, E: ChildEdge + SocketEdge, W: Write> RoundLauncher<T, E, W
     }
 }
 
-impl<T: SettingStore, E: ChildEdge + SocketEdge, W: Write> Answers for RoundLauncher<T, E, W> {
+impl<T: SettingStore, E: RoundEdge, W: Write> RoundLauncher<T, E, W> {
+    ghost use Rattle.jobd.specs.Launches.{lent};
+    ghost use Rattle.jobd.specs.Standings.{IsStatusText};
+
+    /// Has the file on how the launcher stands written, if it is kept and is to be written in this round. True: its text was handed to it, that of
+    /// the table as it is now.
+    pub fn write_status(&mut self) -> bool
+        ensures asks { (edge : E) × (self.new ≡ lent edge self.old) }
+        ensures handed { result ≡ true → (text : List ℕ) × (edge : E) × IsStatusText self.old.host.table text × E.Hands text edge self.new.host.edge }
+    {
+        let (at, is_active) = (self.at, self.is_active);
+        match self.host.edge().lend_keeper(at, is_active) {
+            Some(keeper) => self.write_by(keeper, at),
+            None => false,
+        }
+    }
+
+    fn write_by(&mut self, keeper: Keeper, at: Reading) -> bool
+        ensures asks { (edge : E) × (self.new ≡ lent edge self.old) }
+        ensures handed { result ≡ true → (text : List ℕ) × (edge : E) × IsStatusText self.old.host.table text × E.Hands text edge self.new.host.edge }
+    {
+        let mut keeper = keeper;
+        let is_whole = keeper.write(self.host.table(), at);
+        self.host.edge().hand(keeper, is_whole, at);
+        is_whole
+    }
+}
+
+impl<T: SettingStore, E: RoundEdge, W: Write> Answers for RoundLauncher<T, E, W> {
     ghost use Rattle.jobd.specs.Launches.{AnswersLine};
 
     ghost Answered = { AnswersLine E.told T.told T.holds T.stamped };
@@ -198,6 +227,7 @@ impl<T: SettingStore, E: ChildEdge + SocketEdge, W: Write> Answers for RoundLaun
     fn answer(&mut self, alloc: Global, line: &[u8]) -> Reply {
         let reply = self.give(alloc, Input::Line(line));
         self.has_loaded = self.has_loaded | self.host.has_loaded();
+        self.host.edge().note_reply(reply.refusal);
         reply
     }
 }
@@ -334,8 +364,11 @@ impl<T: SettingStore, E: RoundEdge, W: Write> LoopHost for RoundLauncher<T, E, W
         }
     }
 
+    // It is the last that each round asks before it tells what there is to tell.
     fn forward(&mut self) -> bool {
-        self.host.edge().forward()
+        let may_go_on = self.host.edge().forward();
+        self.write_status();
+        may_go_on
     }
 
     fn let_all_go(&mut self) {
@@ -347,6 +380,11 @@ impl<T: SettingStore, E: RoundEdge, W: Write> LoopHost for RoundLauncher<T, E, W
     }
 
     fn report_journal_closing(&mut self) -> bool {
-        self.host.report_journal_closing()
+        if self.host.report_journal_closing() {
+            self.host.edge().note_closing();
+            true
+        } else {
+            false
+        }
     }
 }

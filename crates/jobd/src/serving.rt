@@ -1,13 +1,17 @@
 //! `jobd serve`: what the launcher stands on is opened step by step, and then it serves. What opens holds the edge and the store as
 //! type parameters, so that only `serve_by` is proved for all that the edge of the system holds, and only `startup` for the store's files.
 
+use crate::keeper::Keeper;
+use crate::own_process::own_process;
 use crate::round_edge::RoundEdge;
 use crate::round_launcher::RoundLauncher;
+use crate::standing_file::StandingFile;
+use crate::status_edge::StatusEdge;
 use control_socket::ControlSocket;
-use ctl_protocol::{Header, Settings, ZoneText};
+use ctl_protocol::{Header, Settings, ZoneText, header_line};
 use exit_status::{CLOCK_OR_WAITING, NO_MEMORY, STORE};
 use files_and_process::socket_file;
-use history_model::{Reading, Setting};
+use history_model::{Reading, Setting, Text};
 use launchctl_words::ZoneWords;
 use launcher::{Host, HostFault};
 use live_loop::{Live, LoopHost, ServeFault, System, serve};
@@ -20,6 +24,10 @@ use std::alloc::Global;
 use std::fs::File;
 use std::io::BufWriter;
 use std::sync::Wait;
+use std::{env, str};
+
+/// What names the file on how the launcher stands.
+const STATUS_FILE: &str = "JOBD_STATUS_FILE";
 
 /// Serves until a shutdown was accepted and no job is left: 0. A fault is told, and its status given: in this order the zone
 /// 7, how the process was started and the clock 9, the control socket 6, the journal 8, the store 5, the spool 10, waiting 9; 1
@@ -55,12 +63,76 @@ fn serve_by<L: Wait>(
         Err(status) => return status,
     };
     match system_of(host, alloc, plan) {
-        Ok((edge, reading)) => serve_over(host, host, waits, plan, zone, edge, reading),
+        Ok((edge, reading)) => {
+            let (zone, kept) = kept_for(host, alloc, plan, zone, reading);
+            let edge = StatusEdge::new(edge, kept);
+            serve_over(host, host, waits, plan, zone, edge, reading)
+        }
         Err(status) => {
             drop(zone);
             status
         }
     }
+}
+
+// What keeps the file on how the launcher stands, if the environment names one: its lock is held from now on. That it can't be kept is told,
+// and the launcher goes on without.
+fn kept_for(
+    host: &HostRuntime,
+    alloc: Global,
+    plan: &Plan,
+    zone: ZoneText,
+    reading: Reading,
+) -> (ZoneText, Option<(StandingFile<HostRuntime>, Keeper)>) {
+    let Ok(path) = env::var(host, STATUS_FILE) else {
+        return (zone, None);
+    };
+    if path.is_empty() {
+        drop(path);
+        return (zone, None);
+    }
+    let (zone, line) = headed(alloc, zone, reading);
+    let file = StandingFile::take(host, alloc, path.as_str(), plan.standing.user);
+    let level = plan.wishes.level;
+    let kept = match (file, line, own_process(host)) {
+        (Ok(file), Some(line), Some(own)) => {
+            let has_journal = plan.places.journal.is_some();
+            Some((file, Keeper::new(alloc, own, line, has_journal, reading)))
+        }
+        (Err(error), line, _) => {
+            drop(line);
+            report(host, level, "status file", path.as_str(), &error);
+            None
+        }
+        (Ok(file), line, _) => {
+            file.let_go();
+            drop(file);
+            drop(line);
+            let why = "this process is not known, or there is no memory";
+            report(host, level, "status file", path.as_str(), &why);
+            None
+        }
+    };
+    drop(path);
+    (zone, kept)
+}
+
+// The line of a header without settings, without its newline; and the zone again.
+fn headed(alloc: Global, zone: ZoneText, reading: Reading) -> (ZoneText, Option<Text>) {
+    let header = Header {
+        reading,
+        zone,
+        overrides: Settings::new(Vec::new(alloc)),
+    };
+    let text = match header_line(alloc, &header) {
+        Ok(line) => match str::from_utf8(line.as_slice()) {
+            Ok(text) => Text::copy_of(alloc, text.trim_end()).ok(),
+            Err(_) => None,
+        },
+        Err(_) => None,
+    };
+    let Header { zone, .. } = header;
+    (zone, text)
 }
 
 // Opens what comes before the spool, and serves. The store's files are opened by the runtime itself, which is handed in as `host` too.

@@ -292,7 +292,7 @@ module _ {T E W : Type 0} (calls : E → Option (List ToldCall)) (stores : T →
 
   asked : {old new : RoundLauncher T E W} → AsksEdge old new → Keeps [] old new
   asked {old} {new} (inl edge) = moved old new (ap (λ (r : RoundLauncher T E W). r.host.table) edge.1) (ap (λ (r : RoundLauncher T E W). r.at) edge.1) (ap (λ (r : RoundLauncher T E W). r.has_loaded) edge.1)
-  asked {old} {new} (inr told) = moved old new (ap (λ (r : RoundLauncher T E W). r.host.table) told) (ap (λ (r : RoundLauncher T E W). r.at) told) (ap (λ (r : RoundLauncher T E W). r.has_loaded) told)
+  asked {old} {new} (inr told) = moved old new (ap (λ (r : RoundLauncher T E W). r.host.table) told.1) (ap (λ (r : RoundLauncher T E W). r.at) told.1) (ap (λ (r : RoundLauncher T E W). r.has_loaded) told.1)
 
   lent_on : (edge : E) (old : RoundLauncher T E W) → Keeps [] old (lent edge old)
   lent_on edge old = moved old (lent edge old) refl refl refl

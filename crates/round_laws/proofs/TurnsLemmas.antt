@@ -88,7 +88,7 @@ module _ {T E W : Type 0} (calls : E → Option (List ToldCall)) (stores : T →
 
   asked : {old new : RoundLauncher T E W} → AsksEdge old new → Goes [] old new
   asked {old} {new} (inl edge) = subst (λ (r : RoundLauncher T E W). Goes [] old r) (sym edge.1) (record { are = record { table = refl; store = refl; journal = inl refl } })
-  asked {old} {new} (inr told) = subst (λ (r : RoundLauncher T E W). Goes [] old r) (sym told) (record { are = record { table = refl; store = refl; journal = inr refl } })
+  asked {old} {new} (inr told) = subst (λ (r : RoundLauncher T E W). Goes [] old r) (sym told.1) (record { are = record { table = refl; store = refl; journal = inr refl } })
 
   lent_on : (edge : E) (old : RoundLauncher T E W) → Goes [] old (lent edge old)
   lent_on edge old = record { are = record { table = refl; store = refl; journal = inl refl } }
@@ -183,8 +183,10 @@ module _ {T E W : Type 0} (calls : E → Option (List ToldCall)) (stores : T →
   serves : {old new : RoundLauncher T E W} (s : Serves (AnswersLine calls stores holds stamped) old new) → Goes (of_serves calls stores holds stamped s) old new
   serves {old = old} nobody = nothing old
   serves (one_more {line = line} {reply = reply} {mid = mid} {new = new} more answers) = then_ (serves more)
-      (subst (λ (r : RoundLauncher T E W). Goes (of_gives calls stores holds stamped (asked_by line) reply.refusal reply.text mid answers.mid answers.gives) mid r) (sym answers.noted)
-      (record { are = (gives (asked_by line) reply.refusal reply.text mid answers.mid answers.gives).are }))
+      (let marks = of_gives calls stores holds stamped (asked_by line) reply.refusal reply.text mid answers.mid answers.gives in
+      let given = then_ {ys = []} (gives (asked_by line) reply.refusal reply.text mid answers.mid answers.gives) (lent_on answers.edge answers.mid) in
+      let heard = subst (λ ms. Goes ms mid (lent answers.edge answers.mid)) (append-nil marks) given in
+      subst (λ (r : RoundLauncher T E W). Goes marks mid r) (sym answers.noted) (record { are = heard.are }))
 
   client : (label : List ℕ) (job conn : ℕ) (answer : HandedIn) (old new : RoundLauncher T E W) (t : TellsCame calls stores holds stamped label job conn answer old new) →
       Goes (of_client calls stores holds stamped label job conn answer old new t) old new

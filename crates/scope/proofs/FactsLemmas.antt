@@ -1,38 +1,16 @@
--- What a table tells of a job are the facts of each machine that it keeps.
-use Rattle.std.proofs.Common.{◌≡◌, ℕ, List, [], ◌∷◌, map, Option, Some, None, IfSome, refl, sym, ap, ◌∙◌, subst}
-use Rattle.std.specs.Option.{option_map}
-use Rattle.history_model.specs.Items.{History}
-use Rattle.history_model.specs.Reasons.{reasons_of}
-use Rattle.history_model.specs.declared.reasons.Reasons.{Reasons}
+-- What a table tells of a job are the facts of each machine that it keeps, and so of the one that heard the lines.
+use Rattle.std.proofs.Common.{◌≡◌, ℕ, List, [], ◌∷◌, map, Option, Some}
 use Rattle.history_model.specs.Labels.{Label}
 use Rattle.history_model.specs.Machine.{State, past_of}
 use Rattle.history_model.specs.Step.{run}
 use Rattle.loaded_jobs.specs.Tables.{Table}
 use Rattle.loaded_jobs.specs.StandsFor.{KeepsState}
-use Rattle.loaded_jobs.specs.Waking.{spawning, demanding, holding, HasMoments}
 use Rattle.table_opening.specs.JournalEvents.{event_in}
-use Rattle.scope.specs.declared.journal.facts.JobFacts.{JobFacts}
-use Rattle.scope.specs.Facts.{AreFacts, HasFacts, HasFactsAfter}
+use Rattle.status_file.specs.Facts.{HasFacts}
+use Rattle.status_file.specs.declared.facts.JobFacts.{JobFacts}
+use Rattle.scope.specs.Facts.{HasFactsAfter}
 use Rattle.scope.specs.Journals.{KeepsLines}
 
-value_in : (r : Reasons) (o : Option Reasons) → Some r ≡ o → IfSome o (λ x. r ≡ x)
-value_in r o is = subst (λ o. IfSome o (λ x. r ≡ x)) is refl
-
-pub told : (at : Option History) (facts : JobFacts) → Some facts.reasons ≡ option_map reasons_of at → HasMoments at (Some facts.moments) → facts.spawns_from ≡ spawning at → facts.demand ≡ demanding at
-    → option_map (λ path. path.now) facts.path ≡ holding at → HasFacts at (Some facts)
-told None facts reasons moments spawns demand path = absurd moments
-told (Some past) facts reasons moments spawns demand path = record { reasons = value_in facts.reasons (Some (reasons_of past)) reasons; moments = moments; spawns = spawns; demand = demand; path = path }
-
--- of a job that is not loaded nothing is told
-pub untold : (at : Option History) → None ≡ option_map reasons_of at → HasFacts at None
-untold None none = tt
-untold (Some past) none = absurd (cc)
-
-pub unmoved : (at : Option History) → HasMoments at None → HasFacts at None
-unmoved None none = tt
-unmoved (Some past) none = absurd none
-
--- so of each machine that the table keeps, and so of the one that heard the lines
 pub after : (lines : List (List ℕ)) (label : Label) (table : Table) (facts : Option JobFacts) → ((s : State) → KeepsState table s → HasFacts (past_of s label) facts) → KeepsLines lines (Some table) → HasFactsAfter lines label facts
 after [] label table facts told keeps = absurd keeps
 after (header ∷ lines) label table facts told (s, opens, keeps) = (s, opens, told (run (map event_in lines) s) keeps)

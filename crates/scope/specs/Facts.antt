@@ -1,32 +1,12 @@
 -- What is told of a job: the facts of a machine, which heard the lines of a journal.
-use Rattle.std.specs.Option.{option_map}
-use Rattle.std.specs.Prelude.{◌≡◌, ℕ, List, [], ◌∷◌, map, Option, Some, None}
-use Rattle.history_model.specs.Items.{History}
-use Rattle.history_model.specs.Reasons.{reasons_of, spawns_from, path_that_holds}
-use Rattle.history_model.specs.Demands.{latest_demand}
+use Rattle.std.specs.Prelude.{ℕ, List, [], ◌∷◌, map, Option}
 use Rattle.history_model.specs.Labels.{Label}
 use Rattle.history_model.specs.Machine.{State, past_of}
 use Rattle.history_model.specs.Step.{run}
-use Rattle.job_core.specs.JobMoments.{AreMoments}
 use Rattle.table_opening.specs.Output.{Opens}
 use Rattle.table_opening.specs.JournalEvents.{event_in}
-use Rattle.scope.specs.declared.journal.facts.JobFacts.{JobFacts}
-
--- the facts of the job with this past: its reasons, the moments of its next orders, from when on a
--- reading starts it, what made its demand, and which path holds it wanted
-pub record AreFacts (past : History) (facts : JobFacts) : Type 0 where
-  pub reasons : facts.reasons ≡ reasons_of past
-  pub moments : AreMoments past facts.moments
-  pub spawns : facts.spawns_from ≡ spawns_from past
-  pub demand : facts.demand ≡ latest_demand past
-  pub path : option_map (λ path. path.now) facts.path ≡ path_that_holds past
-
--- so of a job that is loaded; of another there are none
-abbrev pub HasFacts : Option History → Option JobFacts → Type 0
-HasFacts None None = Unit {0}
-HasFacts (Some past) (Some facts) = AreFacts past facts
-HasFacts None (Some facts) = ⊥
-HasFacts (Some past) None = ⊥
+use Rattle.status_file.specs.Facts.{HasFacts}
+use Rattle.status_file.specs.declared.facts.JobFacts.{JobFacts}
 
 -- so of the job with this label, by the machine that the first line opens and that heard the others:
 -- the one whose orders a replay of these lines writes (`IsOutput` of `Output` in `table_opening`)

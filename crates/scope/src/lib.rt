@@ -16,7 +16,6 @@ mod texts;
 mod writer;
 mod zone;
 
-pub use journal::facts::JobFacts;
 pub use journal::fault::JournalFault;
 pub use journal::lines::{Hears, JournalLines};
 pub use journal::reader::{OpenJournal, open};

@@ -15,6 +15,11 @@ use Rattle.status_file.specs.Lines.{Adds, Puts, line_of}
 pub nothing : (line : Line) → Puts [] line line
 nothing line = record { kept = λ well. well; before = refl; added = λ well. sym (append-nil line.writer.tokens) }
 
+-- so of what is told clause by clause
+pub puts : (ts : List Token) (x y : Line) → (y.is_refused ≡ false → x.is_refused ≡ false) → y.writer.before ≡ x.writer.before →
+    (y.is_refused ≡ false → y.writer.tokens ≡ x.writer.tokens ++ ts) → Puts ts x y
+puts ts x y kept before added = record { kept = kept; before = before; added = added }
+
 pub followed : (a b : List Token) (x y z : Line) → Puts a x y → Puts b y z → Puts (a ++ b) x z
 followed a b x y z first second = record {
   kept = λ well. first.kept (second.kept well);

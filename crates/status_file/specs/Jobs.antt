@@ -1,24 +1,15 @@
 -- The lines of loaded jobs.
-use Rattle.std.specs.Prelude.{◌≡◌, ◌≢◌, ℕ, List, [], ◌∷◌, ◌++◌, false, Option, Some, None}
-use Rattle.std.specs.Borrow.{Bor}
+use Rattle.std.specs.Prelude.{◌≡◌, ℕ, List, ◌++◌, false, Some}
 use Rattle.std.specs.List.{flat_map, AllByRecursion}
 use Rattle.history_model.specs.declared.Entry.{Entry}
-use Rattle.history_model.specs.Described.{Described}
-use Rattle.history_model.specs.Labels.{Label}
 use Rattle.history_model.specs.Machine.{State, past_of}
 use Rattle.loaded_jobs.specs.StandsFor.{KeepsState}
-use Rattle.loaded_jobs.specs.Tables.{Name, Table, label_of, definition_of_number}
+use Rattle.loaded_jobs.specs.Tables.{Table}
 use Rattle.status_file.specs.declared.line.StatusText.{StatusText}
 use Rattle.status_file.specs.declared.status.JobStatus.{JobStatus}
 use Rattle.status_file.specs.Facts.{HasFacts}
 use Rattle.status_file.specs.Lines.{line_of}
 use Rattle.status_file.specs.Tokens.{job_tokens}
-
--- the label that the number stands for, and its definition; none exactly if the label is empty
-abbrev pub IsFound : List Name → ℕ → Option (Bor Label × Bor Described) → Type 0
-IsFound names job None = label_of names job ≡ []
-IsFound names job (Some found) =
-    (found.0.now ≡ label_of names job) × (definition_of_number names job ≡ Some found.1.now)
 
 -- the line of a job: what it says of the job, and the entries of its calendar
 pub record JobLine : Type 0 where

@@ -200,22 +200,35 @@ abbrev pub end_number : Ended → ℕ
 end_number (Code code) = code
 end_number (Signal signal) = signal
 
-abbrev pub end_tokens : Option RunEnd → List Token
-end_tokens None = key (codes "last_end") ∷ null ∷ []
-end_tokens (Some end) =
-    (key (codes "last_end") ∷ begin_object
+abbrev pub end_front_tokens : RunEnd → List Token
+end_front_tokens end =
+    key (codes "last_end") ∷ begin_object
     ∷ key (codes "run") ∷ number (decimal end.run)
-    ∷ key (end_key end.how) ∷ number (decimal (end_number end.how)) ∷ [])
+    ∷ key (end_key end.how) ∷ number (decimal (end_number end.how)) ∷ []
+
+abbrev pub run_end_tokens : RunEnd → List Token
+run_end_tokens end =
+    end_front_tokens end
     ++ (moment_tokens (codes "began") (Some end.began)
     ++ (moment_tokens (codes "ended") (Some end.ended) ++ end_object ∷ []))
 
+abbrev pub end_tokens : Option RunEnd → List Token
+end_tokens None = key (codes "last_end") ∷ null ∷ []
+end_tokens (Some end) = run_end_tokens end
+
+abbrev pub start_front_tokens : RefusedStart → List Token
+start_front_tokens start =
+    key (codes "refused") ∷ begin_object
+    ∷ key (codes "run") ∷ number (decimal start.run)
+    ∷ key (codes "reason") ∷ text_token start.reason ∷ []
+
+abbrev pub start_tokens : RefusedStart → List Token
+start_tokens start =
+    start_front_tokens start ++ (moment_tokens (codes "at") (Some start.at) ++ end_object ∷ [])
+
 abbrev pub refused_tokens : Option RefusedStart → List Token
 refused_tokens None = key (codes "refused") ∷ null ∷ []
-refused_tokens (Some start) =
-    (key (codes "refused") ∷ begin_object
-    ∷ key (codes "run") ∷ number (decimal start.run)
-    ∷ key (codes "reason") ∷ text_token start.reason ∷ [])
-    ++ (moment_tokens (codes "at") (Some start.at) ++ end_object ∷ [])
+refused_tokens (Some start) = start_tokens start
 
 -- what was heard of its runs
 abbrev pub note_tokens : JobNote → List Token

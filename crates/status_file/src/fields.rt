@@ -37,10 +37,8 @@ impl<'a> Fields<'a> {
 
     // What stands under the key and is not null.
     fn filled(&mut self, key: &'static str) -> Option<&'a Value> {
-        match self.found(key) {
-            Some(Value::Null) => None,
-            found => found,
-        }
+        let value = self.found(key)?;
+        if value.is_null() { None } else { Some(value) }
     }
 
     /// The number under the key, or none if it is null.
@@ -54,7 +52,10 @@ impl<'a> Fields<'a> {
 
     /// The number under the key; 0 beside a fault.
     pub(crate) fn count(&mut self, key: &'static str) -> u64 {
-        let count = self.found(key).and_then(Value::as_u64);
+        let count = match self.found(key) {
+            Some(value) => value.as_u64(),
+            None => None,
+        };
         self.present(key, count.is_some());
         count.unwrap_or(0)
     }
@@ -73,7 +74,10 @@ impl<'a> Fields<'a> {
 
     /// The flag under the key.
     pub(crate) fn flag(&mut self, key: &'static str) -> bool {
-        let flag = self.found(key).and_then(Value::as_bool);
+        let flag = match self.found(key) {
+            Some(value) => value.as_bool(),
+            None => None,
+        };
         self.present(key, flag.is_some());
         flag.unwrap_or(false)
     }
@@ -89,7 +93,10 @@ impl<'a> Fields<'a> {
 
     /// The text under the key.
     pub(crate) fn text(&mut self, key: &'static str) -> &'a str {
-        let text = self.found(key).and_then(Value::as_str);
+        let text = match self.found(key) {
+            Some(value) => value.as_str(),
+            None => None,
+        };
         self.present(key, text.is_some());
         text.unwrap_or("")
     }
@@ -155,12 +162,15 @@ impl<'a> Fields<'a> {
     }
 
     /// The members of the list under the key; none beside a fault.
-    pub(crate) fn list(&mut self, key: &'static str) -> &'a [Value] {
-        let list = self.found(key).and_then(Value::as_array);
+    pub(crate) fn list(&mut self, key: &'static str) -> Option<&'a [Value]> {
+        let list = match self.found(key) {
+            Some(value) => value.as_array(),
+            None => None,
+        };
         self.present(key, list.is_some());
         match list {
-            Some(list) => list.as_slice(),
-            None => &[],
+            Some(list) => Some(list.as_slice()),
+            None => None,
         }
     }
 }

@@ -1,15 +1,14 @@
 //! The lines of all loaded jobs.
 
-ghost use Rattle.std.specs.Prelude.{◌≡◌, true, false, Some, option_map};
-ghost use Rattle.loaded_jobs.specs.Tables.{definition_of_number, label_of};
-ghost use Rattle.status_file.specs.Jobs.{AddsJobs, IsFound};
+ghost use Rattle.status_file.specs.Jobs.{AddsJobs};
 
 use crate::facts::facts_of;
 use crate::line::StatusText;
+use crate::run_notes::RunNotes;
 use crate::status::{DisabledBy, JobKeys, JobNote, JobStatus};
 use crate::write::add_job;
+use history_model::JobNo;
 use history_model::definition::Def;
-use history_model::{JobNo, MAX_JOBS};
 use job_table::JobTable;
 use std::alloc::{AllocError, Global};
 use std::cmp::Ordering;
@@ -18,18 +17,10 @@ use std::cmp::Ordering;
 const DISABLED: &str = "\tdisabled = true\n}\n";
 
 /// As many numbers are asked for. A table gives a job the least number that is free, and a job that is gone has its own until the next event.
-const NUMBERS: JobNo = 2 * MAX_JOBS as JobNo;
-
-/// What was heard of the runs of jobs, by their numbers.
-pub trait Notes {
-    /// What was heard of this job since its load.
-    fn of(&self, job: JobNo) -> JobNote<'_>;
-}
+pub(crate) const NUMBERS: JobNo = 2048;
 
 /// The label and the definition of the job with this number, also of one that is just gone; None for a number that no job has. It takes no memory.
-pub fn job_of(table: &JobTable, job: JobNo) -> Option<(&str, &Def)>
-    ensures { IsFound table.now.names job result }
-{
+pub(crate) fn job_of(table: &JobTable, job: JobNo) -> Option<(&str, &Def)> {
     let step = table.last_step();
     let label = step.label(job);
     if label.is_empty() {
@@ -38,73 +29,117 @@ pub fn job_of(table: &JobTable, job: JobNo) -> Option<(&str, &Def)>
     Some((label, step.def(job)))
 }
 
-/// Adds a line for each loaded job, by rising bytes of labels. `order` is room for their numbers. Each line has the facts that the table tells of its job.
-pub fn add_jobs<N: Notes>(
+/// Adds a line for each loaded job, by rising bytes of labels. `order` is room for their numbers. Each line has the facts that the table tells of its
+/// own job.
+pub fn add_jobs(
     text: &mut StatusText,
     alloc: Global,
     table: &JobTable,
-    notes: &N,
+    notes: &RunNotes,
     order: &mut Vec<JobNo>,
 )
     ensures { AddsJobs table.now text.old text.new }
 {
-    if put_in_order(table, order).is_err() {
-        text.refuse();
-        return;
-    }
-    for job in order.iter() {
-        add_numbered(text, alloc, table, notes.of(*job), *job);
-    }
+    put_in_order(text, table, order);
+    add_each(text, alloc, table, notes, order.as_slice());
 }
 
 // The numbers of all jobs, by rising bytes of their labels.
-fn put_in_order(table: &JobTable, order: &mut Vec<JobNo>) -> Result<(), AllocError> {
+fn put_in_order(text: &mut StatusText, table: &JobTable, order: &mut Vec<JobNo>)
+    ensures { AddsJobs table.now text.old text.new }
+{
+    match ordered(table, order) {
+        Ok(()) => {}
+        Err(_) => text.refuse(),
+    }
+}
+
+fn ordered(table: &JobTable, order: &mut Vec<JobNo>) -> Result<(), AllocError> {
     order.clear();
     for job in 0..NUMBERS {
         if let Some((label, _)) = job_of(table, job) {
-            let place = order.partition_point(|other| is_before(table, *other, label));
-            order.insert(place.min(order.len()), job)?;
+            let place = place_of(table, order.as_slice(), label).min(order.len());
+            order.insert(place, job)?;
         }
     }
     Ok(())
 }
 
-fn is_before(table: &JobTable, job: JobNo, label: &str) -> bool {
-    let step = table.last_step();
-    matches!(Ord::cmp(step.label(job), label), Ordering::Less)
+// How many of them have a label before this one.
+fn place_of(table: &JobTable, order: &[JobNo], label: &str) -> usize {
+    order.partition_point(|job| is_before(table, *job, label))
 }
 
-// The line of the job with this number, if it is loaded.
+fn is_before(table: &JobTable, job: JobNo, label: &str) -> bool {
+    let step = table.last_step();
+    match Ord::cmp(&step.label(job), &label) {
+        Ordering::Less => true,
+        _ => false,
+    }
+}
+
+fn add_each(
+    text: &mut StatusText,
+    alloc: Global,
+    table: &JobTable,
+    notes: &RunNotes,
+    order: &[JobNo],
+)
+    ensures { AddsJobs table.now text.old text.new }
+{
+    for job in order {
+        add_numbered(text, alloc, table, notes, *job);
+    }
+}
+
+// The line of the job with this number, if there is one.
 fn add_numbered(
     text: &mut StatusText,
     alloc: Global,
     table: &JobTable,
-    note: JobNote<'_>,
+    notes: &RunNotes,
     job: JobNo,
 )
     ensures { AddsJobs table.now text.old text.new }
 {
-    let Some((label, def)) = job_of(table, job) else {
-        return;
-    };
-    let Some(facts) = facts_of(table, label) else {
-        return;
-    };
-    let job = JobStatus {
-        label,
-        facts,
-        note,
-        keys: JobKeys::of(def, facts.path),
-        disabled: disabled_by(alloc, table, def),
-    };
-    add_job(text, alloc, &job, def.calendar());
+    match job_of(table, job) {
+        Some((label, def)) => add_loaded(text, alloc, table, notes.of(job), label, def),
+        None => {}
+    }
+}
+
+// The line of the job with this label, if it is loaded.
+fn add_loaded(
+    text: &mut StatusText,
+    alloc: Global,
+    table: &JobTable,
+    note: JobNote<'_>,
+    label: &str,
+    def: &Def,
+)
+    ensures { AddsJobs table.now text.old text.new }
+{
+    match facts_of(table, label) {
+        Some(facts) => {
+            let job = JobStatus {
+                label,
+                facts,
+                note,
+                keys: JobKeys::of(def, facts.path),
+                disabled: disabled_by(alloc, table, def),
+            };
+            add_job(text, alloc, &job, def.calendar());
+        }
+        None => {}
+    }
 }
 
 // By what the label is disabled. Both may disable it: then the definition is told. Without memory it is told as enabled.
 fn disabled_by(alloc: Global, table: &JobTable, def: &Def) -> Option<DisabledBy> {
-    let shown = table.print(alloc, def.label()).ok()?;
-    let is_disabled = shown.as_str().ends_with(DISABLED);
-    drop(shown);
+    let is_disabled = match table.print(alloc, def.label()) {
+        Ok(shown) => shown.as_str().ends_with(DISABLED),
+        Err(_) => false,
+    };
     if !is_disabled {
         None
     } else if def.disabled() {

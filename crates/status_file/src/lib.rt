@@ -3,20 +3,25 @@
 //! `jobscope` tells them of the table of a journal.
 #![tactic(auto)]
 
+/// The version of the programs, as the file VERSION of the repository has it.
+pub const VERSION: &str = "0.2.0";
+
 mod facts;
 mod fields;
 mod jobs;
 mod line;
 mod names;
 mod read;
+mod run_notes;
 mod status;
 mod write;
 
 pub use facts::{JobFacts, facts_of};
-pub use jobs::{Notes, add_jobs, job_of};
+pub use jobs::add_jobs;
 pub use line::StatusText;
 pub use names::state_name;
 pub use read::{StatusFault, StatusLine, read_line};
+pub use run_notes::RunNotes;
 pub use status::{
     DisabledBy, JobKeys, JobNote, JobStatus, JournalStatus, LauncherStatus, RefusedStart, RunEnd,
     state_of,

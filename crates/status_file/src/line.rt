@@ -2,7 +2,7 @@
 
 ghost use Rattle.std.specs.Prelude.{◌≡◌, ◌++◌, ◌∷◌, [], true, false};
 ghost use Rattle.status_file.specs.Tokens.{token_in, tokens_in, count_token, text_token, flag_token};
-ghost use Rattle.status_file.specs.Lines.{Puts, line_of};
+ghost use Rattle.status_file.specs.Lines.{line_of};
 
 use json::Writer;
 use std::alloc::Global;
@@ -24,7 +24,7 @@ pub(crate) enum Piece<'a> {
 
 /// The number, or null.
 pub(crate) fn count_piece(count: Option<u64>) -> Piece<'static>
-    ensures { token_in result.entry ≡ count_token count }
+    ensures { token_in result ≡ count_token count }
 {
     match count {
         Some(count) => Piece::Count(count),
@@ -34,7 +34,7 @@ pub(crate) fn count_piece(count: Option<u64>) -> Piece<'static>
 
 /// The text, or null.
 pub(crate) fn text_piece<'a>(text: Option<&'a str>) -> Piece<'a>
-    ensures { token_in result.entry ≡ text_token text.entry }
+    ensures { token_in result ≡ text_token text.entry }
 {
     match text {
         Some(text) => Piece::Text(text),
@@ -44,7 +44,7 @@ pub(crate) fn text_piece<'a>(text: Option<&'a str>) -> Piece<'a>
 
 /// The flag, or null.
 pub(crate) fn flag_piece(flag: Option<bool>) -> Piece<'static>
-    ensures { token_in result.entry ≡ flag_token flag }
+    ensures { token_in result ≡ flag_token flag }
 {
     match flag {
         Some(flag) => Piece::Flag(flag),
@@ -62,7 +62,9 @@ pub(crate) struct Line {
 impl Line {
     /// Adds the pieces, if there is memory for them.
     pub(crate) fn put(&mut self, pieces: &[Piece<'_>])
-        ensures { Puts (tokens_in pieces.now) self.old self.new }
+        ensures kept { self.new.is_refused ≡ false → self.old.is_refused ≡ false }
+        ensures before { self.new.writer.before ≡ self.old.writer.before }
+        ensures added { self.new.is_refused ≡ false → self.new.writer.tokens ≡ self.old.writer.tokens ++ tokens_in pieces.now }
     {
         for piece in pieces {
             self.put_piece(*piece);
@@ -70,21 +72,22 @@ impl Line {
     }
 
     fn put_piece(&mut self, piece: Piece<'_>)
-        ensures { Puts (token_in piece.entry ∷ []) self.old self.new }
+        ensures kept { self.new.is_refused ≡ false → self.old.is_refused ≡ false }
+        ensures before { self.new.writer.before ≡ self.old.writer.before }
+        ensures added { self.new.is_refused ≡ false → self.new.writer.tokens ≡ self.old.writer.tokens ++ token_in piece.entry ∷ [] }
     {
-        let writer = &mut self.writer;
-        let answer = match piece {
-            Piece::Open => writer.begin_object(),
-            Piece::Close => writer.end_object(),
-            Piece::OpenList => writer.begin_array(),
-            Piece::CloseList => writer.end_array(),
-            Piece::Key(name) => writer.key(name),
-            Piece::Text(text) => writer.string(text),
-            Piece::Count(count) => writer.u64(count),
-            Piece::Flag(flag) => writer.boolean(flag),
-            Piece::Null => writer.null(),
+        let is_put = match piece {
+            Piece::Open => self.writer.begin_object().is_ok(),
+            Piece::Close => self.writer.end_object().is_ok(),
+            Piece::OpenList => self.writer.begin_array().is_ok(),
+            Piece::CloseList => self.writer.end_array().is_ok(),
+            Piece::Key(name) => self.writer.key(name).is_ok(),
+            Piece::Text(text) => self.writer.string(text).is_ok(),
+            Piece::Count(count) => self.writer.u64(count).is_ok(),
+            Piece::Flag(flag) => self.writer.boolean(flag).is_ok(),
+            Piece::Null => self.writer.null().is_ok(),
         };
-        self.is_refused = self.is_refused || answer.is_err();
+        self.is_refused = self.is_refused || !is_put;
     }
 }
 
@@ -96,26 +99,32 @@ pub struct StatusText {
 }
 
 impl StatusText {
-    /// Nothing is written yet, into this room. What stood there goes.
-    pub fn new(room: Vec<u8>) -> StatusText
-        ensures empty { result.bytes.items ≡ [] }
-        ensures well { result.is_refused ≡ false }
-    {
-        let mut bytes = room;
-        bytes.clear();
+    /// Nothing is written yet. It takes no memory.
+    pub fn new(alloc: Global) -> StatusText {
         StatusText {
-            bytes,
+            bytes: Vec::new(alloc),
             is_refused: false,
         }
     }
 
-    /// The text, and whether all of it found memory. If not, it is the room for a later one.
-    pub fn into_bytes(self) -> (Vec<u8>, bool)
-        ensures bytes { result.0.items ≡ self.bytes.items }
-        ensures well { result.1 ≡ true → self.is_refused ≡ false }
+    /// Whether all that was to be written found memory.
+    pub fn is_whole(&self) -> bool
+        ensures { result ≡ true → self.now.is_refused ≡ false }
     {
-        let StatusText { bytes, is_refused } = self;
-        (bytes, !is_refused)
+        !self.is_refused
+    }
+
+    /// What is written.
+    pub fn as_slice(&self) -> &[u8]
+        ensures { result.now ≡ self.now.bytes.items }
+    {
+        self.bytes.as_slice()
+    }
+
+    /// Nothing is written, as at first. The room stays.
+    pub fn clear(&mut self) {
+        self.bytes.clear();
+        self.is_refused = false;
     }
 
     /// Memory was refused for what was to be written.

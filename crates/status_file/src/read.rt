@@ -2,7 +2,7 @@
 
 use crate::facts::JobFacts;
 use crate::fields::Fields;
-use crate::names::{DEMANDS, demand_name};
+use crate::names::{DEMANDS, demand_name, disabled_name, order_name};
 use crate::status::{
     DisabledBy, JobKeys, JobNote, JobStatus, JournalStatus, LauncherStatus, RefusedStart, RunEnd,
 };
@@ -10,7 +10,7 @@ use history_model::{Act, DemandKind, Ended, Entry, Reading, Reasons, StandingChi
 use job_table::Moments;
 use json_kinds::json_value;
 use serde_json::Value;
-use std::alloc::{AllocError, Global};
+use std::alloc::Global;
 
 /// Why a line is none of a status file.
 #[derive(Clone, Copy)]
@@ -23,12 +23,6 @@ pub enum StatusFault {
     Missing(&'static str),
     /// What stands under this key is none of what may stand there.
     Wrong(&'static str),
-}
-
-impl From<AllocError> for StatusFault {
-    fn from(_error: AllocError) -> StatusFault {
-        StatusFault::NoMemory
-    }
 }
 
 /// A line that was read as JSON. What it says is lent by it.
@@ -49,28 +43,21 @@ pub fn read_line(alloc: Global, line: &[u8]) -> Result<StatusLine, StatusFault> 
 impl StatusLine {
     /// Whether it is the launcher's, which stands first in a file. The others are those of jobs.
     pub fn is_launcher(&self) -> bool {
-        Fields::of(&self.value).has("launcher")
+        let fields = Fields::of(&self.value);
+        fields.has("launcher")
     }
 
     /// What a line says of the launcher. Missing and Wrong, with the key of the first fault.
     pub fn launcher(&self) -> Result<LauncherStatus<'_>, StatusFault> {
-        let mut fields = Fields::of(&self.value).inside("launcher");
-        let journal_reason = fields.text_if("journal_reason");
+        let mut line = Fields::of(&self.value);
+        let mut fields = line.inside("launcher");
         let launcher = LauncherStatus {
             version: fields.text("version"),
             pid: fields.short("pid"),
             began: fields.count("began"),
             header: fields.text("header"),
             at: reading_in(&mut fields, "at"),
-            journal: match fields.text("journal") {
-                "none" => JournalStatus::None,
-                "open" => JournalStatus::Open,
-                "closed" => JournalStatus::Closed(journal_reason.unwrap_or("")),
-                _ => {
-                    fields.refuse("journal");
-                    JournalStatus::None
-                }
-            },
+            journal: journal_in(&mut fields),
             store: fields.text_if("store"),
         };
         match fields.fault {
@@ -81,7 +68,8 @@ impl StatusLine {
 
     /// What a line says of a job. Missing and Wrong, with the key of the first fault.
     pub fn job(&self) -> Result<JobStatus<'_>, StatusFault> {
-        let mut fields = Fields::of(&self.value).inside("job");
+        let mut line = Fields::of(&self.value);
+        let mut fields = line.inside("job");
         let job = JobStatus {
             label: fields.text("label"),
             facts: facts_in(&mut fields),
@@ -97,27 +85,48 @@ impl StatusLine {
 
     /// The entries of the calendar of a job. Missing and Wrong, with the key; NoMemory.
     pub fn calendar(&self, alloc: Global) -> Result<Vec<Entry>, StatusFault> {
-        let mut fields = Fields::of(&self.value).inside("job");
+        let mut line = Fields::of(&self.value);
+        let mut fields = line.inside("job");
         let list = fields.list("calendar");
-        if let Some(fault) = fields.fault {
-            return Err(fault);
+        match (fields.fault, list) {
+            (None, Some(list)) => entries_in(alloc, list),
+            (Some(fault), _) => Err(fault),
+            (None, None) => Err(StatusFault::Missing("calendar")),
         }
-        let mut entries = Vec::new(alloc);
-        for item in list {
-            let answer = match entry_in(item) {
-                Some(entry) => entries.push(entry).is_ok(),
-                None => {
-                    drop(entries);
-                    return Err(StatusFault::Wrong("calendar"));
-                }
-            };
-            if !answer {
-                drop(entries);
-                return Err(StatusFault::NoMemory);
-            }
-        }
-        Ok(entries)
     }
+}
+
+fn entries_in(alloc: Global, list: &[Value]) -> Result<Vec<Entry>, StatusFault> {
+    let mut entries = Vec::new(alloc);
+    for item in list {
+        let is_added = match entry_in(item) {
+            Some(entry) => entries.push(entry).is_ok(),
+            None => {
+                drop(entries);
+                return Err(StatusFault::Wrong("calendar"));
+            }
+        };
+        if !is_added {
+            drop(entries);
+            return Err(StatusFault::NoMemory);
+        }
+    }
+    Ok(entries)
+}
+
+fn journal_in<'a>(fields: &mut Fields<'a>) -> JournalStatus<'a> {
+    let word = fields.text("journal");
+    let reason = fields.text_if("journal_reason");
+    if word == "open" {
+        return JournalStatus::Open;
+    }
+    if word == "closed" {
+        return JournalStatus::Closed(reason.unwrap_or(""));
+    }
+    if word != "none" {
+        fields.refuse("journal");
+    }
+    JournalStatus::None
 }
 
 // Five numbers, each or null.
@@ -136,7 +145,7 @@ fn entry_in(item: &Value) -> Option<Entry> {
 }
 
 fn part_in(part: &Value) -> Option<Option<u8>> {
-    if let Value::Null = part {
+    if part.is_null() {
         return Some(None);
     }
     let count = part.as_u64()?;
@@ -148,14 +157,14 @@ fn part_in(part: &Value) -> Option<Option<u8>> {
 }
 
 fn disabled_in(fields: &mut Fields<'_>) -> Option<DisabledBy> {
-    match fields.text_if("disabled")? {
-        "definition" => Some(DisabledBy::Definition),
-        "override" => Some(DisabledBy::Override),
-        _ => {
-            fields.refuse("disabled");
-            None
+    let word = fields.text_if("disabled")?;
+    for by in [DisabledBy::Definition, DisabledBy::Override] {
+        if word == disabled_name(by) {
+            return Some(by);
         }
     }
+    fields.refuse("disabled");
+    None
 }
 
 // The reading under the key; both 0 beside a fault.
@@ -270,7 +279,7 @@ fn facts_in<'a>(fields: &mut Fields<'a>) -> JobFacts<'a> {
 fn demand_in(fields: &mut Fields<'_>) -> Option<DemandKind> {
     let word = fields.text_if("demand")?;
     for kind in DEMANDS {
-        if demand_name(kind) == word {
+        if word == demand_name(kind) {
             return Some(kind);
         }
     }
@@ -312,19 +321,23 @@ fn awaited_in(reasons: &mut Fields<'_>) -> Option<Act> {
     let mut order = reasons.inside_if("awaited")?;
     let run = order.count_if("run").unwrap_or(0);
     let conn = order.count_if("conn");
-    let told = match order.text("order") {
-        "spawn" => Some(Act::Spawn { run, conn }),
-        "term" => Some(Act::Term { run }),
-        "kill" => Some(Act::Kill { run }),
-        "close" => Some(Act::Close {
-            conn: conn.unwrap_or(0),
-        }),
-        "gone" => Some(Act::Gone),
-        _ => {
-            order.refuse("order");
-            None
+    let word = order.text("order");
+    let closed = conn.unwrap_or(0);
+    let mut told = None;
+    for act in [
+        Act::Spawn { run, conn },
+        Act::Term { run },
+        Act::Kill { run },
+        Act::Close { conn: closed },
+        Act::Gone,
+    ] {
+        if word == order_name(act) {
+            told = Some(act);
         }
-    };
+    }
+    if told.is_none() {
+        order.refuse("order");
+    }
     reasons.with(order);
     told
 }

@@ -3,16 +3,16 @@
 ghost use Rattle.std.specs.Prelude.{◌≡◌, ◌++◌, ◌∷◌, []};
 ghost use Rattle.std.specs.List.{flat_map};
 ghost use Rattle.status_file.specs.Lines.{Adds, Puts};
-ghost use Rattle.status_file.specs.Tokens.{token_in, awaited_tokens, calendar_tokens, child_pid, child_tokens, count_token, demand_token, disabled_token, end_key, end_number, end_tokens, entry_tokens, front_tokens, held_tokens, job_tokens, keys_tokens, moment_tokens, moments_tokens, note_tokens, order_conn, order_run, reasons_tokens, refused_tokens, wants_tokens};
+ghost use Rattle.status_file.specs.Tokens.{token_in, awaited_tokens, calendar_tokens, child_pid, child_tokens, count_token, demand_token, disabled_token, end_front_tokens, end_key, end_number, end_tokens, entry_tokens, front_tokens, held_tokens, job_tokens, keys_tokens, moment_tokens, moments_tokens, note_tokens, order_conn, order_run, reasons_tokens, refused_tokens, run_end_tokens, start_front_tokens, start_tokens, wants_tokens};
 
 use crate::facts::JobFacts;
+use crate::line::Piece::{Close, CloseList, Count, Flag, Key, Null, Open, OpenList, Text};
 use crate::line::{Line, Piece, StatusText, count_piece, flag_piece, text_piece};
 use crate::names::{demand_name, disabled_name, order_name, state_name};
 use crate::status::{
     DisabledBy, JobKeys, JobNote, JobStatus, JournalStatus, LauncherStatus, RefusedStart, RunEnd,
     state_of,
 };
-use Piece::{Close, CloseList, Count, Flag, Key, Null, Open, OpenList, Text};
 use history_model::{Act, DemandKind, Ended, Entry, Reading, Reasons, StandingChild, Wants};
 use std::alloc::Global;
 
@@ -31,7 +31,7 @@ pub fn add_launcher(text: &mut StatusText, alloc: Global, launcher: &LauncherSta
         Key("version"),
         Text(launcher.version),
         Key("pid"),
-        Count(u64::from(launcher.pid)),
+        Count(launcher.pid as u64),
         Key("began"),
         Count(launcher.began),
         Key("header"),
@@ -69,13 +69,13 @@ fn child_pid(child: Option<StandingChild>) -> Option<u64>
     ensures { result ≡ child_pid child }
 {
     match child {
-        Some(child) => Some(u64::from(child.pid)),
+        Some(child) => Some(child.pid as u64),
         None => None,
     }
 }
 
 fn disabled_piece(by: Option<DisabledBy>) -> Piece<'static>
-    ensures { token_in result.entry ≡ disabled_token by }
+    ensures { token_in result ≡ disabled_token by }
 {
     match by {
         Some(by) => Text(disabled_name(by)),
@@ -114,8 +114,8 @@ fn end_parts(how: Ended) -> (&'static str, u64)
     ensures { (result.0.now, result.1) ≡ (end_key how, end_number how) }
 {
     match how {
-        Ended::Code(code) => ("code", u64::from(code)),
-        Ended::Signal(signal) => ("signal", u64::from(signal)),
+        Ended::Code(code) => ("code", code as u64),
+        Ended::Signal(signal) => ("signal", signal as u64),
     }
 }
 
@@ -141,42 +141,62 @@ fn put_end(line: &mut Line, end: Option<RunEnd>)
     ensures { Puts (end_tokens end) line.old line.new }
 {
     match end {
-        Some(end) => {
-            let (kind, number) = end_parts(end.how);
-            line.put(&[
-                Key("last_end"),
-                Open,
-                Key("run"),
-                Count(end.run),
-                Key(kind),
-                Count(number),
-            ]);
-            put_moment(line, "began", Some(end.began));
-            put_moment(line, "ended", Some(end.ended));
-            line.put(&[Close]);
-        }
+        Some(end) => put_run_end(line, end),
         None => line.put(&[Key("last_end"), Null]),
     }
+}
+
+fn put_run_end(line: &mut Line, end: RunEnd)
+    ensures { Puts (run_end_tokens end) line.old line.new }
+{
+    put_end_front(line, end);
+    put_moment(line, "began", Some(end.began));
+    put_moment(line, "ended", Some(end.ended));
+    line.put(&[Close]);
+}
+
+fn put_end_front(line: &mut Line, end: RunEnd)
+    ensures { Puts (end_front_tokens end) line.old line.new }
+{
+    let (kind, number) = end_parts(end.how);
+    line.put(&[
+        Key("last_end"),
+        Open,
+        Key("run"),
+        Count(end.run),
+        Key(kind),
+        Count(number),
+    ]);
 }
 
 fn put_refused(line: &mut Line, refused: Option<RefusedStart<'_>>)
     ensures { Puts (refused_tokens refused.entry) line.old line.new }
 {
     match refused {
-        Some(start) => {
-            line.put(&[
-                Key("refused"),
-                Open,
-                Key("run"),
-                Count(start.run),
-                Key("reason"),
-                text_piece(start.reason),
-            ]);
-            put_moment(line, "at", Some(start.at));
-            line.put(&[Close]);
-        }
+        Some(start) => put_start(line, start),
         None => line.put(&[Key("refused"), Null]),
     }
+}
+
+fn put_start(line: &mut Line, start: RefusedStart<'_>)
+    ensures { Puts (start_tokens start.entry) line.old line.new }
+{
+    put_start_front(line, start);
+    put_moment(line, "at", Some(start.at));
+    line.put(&[Close]);
+}
+
+fn put_start_front(line: &mut Line, start: RefusedStart<'_>)
+    ensures { Puts (start_front_tokens start.entry) line.old line.new }
+{
+    line.put(&[
+        Key("refused"),
+        Open,
+        Key("run"),
+        Count(start.run),
+        Key("reason"),
+        text_piece(start.reason),
+    ]);
 }
 
 fn put_note(line: &mut Line, note: &JobNote<'_>)
@@ -227,7 +247,7 @@ fn put_child(line: &mut Line, child: Option<StandingChild>)
             Key("run"),
             Count(child.run),
             Key("pid"),
-            Count(u64::from(child.pid)),
+            Count(child.pid as u64),
             Key("stopped"),
             Flag(child.is_stopped),
             Key("struck"),
@@ -297,7 +317,7 @@ fn put_wants(line: &mut Line, wants: Wants)
 }
 
 fn demand_piece(demand: Option<DemandKind>) -> Piece<'static>
-    ensures { token_in result.entry ≡ demand_token demand }
+    ensures { token_in result ≡ demand_token demand }
 {
     match demand {
         Some(demand) => Text(demand_name(demand)),
@@ -331,7 +351,7 @@ fn widened(count: Option<u32>) -> Option<u64>
     ensures { result ≡ count }
 {
     match count {
-        Some(count) => Some(u64::from(count)),
+        Some(count) => Some(count as u64),
         None => None,
     }
 }
@@ -355,9 +375,9 @@ fn put_keys(line: &mut Line, keys: JobKeys)
         Key("start_interval"),
         count_piece(widened(keys.start_interval)),
         Key("throttle_interval"),
-        Count(u64::from(keys.throttle_interval)),
+        Count(keys.throttle_interval as u64),
         Key("exit_time_out"),
-        Count(u64::from(keys.exit_time_out)),
+        Count(keys.exit_time_out as u64),
         Key("watch_paths"),
         Flag(keys.has_watch_paths),
         Key("queue_directories"),
@@ -369,10 +389,10 @@ fn put_keys(line: &mut Line, keys: JobKeys)
 }
 
 fn short_piece(count: Option<u8>) -> Piece<'static>
-    ensures { token_in result.entry ≡ count_token count }
+    ensures { token_in result ≡ count_token count }
 {
     match count {
-        Some(count) => Count(u64::from(count)),
+        Some(count) => Count(count as u64),
         None => Null,
     }
 }

@@ -4,7 +4,7 @@
     edge_scenes.py [--jobd WORDS] [--jobctl WORDS] [--jobscope WORDS] [--by PROGRAM] [--at-once N] [--times] [SCENE..]
 
 WORDS start a program; blanks part them. With --by each is PROGRAM, which started this script, through a link of the program's name.
-Without scenes all are played, those of the six other files too, N at a time. Each prints `ok NAME` or
+Without scenes all are played, those of the seven other files too, N at a time. Each prints `ok NAME` or
 `FAILED NAME: why`, and the last line counts; --times adds how long it took. The status is 1 if one failed. Each scene has a folder of its
 own below TMPDIR, and every process that it started is ended.
 
@@ -287,7 +287,7 @@ class Stage:
             command = ["/bin/sh", "-c", f'{shell}; exec "$@"', "sh", *command]
         if ignored:
             command = [sys.executable, "-I", "-S", "-c", IGNORING, json.dumps(command), ignored]
-        around = {key: value for key, value in os.environ.items() if key not in ("JOURNAL_STREAM", "JOBD_LOG")}
+        around = {key: value for key, value in os.environ.items() if key not in ("JOURNAL_STREAM", "JOBD_LOG", "JOBD_STATUS_FILE")}
         with open(said, "wb") as errors:
             process = subprocess.Popen(
                 command, cwd=self.folder, stdin=subprocess.DEVNULL, stdout=subprocess.PIPE, stderr=errors, env={**around, **(env or {})}
@@ -1272,9 +1272,10 @@ if __name__ == "__main__":
     import user_scenes
     import word_scenes
     import scope_scenes
+    import status_scenes
     edge_scenes.SCENES += [
         scene
-        for file in (hung_scenes, job_scenes, client_scenes, user_scenes, word_scenes, scope_scenes)
+        for file in (hung_scenes, job_scenes, client_scenes, user_scenes, word_scenes, scope_scenes, status_scenes)
         for scene in file.SCENES
     ]
     sys.exit(edge_scenes.main())

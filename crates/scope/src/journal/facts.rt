@@ -1,29 +1,11 @@
 //! What the table of a journal says of a job.
 
 ghost use Rattle.std.specs.Prelude.{ℕ, List, Some};
-ghost use Rattle.history_model.specs.Machine.{State, past_of};
-ghost use Rattle.loaded_jobs.specs.StandsFor.{KeepsState};
-ghost use Rattle.scope.specs.Facts.{HasFacts, HasFactsAfter};
+ghost use Rattle.scope.specs.Facts.{HasFactsAfter};
 ghost use Rattle.scope.specs.Journals.{KeepsLines};
 
 use crate::journal::reader::OpenJournal;
-use history_model::{DemandKind, Reasons};
-use job_table::{JobTable, Moments};
-
-/// What the table says of a job that is loaded. Moments are milliseconds of `up`.
-#[derive(Clone, Copy)]
-pub struct JobFacts<'a> {
-    /// What keeps it from a start, and what wants it.
-    pub reasons: Reasons,
-    /// From when on TERM and KILL are due for its run, and when its interval is over.
-    pub moments: Moments,
-    /// From when on a reading starts it, if no entry of its calendar fires.
-    pub spawns_from: Option<u64>,
-    /// What made the pending demand.
-    pub demand: Option<DemandKind>,
-    /// Which path holds it wanted.
-    pub path: Option<&'a str>,
-}
+use status_file::{JobFacts, facts_of};
 
 impl OpenJournal {
     /// What is said of the job with this label; None if it is not loaded. After any lines these are the facts of the machine that a replay of the
@@ -32,20 +14,6 @@ impl OpenJournal {
         ensures { (lines : List (List ℕ)) → KeepsLines lines (Some self.now.table) →
             HasFactsAfter lines label.now result }
     {
-        facts_in(&self.table, label)
+        facts_of(&self.table, label)
     }
-}
-
-fn facts_in<'a>(table: &'a JobTable, label: &str) -> Option<JobFacts<'a>>
-    ensures { (s : State) → KeepsState table.now s → HasFacts (past_of s label.now) result }
-{
-    let reasons = table.reasons(label)?;
-    let moments = table.moments(label)?;
-    Some(JobFacts {
-        reasons,
-        moments,
-        spawns_from: table.spawns_from(label),
-        demand: table.latest_demand(label),
-        path: table.path_that_holds(label),
-    })
 }

@@ -1,10 +1,10 @@
 //! What is told of one job, and the sentences that tell it.
 
-use crate::journal::facts::JobFacts;
 use crate::journal::job::{JobRequest, Record};
 use history_model::Reading;
 use job_defs::{Def, PathState};
 use run_times::Filling;
+use status_file::JobFacts;
 
 /// A sentence: its form, and what stands in the holes. An empty form says nothing.
 pub(crate) type Sentence<'a> = (&'static str, [Filling<'a>; 4]);

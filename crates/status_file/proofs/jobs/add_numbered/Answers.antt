@@ -1,5 +1,5 @@
-use Rattle.status_file.proofs.JobsLemmas.{no_line, one_line}
+use Rattle.status_file.proofs.JobsLemmas.{no_line}
 use Rattle.status_file.proofs.jobs.add_numbered.Goals as goal
 
-pub returns : goal.returns
-returns c = one_line _ (record { job = _; calendar = _ }) _ _ c.add_job.ensures (λ s keeps. c.facts_of.ensures s keeps)
+pub returns-in-None : goal.returns-in-None
+returns-in-None c = no_line c.args.table.now c.args.text.now

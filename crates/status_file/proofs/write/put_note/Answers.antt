@@ -1,6 +1,26 @@
+use Rattle.std.proofs.Common.{◌++◌, codes, Some}
+use Rattle.status_file.specs.Tokens.{end_tokens, moment_tokens, refused_tokens}
 use Rattle.status_file.proofs.LinesLemmas.{followed}
 use Rattle.status_file.proofs.write.put_note.Goals as goal
 
 pub returns : goal.returns
 returns c =
-    followed _ _ _ _ _ c.put_moment.ensures (followed _ _ _ _ _ c.put_moment-2.ensures (followed _ _ _ _ _ c.put_moment-3.ensures (followed _ _ _ _ _ c.put_moment-4.ensures (followed _ _ _ _ _ c.put_end.ensures (c.put_refused.ensures)))))
+    let note = c.args.note.now in
+    let a = c.args.line.now in
+    let b = c.put_moment.new.line in
+    let d = c.put_moment-2.new.line in
+    let e = c.put_moment-3.new.line in
+    let f = c.put_moment-4.new.line in
+    let g = c.put_end.new.line in
+    let h = c.put_refused.new.line in
+    let since = moment_tokens (codes "since") (Some note.since) in
+    let started = moment_tokens (codes "started") note.started in
+    let term = moment_tokens (codes "term") note.term in
+    let kill = moment_tokens (codes "kill") note.kill in
+    let end = end_tokens note.last_end in
+    let refused = refused_tokens note.refused in
+    followed since (started ++ (term ++ (kill ++ (end ++ refused)))) a b h c.put_moment.ensures
+    (followed started (term ++ (kill ++ (end ++ refused))) b d h c.put_moment-2.ensures
+    (followed term (kill ++ (end ++ refused)) d e h c.put_moment-3.ensures
+    (followed kill (end ++ refused) e f h c.put_moment-4.ensures
+    (followed end refused f g h c.put_end.ensures c.put_refused.ensures))))

@@ -1,4 +1,4 @@
--- A load that was accepted is noted.
+-- A load that was accepted is noted, and the edge hears of the reply.
 use Rattle.std.proofs.Common.{rules}
 use Rattle.jobd.proofs.round_launcher.RoundLauncherAnswers.answer.Goals as goal
 
@@ -6,5 +6,6 @@ pub returns : goal.returns
 returns g c = record {
   mid = c.give-reply.new.self;
   gives = c.give-reply.ensures.gives;
+  edge = c.note_reply.new.self;
   noted = search rules;
 }

@@ -1,0 +1,7 @@
+-- What stands before the lines of jobs is the launcher's.
+use Rattle.jobd.proofs.keeper.Keeper.write.Goals as goal
+
+pub returns : goal.returns
+returns c = λ whole.
+    let (lines, is, all) = c.add_jobs.ensures.added (c.is_whole.ensures whole) in
+    (c.add_launcher.new.text.bytes.items, lines, is, all)

@@ -1,0 +1,105 @@
+//! What is kept for the file on how the launcher stands, and the text of that file.
+
+ghost use Rattle.std.specs.Prelude.{◌≡◌, true};
+ghost use Rattle.jobd.specs.Standings.{IsStatusText};
+
+use crate::own_process::OwnProcess;
+use history_model::{JobNo, Reading, Refusal, Text};
+use job_table::JobTable;
+use status_file::{
+    JournalStatus, LauncherStatus, RunNotes, StatusText, VERSION, add_jobs, add_launcher,
+};
+use std::alloc::Global;
+
+/// Why a journal is closed, as far as it is known here.
+const CLOSED: &str = "a write was refused, or a line found no memory";
+
+/// What is told of a store that refused something.
+const REFUSED: &str = "a setting was not stored";
+
+/// What is kept beside the table for the file: what was heard of runs, and what is told of the launcher.
+#[derive(Drop)]
+pub struct Keeper {
+    alloc: Global,
+    own: OwnProcess,
+    header: Text,
+    has_journal: bool,
+    is_closed: bool,
+    has_refused: bool,
+    pub(crate) notes: RunNotes,
+    order: Vec<JobNo>,
+    pub(crate) text: StatusText,
+}
+
+impl Keeper {
+    /// Nothing was heard yet.
+    pub(crate) fn new(
+        alloc: Global,
+        own: OwnProcess,
+        header: Text,
+        has_journal: bool,
+        at: Reading,
+    ) -> Keeper {
+        Keeper {
+            alloc,
+            own,
+            header,
+            has_journal,
+            is_closed: false,
+            has_refused: false,
+            notes: RunNotes::new(alloc, at),
+            order: Vec::new(alloc),
+            text: StatusText::new(alloc),
+        }
+    }
+
+    /// The journal is closed.
+    pub(crate) fn close(&mut self) {
+        self.is_closed = true;
+    }
+
+    /// A client was answered: with a refusal, or well.
+    pub(crate) fn replied(&mut self, refusal: Option<Refusal>) {
+        self.has_refused = self.has_refused || refusal == Some(Refusal::StoreRefused);
+    }
+
+    fn journal(&self) -> JournalStatus<'static> {
+        if !self.has_journal {
+            JournalStatus::None
+        } else if self.is_closed {
+            JournalStatus::Closed(CLOSED)
+        } else {
+            JournalStatus::Open
+        }
+    }
+
+    /// Writes the text of the file anew. False: it found no memory.
+    pub(crate) fn write(&mut self, table: &JobTable, at: Reading) -> bool
+        ensures { result ≡ true → IsStatusText table.now self.new.text.bytes.items }
+    {
+        self.notes.see_all(table);
+        self.text.clear();
+        let launcher = LauncherStatus {
+            version: VERSION,
+            pid: self.own.pid,
+            began: self.own.began,
+            header: self.header.as_str(),
+            at,
+            journal: self.journal(),
+            store: if self.has_refused {
+                Some(REFUSED)
+            } else {
+                None
+            },
+        };
+        add_launcher(&mut self.text, self.alloc, &launcher);
+        add_jobs(
+            &mut self.text,
+            self.alloc,
+            table,
+            &self.notes,
+            &mut self.order,
+        );
+        self.text.is_whole()
+    }
+}

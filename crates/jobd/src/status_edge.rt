@@ -1,0 +1,260 @@
+//! An edge over another one, by which the file on how the launcher stands is kept: each call is that of the other edge, and what becomes of runs is
+//! noted.
+
+ghost use Rattle.std.specs.Prelude.{◌≡◌, ◌≤◌, ℕ, List, Option, Some};
+
+use crate::keeper::Keeper;
+use crate::round_edge::{RoundEdge, SleepEdge};
+use crate::standing_file::StandingFile;
+use child_edge::{
+    ChildEdge, Client, ClockEdge, Edge, EdgeFault, Notice, NoticeKind, PathEdge, SocketEdge, System,
+};
+use history_model::definition::Def;
+use history_model::{Ended, JobNo, Obs, Reading, Refusal};
+use live_loop::{Caller, Origin};
+use mio::{Registry, Token};
+use std::mem;
+
+/// The edge, and what keeps the file, if one is kept.
+#[derive(Drop)]
+pub struct StatusEdge<E: RoundEdge, R: System> {
+    edge: E,
+    file: Option<StandingFile<R>>,
+    // It is out while the text is written.
+    keeper: Option<Keeper>,
+    // What the edge told of sleeps first, and last.
+    before: Option<u64>,
+    slept: u64,
+}
+
+impl<E: RoundEdge, R: System> StatusEdge<E, R> {
+    /// The edge, with the file and what keeps it; or with none.
+    pub fn new(edge: E, kept: Option<(StandingFile<R>, Keeper)>) -> StatusEdge<E, R> {
+        let (file, keeper) = match kept {
+            Some((file, keeper)) => (Some(file), Some(keeper)),
+            None => (None, None),
+        };
+        StatusEdge {
+            edge,
+            file,
+            keeper,
+            before: None,
+            slept: 0,
+        }
+    }
+}
+
+// From now on this is the reading of what is noted: that of a clock that stands still in sleeps, with the sleep since the first.
+fn note_reading(kept: &mut Option<Keeper>, awake: Reading, slept: u64) {
+    if let Some(keeper) = kept {
+        keeper.notes.at = Reading {
+            up: awake.up.saturating_add(slept),
+            wall: awake.wall,
+        };
+    }
+}
+
+fn note_end(
+    kept: &mut Option<Keeper>,
+    job: JobNo,
+    run: u64,
+    answer: &Result<Option<Ended>, EdgeFault>,
+) {
+    if let Ok(Some(how)) = answer {
+        if let Some(keeper) = kept {
+            keeper.notes.ended(job, run, *how);
+        }
+    }
+}
+
+impl<E: RoundEdge, R: System> Edge for StatusEdge<E, R> {
+    ghost told = { λ e. E.told e.edge };
+
+    ghost failures = { λ e. E.failures e.edge };
+}
+
+impl<E: RoundEdge, R: System> ChildEdge for StatusEdge<E, R> {
+    fn start(
+        &mut self,
+        job: JobNo,
+        run: u64,
+        def: &Def,
+        conn: Option<u64>,
+    ) -> Result<u32, EdgeFault> {
+        let answer = self.edge.start(job, run, def, conn);
+        if let Some(keeper) = &mut self.keeper {
+            keeper.notes.started(job, run, def.label(), answer.is_err());
+        }
+        answer
+    }
+
+    fn term(&mut self, job: JobNo, run: u64) -> Result<(), EdgeFault> {
+        if let Some(keeper) = &mut self.keeper {
+            keeper.notes.termed(job);
+        }
+        self.edge.term(job, run)
+    }
+
+    fn kill(&mut self, job: JobNo, run: u64) -> Result<(), EdgeFault> {
+        if let Some(keeper) = &mut self.keeper {
+            keeper.notes.killed(job);
+        }
+        self.edge.kill(job, run)
+    }
+
+    fn poll(&mut self, job: JobNo, run: u64) -> Result<Option<Ended>, EdgeFault> {
+        let answer = self.edge.poll(job, run);
+        note_end(&mut self.keeper, job, run, &answer);
+        answer
+    }
+}
+
+impl<E: RoundEdge, R: System> SocketEdge for StatusEdge<E, R> {
+    fn bind(&mut self, job: JobNo, def: &Def) -> Result<(), EdgeFault> {
+        self.edge.bind(job, def)
+    }
+
+    fn close(&mut self, job: JobNo, conn: u64) {
+        self.edge.close(job, conn);
+    }
+
+    fn release(&mut self, job: JobNo) {
+        if let Some(keeper) = &mut self.keeper {
+            keeper.notes.gone(job);
+        }
+        self.edge.release(job);
+    }
+}
+
+impl<E: RoundEdge, R: System> PathEdge for StatusEdge<E, R> {
+    ghost Looks = { λ path answer old new. E.Looks path answer old.edge new.edge };
+
+    fn begin_looks(&mut self) {
+        self.edge.begin_looks();
+    }
+
+    fn ask(&mut self, path: &str) -> bool {
+        self.edge.ask(path)
+    }
+
+    fn is_seen(&mut self, path: &str) -> bool {
+        self.edge.is_seen(path)
+    }
+
+    fn look(&mut self, path: &str) -> Result<Obs, EdgeFault> {
+        self.edge.look(path)
+    }
+}
+
+impl<E: RoundEdge, R: System> ClockEdge for StatusEdge<E, R> {
+    fn read(&mut self) -> Result<Reading, EdgeFault> {
+        let answer = self.edge.read();
+        if let Ok(awake) = &answer {
+            let slept = self.slept.saturating_sub(self.before.unwrap_or(self.slept));
+            note_reading(&mut self.keeper, *awake, slept);
+        }
+        answer
+    }
+}
+
+impl<E: RoundEdge, R: System> SleepEdge for StatusEdge<E, R> {
+    fn slept(&mut self) -> u64 {
+        let slept = self.edge.slept();
+        self.before = self.before.or(Some(slept));
+        self.slept = slept;
+        slept
+    }
+}
+
+impl<E: RoundEdge, R: System> RoundEdge for StatusEdge<E, R> {
+    ghost Finds = { λ first found old new. E.Finds first found old.edge new.edge };
+
+    ghost rises = { λ first job run old new finds. E.rises first job run old.edge new.edge finds };
+
+    // What the system makes of the text is tested.
+    ghost Hands = { λ text old new. Unit {0} };
+
+    fn over_from(&mut self, job: JobNo) -> Option<(JobNo, u64)> {
+        self.edge.over_from(job)
+    }
+
+    fn register(&mut self, registry: &Registry, token: Token) -> bool {
+        self.edge.register(registry, token)
+    }
+
+    fn listener_from(&self, job: JobNo) -> Option<Origin> {
+        self.edge.listener_from(job)
+    }
+
+    fn listens_at(&self, origin: Origin) -> bool {
+        self.edge.listens_at(origin)
+    }
+
+    fn accept(&mut self, job: JobNo) -> Option<Client> {
+        self.edge.accept(job)
+    }
+
+    fn take(&mut self, conn: u64, caller: Caller) -> bool {
+        self.edge.take(conn, caller)
+    }
+
+    fn forward(&mut self) -> bool {
+        self.edge.forward()
+    }
+
+    fn let_all_go(&mut self) {
+        self.edge.let_all_go();
+        if let Some(file) = &self.file {
+            file.let_go();
+        }
+    }
+
+    fn next_notice(&mut self) -> Option<Notice> {
+        if let Some(file) = &mut self.file {
+            if let Some(notice) = file.next_notice() {
+                return Some(notice);
+            }
+        }
+        let notice = self.edge.next_notice()?;
+        if let Some(keeper) = &mut self.keeper {
+            if let NoticeKind::Refusal = notice.kind {
+                keeper.notes.told(notice.text.as_str());
+            }
+        }
+        Some(notice)
+    }
+
+    fn note_reply(&mut self, refusal: Option<Refusal>) {
+        if let Some(keeper) = &mut self.keeper {
+            keeper.replied(refusal);
+        }
+    }
+
+    fn note_closing(&mut self) {
+        if let Some(keeper) = &mut self.keeper {
+            keeper.close();
+        }
+    }
+
+    fn lend_keeper(&mut self, at: Reading, has_changed: bool) -> Option<Keeper> {
+        let file = self.file.as_mut()?;
+        if file.is_due(at, has_changed) {
+            self.keeper.take()
+        } else {
+            None
+        }
+    }
+
+    fn hand(&mut self, keeper: Keeper, is_whole: bool, at: Reading) {
+        if let Some(file) = &mut self.file {
+            if is_whole {
+                file.put(keeper.text.as_slice(), at);
+            } else {
+                file.put_off(at);
+            }
+        }
+        let mut keeper = keeper;
+        keeper.text.clear();
+        drop(mem::replace(&mut self.keeper, Some(keeper)));
+    }
+}

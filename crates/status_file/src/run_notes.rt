@@ -1,0 +1,239 @@
+//! What was heard of the runs of each loaded job: a small record beside the table, which is forgotten once its job is gone.
+
+use crate::jobs::{NUMBERS, job_of};
+use crate::status::{JobNote, RefusedStart, RunEnd};
+use history_model::{Ended, JobNo, Reading, Text};
+use job_table::JobTable;
+use std::alloc::Global;
+use std::mem;
+
+/// What is counted of the runs of a job.
+#[derive(Clone, Copy)]
+struct Counted {
+    since: Reading,
+    run: u64,
+    starts: u64,
+    failures: u64,
+    started: Option<Reading>,
+    term: Option<Reading>,
+    kill: Option<Reading>,
+    last_end: Option<RunEnd>,
+    // The run of the last start that was refused, and when that was.
+    refused: Option<(u64, Reading)>,
+}
+
+impl Counted {
+    fn new(at: Reading) -> Counted {
+        Counted {
+            since: at,
+            run: 0,
+            starts: 0,
+            failures: 0,
+            started: None,
+            term: None,
+            kill: None,
+            last_end: None,
+            refused: None,
+        }
+    }
+}
+
+/// What was heard of a job since its load.
+#[derive(Drop)]
+struct RunNote {
+    counted: Counted,
+    // Of a job whose start was refused: its label, and what was told of it last.
+    label: Option<Text>,
+    reason: Option<Text>,
+}
+
+impl RunNote {
+    fn new(at: Reading) -> RunNote {
+        RunNote {
+            counted: Counted::new(at),
+            label: None,
+            reason: None,
+        }
+    }
+
+    // Takes the reason, if the line tells the refused start that is the last.
+    fn take_reason(&mut self, alloc: Global, line: &str) {
+        let reason = match (&self.label, self.counted.refused) {
+            (Some(label), Some((run, _))) => reason_in(line, label.as_str(), run),
+            _ => None,
+        };
+        if let Some(reason) = reason {
+            let kept = Text::copy_of(alloc, reason).ok();
+            drop(mem::replace(&mut self.reason, kept));
+        }
+    }
+}
+
+fn lent(text: &Option<Text>) -> Option<&str> {
+    match text {
+        Some(text) => Some(text.as_str()),
+        None => None,
+    }
+}
+
+// The reason in the line that tells a refused start: the label, the run, and what could not be done.
+fn reason_in<'a>(line: &'a str, label: &str, run: u64) -> Option<&'a str> {
+    let behind = line.strip_prefix(label)?.strip_prefix(": run ")?;
+    let (number, reason) = behind.split_once(": ")?;
+    if number.parse::<u64>().ok() == Some(run) && reason.starts_with("cannot ") {
+        Some(reason)
+    } else {
+        None
+    }
+}
+
+/// What was heard of all loaded jobs, by their numbers. Of a job that is gone nothing is kept. Want of memory leaves a job out.
+#[derive(Drop)]
+pub struct RunNotes {
+    alloc: Global,
+    jobs: Vec<Option<RunNote>>,
+    /// The reading of now.
+    pub at: Reading,
+}
+
+impl RunNotes {
+    pub fn new(alloc: Global, at: Reading) -> RunNotes {
+        RunNotes {
+            alloc,
+            jobs: Vec::new(alloc),
+            at,
+        }
+    }
+
+    // The place of a job is made, if there is memory for it.
+    fn make_place(&mut self, job: JobNo) {
+        let place = job as usize;
+        if job >= NUMBERS {
+            return;
+        }
+        for _ in self.jobs.len()..place + 1 {
+            if self.jobs.push(None).is_err() {
+                return;
+            }
+        }
+        let at = self.at;
+        if let Some(slot) = self.jobs.get_mut(place) {
+            if slot.is_none() {
+                *slot = Some(RunNote::new(at));
+            }
+        }
+    }
+
+    fn note(&mut self, job: JobNo) -> Option<&mut RunNote> {
+        self.make_place(job);
+        match self.jobs.get_mut(job as usize) {
+            Some(slot) => slot.as_mut(),
+            None => None,
+        }
+    }
+
+    /// Each job of the table has its place. One that had none was loaded since this was called last.
+    pub fn see_all(&mut self, table: &JobTable) {
+        for job in 0..NUMBERS {
+            if job_of(table, job).is_some() {
+                self.make_place(job);
+            }
+        }
+    }
+
+    /// A start was ordered; whether it was refused.
+    pub fn started(&mut self, job: JobNo, run: u64, label: &str, is_refused: bool) {
+        let (alloc, at) = (self.alloc, self.at);
+        let Some(note) = self.note(job) else {
+            return;
+        };
+        let counted = &mut note.counted;
+        counted.since = at;
+        counted.run = run;
+        counted.starts = counted.starts.saturating_add(1);
+        counted.started = Some(at);
+        counted.term = None;
+        counted.kill = None;
+        if is_refused {
+            counted.failures = counted.failures.saturating_add(1);
+            counted.refused = Some((run, at));
+            if note.label.is_none() {
+                note.label = Text::copy_of(alloc, label).ok();
+            }
+        }
+    }
+
+    /// TERM was ordered.
+    pub fn termed(&mut self, job: JobNo) {
+        let at = self.at;
+        if let Some(note) = self.note(job) {
+            note.counted.term = note.counted.term.or(Some(at));
+        }
+    }
+
+    /// KILL was ordered.
+    pub fn killed(&mut self, job: JobNo) {
+        let at = self.at;
+        if let Some(note) = self.note(job) {
+            note.counted.kill = Some(at);
+        }
+    }
+
+    /// A run ended.
+    pub fn ended(&mut self, job: JobNo, run: u64, how: Ended) {
+        let at = self.at;
+        let Some(note) = self.note(job) else {
+            return;
+        };
+        let counted = &mut note.counted;
+        let failed = if how == Ended::Code(0) { 0 } else { 1 };
+        counted.since = at;
+        counted.failures = counted.failures.saturating_add(failed);
+        counted.last_end = Some(RunEnd {
+            run,
+            how,
+            began: counted.started.unwrap_or(at),
+            ended: at,
+        });
+    }
+
+    /// The job is gone.
+    pub fn gone(&mut self, job: JobNo) {
+        if let Some(slot) = self.jobs.get_mut(job as usize) {
+            drop(slot.take());
+        }
+    }
+
+    /// A refusal is told in this line: it may be the reason of a refused start.
+    pub fn told(&mut self, line: &str) {
+        let alloc = self.alloc;
+        for slot in self.jobs.iter_mut() {
+            if let Some(note) = slot {
+                note.take_reason(alloc, line);
+            }
+        }
+    }
+
+    /// What was heard of this job since its load.
+    pub(crate) fn of(&self, job: JobNo) -> JobNote<'_> {
+        let (counted, reason) = match self.jobs.get(job as usize) {
+            Some(Some(note)) => (note.counted, lent(&note.reason)),
+            _ => (Counted::new(self.at), None),
+        };
+        let refused = match counted.refused {
+            Some((run, at)) => Some(RefusedStart { run, reason, at }),
+            None => None,
+        };
+        JobNote {
+            since: counted.since,
+            run: counted.run,
+            starts: counted.starts,
+            failures: counted.failures,
+            started: counted.started,
+            term: counted.term,
+            kill: counted.kill,
+            last_end: counted.last_end,
+            refused,
+        }
+    }
+}

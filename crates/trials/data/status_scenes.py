@@ -1,0 +1,190 @@
+"""Scenes of the launcher's own file on how it stands (`JOBD_STATUS_FILE`): what it holds, that it is always whole, and where it is refused.
+
+`edge_scenes.py` plays them beside its own, and has what they share.
+"""
+import json
+import os
+import stat
+import time
+
+from edge_scenes import BOUND, check, end_process, make, shell_job, text_at, wait_for
+
+MISSING = "cannot start /nonexistent/prog: No such file or directory (os error 2)"
+
+
+def serve(stage, path=None, **how):
+    """A launcher with the variable, and the path of its file."""
+    os.makedirs(stage.at("standing"), mode=0o700, exist_ok=True)
+    path = path or stage.at("standing/status.jsonl")
+    return stage.serve(env={"JOBD_STATUS_FILE": path}, **how), path
+
+
+def told(path):
+    """The launcher's part of the file, and those of the jobs by their labels. Every line has to be whole."""
+    text = text_at(path)
+    if not text:
+        return None
+    check(text.endswith("\n"), f"the file ends in the midst of a line: {text[-80:]!r}")
+    first, *rest = [json.loads(line) for line in text.splitlines()]
+    jobs = [line["job"] for line in rest]
+    labels = [job["label"] for job in jobs]
+    check(labels == sorted(labels, key=str.encode), f"the labels are not in order: {labels}")
+    return first["launcher"], dict(zip(labels, jobs))
+
+
+def job_where(path, label, fact):
+    """The job's part of the file, once the fact holds of it."""
+    def found():
+        both = told(path)
+        job = both and both[1].get(label)
+        return job if job and fact(job) else None
+    return wait_for(found, lambda: f"of {label} the file does not come to tell what it should: {text_at(path)!r}")
+
+
+def began(pid):
+    """Field 22 of its stat."""
+    return int(text_at(f"/proc/{pid}/stat").rpartition(")")[2].split()[19])
+
+
+def what_a_status_file_holds(stage):
+    """A launcher, a job that runs, one that the system refused to start, one that ended, a disabled one, one of the calendar, one that waits for a path,
+    and one that is gone."""
+    launcher, path = serve(stage, journal="journal")
+    first, jobs = wait_for(lambda: told(path), "no file is written at the start")
+    check(not jobs, f"jobs before any was loaded: {jobs}")
+    check(first["pid"] == launcher.pid and first["began"] == began(launcher.pid), f"another process: {first}")
+    check(first["journal"] == "open" and first["journal_reason"] is None and first["store"] is None, f"its journal and store: {first}")
+    header = json.loads(first["header"])
+    check(header["overrides"] == {} and header["zone"] == "UTC0", f"its header: {header}")
+    check(abs(first["at"]["wall"] - time.time()) < BOUND, f"its moment: {first['at']}")
+    check(stat.S_IMODE(os.stat(path).st_mode) == 0o600, f"its mode: {oct(os.stat(path).st_mode)}")
+    beside = set(os.listdir(stage.at("standing")))
+    check(beside <= {"status.jsonl", "status.jsonl.lock", "status.jsonl.new"}, f"beside it stand {beside}")
+
+    launcher.load(shell_job("runs", "exec sleep 600", KeepAlive=True))
+    job = job_where(path, "runs", lambda job: job["state"] == "running")
+    check(job["pid"] == job["reasons"]["child"]["pid"] and os.path.exists(f"/proc/{job['pid']}"), f"its process: {job}")
+    check(job["run"] == 1 and job["starts"] == 1 and job["failures"] == 0 and job["last_end"] is None, f"its runs: {job}")
+    check(job["reasons"]["wants"]["keep_alive"] is True and job["disabled"] is None, f"what wants it: {job}")
+    check(job["since"] == job["started"] and job["started"]["wall"] >= first["at"]["wall"], f"since when: {job}")
+
+    launcher.load({"Label": "refused", "ProgramArguments": ["/nonexistent/prog"], "RunAtLoad": True, "ThrottleInterval": 1})
+    job = job_where(path, "refused", lambda job: job["refused"] and job["refused"]["run"] >= 2 and job["refused"]["reason"])
+    check(job["refused"]["reason"] == MISSING, f"the system's reason: {job['refused']}")
+    check(job["failures"] == job["starts"] == job["run"] == job["refused"]["run"], f"its counts: {job}")
+    check(job["demand"] == "load" and job["reasons"]["wants"]["demand"] is True and job["state"] == "idle", f"what wants it: {job}")
+    check(job["reasons"]["throttled_until"] == job["moments"]["spawn"] is not None, f"its throttle: {job}")
+
+    launcher.load(shell_job("ended", "exit 3", RunAtLoad=True))
+    job = job_where(path, "ended", lambda job: job["last_end"])
+    end = job["last_end"]
+    check(end["run"] == 1 and end["code"] == 3 and "signal" not in end, f"its end: {end}")
+    check(end["began"]["up"] <= end["ended"]["up"] and job["since"] == end["ended"], f"its moments: {job}")
+    check(job["failures"] == 1 and job["pid"] is None and job["state"] == "idle", f"its counts: {job}")
+    launcher.ask({"req": "kickstart", "job": "ended", "k": False})
+    job_where(path, "ended", lambda job: job["starts"] == 2 and job["failures"] == 2)
+
+    launcher.ask({"req": "disable", "job": "runs"})
+    job_where(path, "runs", lambda job: job["disabled"] == "override" and job["state"] == "running")
+    reply = launcher.ask({"req": "load", "def": json.dumps(shell_job("forced", "exec sleep 600", Disabled=True)), "F": True})
+    check(reply["code"] == 0, f"a forced load got {reply}")
+    job_where(path, "forced", lambda job: job["disabled"] == "definition" and job["state"] == "idle" and not job["reasons"]["wants"]["demand"])
+
+    launcher.load(shell_job("calendar", "exit 0", StartCalendarInterval=[{"Hour": 3, "Minute": 30, "Weekday": 0}, {"Day": 1}]))
+    job = job_where(path, "calendar", lambda job: True)
+    check(job["calendar"] == [[30, 3, None, 0, None], [None, None, 1, None, None]], f"its entries: {job['calendar']}")
+
+    flag = stage.at("flag")
+    launcher.load(shell_job("kept", "exec sleep 600", KeepAlive={"PathState": {flag: True}}))
+    job = job_where(path, "kept", lambda job: True)
+    check(job["path"] is None and job["keys"]["path_state"] and job["keys"]["path_exists"] is None, f"its path: {job}")
+    make(flag)
+    job = job_where(path, "kept", lambda job: job["path"])
+    check(job["path"] == flag and job["keys"]["path_exists"] is True and job["reasons"]["wants"]["path_state"], f"its path: {job}")
+
+    launcher.ask({"req": "unload", "job": "ended"})
+    wait_for(lambda: "ended" not in told(path)[1], "a job that is gone still stands there")
+    launcher.load(shell_job("ended", "exit 0"))
+    job = job_where(path, "ended", lambda job: True)
+    check(job["starts"] == 0 and job["last_end"] is None, f"what was heard of another load: {job}")
+
+    launcher.ask({"req": "stop", "job": "runs"})
+    job = job_where(path, "runs", lambda job: job["last_end"])
+    check(job["last_end"].get("signal") == 15, f"its end: {job['last_end']}")
+    launcher.shut_down()
+    check(sorted(os.listdir(stage.at("standing"))) == ["status.jsonl"], f"after the end there is {os.listdir(stage.at('standing'))}")
+
+
+def a_status_file_rests(stage):
+    """While nothing changes nothing is written, and however much changes, at most once a second."""
+    launcher, path = serve(stage)
+    launcher.load(shell_job("runs", "exec sleep 600", RunAtLoad=True))
+    job_where(path, "runs", lambda job: job["state"] == "running")
+    time.sleep(1.5)
+    before = os.stat(path).st_ino, text_at(path)
+    time.sleep(2.5)
+    check((os.stat(path).st_ino, text_at(path)) == before, "it was written although nothing changed")
+    seen, end = set(), time.monotonic() + 2.2
+    while time.monotonic() < end:
+        launcher.ask({"req": "start", "job": "runs"})
+        seen.add(json.dumps(told(path)[0]["at"]))
+    check(2 <= len(seen) <= 5, f"in 2.2 s of questions it was written {len(seen)} times")
+    launcher.shut_down()
+
+
+def a_killed_launcher_leaves_a_whole_file(stage):
+    """A launcher is killed while it writes on and on: what is there is whole, and the next launcher takes over."""
+    for _ in range(3):
+        launcher, path = serve(stage)
+        for at in range(20):
+            launcher.load(shell_job(f"job{at}", "exec sleep 600", RunAtLoad=True))
+        wait_for(lambda: len(told(path)[1]) == 20, "not all jobs are told")
+        children = [job["pid"] for job in told(path)[1].values() if job["pid"]]
+        end_process(launcher.pid)
+        launcher.ends()
+        first, jobs = told(path)
+        check(first["pid"] == launcher.pid and len(jobs) == 20, f"what a killed launcher left: {first}, {len(jobs)} jobs")
+        for pid in children:
+            end_process(pid)
+    launcher, path = serve(stage)
+    wait_for(lambda: told(path)[0]["pid"] == launcher.pid, "the next launcher does not write it")
+    launcher.shut_down()
+
+
+def status_files_that_are_refused(stage):
+    """A folder in which others may write, one that is not there, a file that can't be written, and a second launcher: each is told once, and the launcher
+    goes on."""
+    os.mkdir(stage.at("open"))
+    os.chmod(stage.at("open"), 0o777)
+    for path in (stage.at("open/status"), stage.at("nowhere/status")):
+        launcher, _ = serve(stage, path)
+        launcher.load(shell_job("runs", "exec sleep 600", RunAtLoad=True))
+        launcher.tells("runs", "state = running")
+        check(len(launcher.lines(f"jobd: status file {path}: ")) == 1, f"of {path} it said {launcher.said()!r}")
+        check(not os.path.exists(path) and not os.path.exists(path + ".lock"), f"something was made at {path}")
+        launcher.shut_down()
+
+    os.mkdir(stage.at("standing"), 0o700)
+    os.mkdir(stage.at("standing/status.jsonl"))
+    launcher, path = serve(stage)
+    wait_for(lambda: launcher.lines(f"jobd: status file {path}: "), f"a folder at its place is not told, but {launcher.said()!r}")
+    launcher.load(shell_job("runs", "exec sleep 600", RunAtLoad=True))
+    time.sleep(2.5)
+    check(len(launcher.lines("status file")) == 1, f"it is told again: {launcher.said()!r}")
+    os.rmdir(path)
+    wait_for(lambda: told(path), "it is not tried again")
+
+    os.mkdir(stage.at("spool.second"), 0o700)
+    second = stage.serve(env={"JOBD_STATUS_FILE": path}, socket="second", store="store.second", spool="spool.second")
+    check(len(second.lines(f"jobd: status file {path}: another launcher holds it")) == 1, f"the second said {second.said()!r}")
+    second.load(shell_job("other", "exec sleep 600", RunAtLoad=True))
+    second.tells("other", "state = running")
+    time.sleep(1.5)
+    first, jobs = told(path)
+    check(first["pid"] == launcher.pid and list(jobs) == ["runs"], f"the second wrote it: {first}, {list(jobs)}")
+    second.shut_down()
+    check(os.path.exists(path + ".lock"), "the second took the first one's lock away")
+    launcher.shut_down()
+
+
+SCENES = [what_a_status_file_holds, a_status_file_rests, a_killed_launcher_leaves_a_whole_file, status_files_that_are_refused]
