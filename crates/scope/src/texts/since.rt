@@ -11,13 +11,13 @@ ghost use Rattle.run_times.specs.Told.{IsTold};
 ghost use Rattle.scope.specs.declared.texts.coming.TheConstants.{FARTHEST};
 ghost use Rattle.scope.specs.Ages.{ComesSince, StartsSo, reasons_then};
 
-use crate::journal::facts::JobFacts;
 use crate::texts::coming::FARTHEST;
 use calendar_due::Zone;
 use history_model::{Entry, Reading, Reasons};
 use job_table::Moments;
 use run_times::Filling::{Text, Time};
 use run_times::{Page, coming_second, next_run};
+use status_file::JobFacts;
 
 /// When the clocks alone start a job, by seconds of `wall`.
 #[derive(Clone, Copy)]

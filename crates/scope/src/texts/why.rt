@@ -1,7 +1,6 @@
 //! Why each job stands as it does, at the journal's end or at a moment before.
 
 use crate::age::{AsOf, add_head, clock_as_of, reading_as_of, within_limits};
-use crate::journal::facts::JobFacts;
 use crate::journal::job::{KeptJob, Record};
 use crate::journal::labels::{DisabledBy, KnownLabel};
 use crate::journal::reader::OpenJournal;
@@ -14,6 +13,7 @@ use calendar_due::Zone;
 use history_model::{Reading, Reasons, Refusal};
 use run_times::Filling::{Number, Span, Text, Time};
 use run_times::Page;
+use status_file::JobFacts;
 use std::alloc::{AllocError, Global};
 
 /// For each loaded job, or for those named: its state, a line for each thing that keeps it from a start or wants it, how it ended
