@@ -1,7 +1,7 @@
 //! Property lists in XML as definitions in JSON.
 
 ghost use Rattle.std.specs.Prelude.{IfOk};
-ghost use Rattle.definition_files.specs.ListStatus.{IsListStatus};
+ghost use Rattle.definition_files.specs.ListStatus.{AreListVerdicts, IsListStatus, ReadsList, ReadsPaths};
 
 use crate::files::{Contents, DefinitionSource};
 use crate::folder::{laid_out, put_new};
@@ -33,7 +33,8 @@ pub fn lists_as_json<S: DefinitionSource>(
     longest: usize,
     into: Option<&str>,
 ) -> Result<Outcome, AllocError>
-    ensures status { IfOk result (λ outcome. IsListStatus outcome.status) }
+    ensures status { IfOk result (λ outcome. ReadsPaths paths.now
+        (IsListStatus outcome.status) (S.told source.old) (S.told source.new)) }
 {
     let mut ink = Ink::new(alloc);
     let added = add_each(host, alloc, source, paths, longest, into, &mut ink);
@@ -57,7 +58,10 @@ fn add_each<S: DefinitionSource>(
     longest: usize,
     into: Option<&str>,
     ink: &mut Ink,
-) -> Result<Verdicts, AllocError> {
+) -> Result<Verdicts, AllocError>
+    ensures { IfOk result (λ verdicts. ReadsPaths paths.now (AreListVerdicts verdicts)
+        (S.told source.old) (S.told source.new)) }
+{
     let mut verdicts = Verdicts::none();
     for path in paths {
         match add_file(host, alloc, source, path.as_str(), longest, into, ink) {
@@ -76,7 +80,10 @@ fn add_file<S: DefinitionSource>(
     longest: usize,
     into: Option<&str>,
     ink: &mut Ink,
-) -> Result<Verdict, AllocError> {
+) -> Result<Verdict, AllocError>
+    ensures { IfOk result (λ verdict. ReadsList path.now verdict (S.told source.old)
+        (S.told source.new)) }
+{
     let file = Found {
         path: String::from_str(alloc, path)?,
         kind: Kind::File,
@@ -89,7 +96,8 @@ fn add_file<S: DefinitionSource>(
             drop(bytes);
             verdict
         }
-        Ok(_) => Ok(Verdict::Unread),
+        Ok(Contents::Unread) => Ok(Verdict::Unread),
+        Ok(Contents::Nothing) => Ok(Verdict::Unread),
         Err(error) => Err(error),
     }
 }

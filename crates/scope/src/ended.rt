@@ -3,7 +3,7 @@
 ghost use Rattle.std.specs.Prelude.{◌≡◌, IfOk};
 ghost use Rattle.definition_files.specs.Reads.{IsCheckStatus, Reads, starts_status};
 ghost use Rattle.definition_files.specs.LineStatus.{Judges, crontab_status};
-ghost use Rattle.definition_files.specs.ListStatus.{IsListStatus};
+ghost use Rattle.definition_files.specs.ListStatus.{IsListStatus, ReadsPaths};
 
 use definition_files::check::check_files;
 use definition_files::cron::{LineKeeper, Surroundings, definitions_of};
@@ -72,7 +72,8 @@ pub fn plist_ended<S: DefinitionSource>(
     longest: usize,
     into: Option<&str>,
 ) -> io::Result<u8>
-    ensures { IfOk result (λ status. IsListStatus status) }
+    ensures { IfOk result (λ status. ReadsPaths paths.now (IsListStatus status)
+        (S.told source.old) (S.told source.new)) }
 {
     let made = lists_as_json(host, alloc, source, paths, longest, into);
     put_outcome(&mut host.stdout(), made)
