@@ -50,16 +50,17 @@ pub struct Explanation {
     pub is_help: bool,
 }
 
-/// The text for words that clap does not take; a help ends with the version's line. If clap takes them, the line that says why
-/// they are no command all the same, or the whole help if they are one.
+/// The text for words that clap does not take: one line that begins with the program's name, or a help, which ends with the version's
+/// line. If clap takes them, the line that says why they are no command all the same, or the whole help if they are one.
 pub fn explain_by<'a>(
     alloc: Global,
+    program: &str,
     command: Result<clap::Command<'a>, AllocError>,
     words: &'a [String],
 ) -> Result<Explanation, AllocError> {
     match command {
         Ok(mut command) => {
-            let said = said_of(alloc, command.try_get_matches_from_mut(words));
+            let said = said_of(alloc, program, command.try_get_matches_from_mut(words));
             let explanation = said_or_help(said, &mut command);
             drop(command);
             explanation
@@ -71,11 +72,12 @@ pub fn explain_by<'a>(
 // What is said of the words, if it is not the whole help. What clap found goes at one place.
 fn said_of(
     alloc: Global,
+    program: &str,
     found: Result<ArgMatches<'_>, Error>,
 ) -> Result<Option<Explanation>, AllocError> {
     let said = match &found {
         Ok(matches) => reason_in(alloc, matches),
-        Err(error) => fault_text(alloc, error),
+        Err(error) => fault_text(alloc, program, error),
     };
     drop(found);
     said
@@ -98,13 +100,39 @@ fn said_or_help(
     }
 }
 
-fn fault_text(alloc: Global, error: &Error) -> Result<Option<Explanation>, AllocError> {
+fn fault_text(
+    alloc: Global,
+    program: &str,
+    error: &Error,
+) -> Result<Option<Explanation>, AllocError> {
     let is_help = !error.use_stderr();
     let text = if is_help {
         let version = VERSION_LINE;
         format!(in alloc; "{error}\n{version}\n")?
     } else {
-        format!(in alloc; "{error}")?
+        let said = format!(in alloc; "{error}")?;
+        one_line(alloc, program, said.as_str())?
     };
     Ok(Some(Explanation { text, is_help }))
+}
+
+// What clap says of words that it does not take, as one line behind the program's name.
+fn one_line(alloc: Global, program: &str, said: &str) -> Result<String, AllocError> {
+    let mut line = String::from_str(alloc, program)?;
+    line.push_str(":")?;
+    let mut is_begun = true;
+    for row in said.lines() {
+        let row = row.trim();
+        if !row.is_empty() {
+            if is_begun {
+                line.push_str(" ")?;
+            } else {
+                line.push_str("; ")?;
+            }
+            line.push_str(row.strip_prefix("error: ").unwrap_or(row))?;
+            is_begun = row.ends_with(':');
+        }
+    }
+    line.push_str("\n")?;
+    Ok(line)
 }
