@@ -5,6 +5,7 @@ use files_and_process::own_files::{LockFile, check_folder};
 use history_model::{Reading, SECOND, Text};
 use std::alloc::Global;
 use std::fs::OpenOptions;
+use std::io::Write;
 use std::os::unix::fs::OpenOptionsExt;
 use std::{fs, io, mem};
 
