@@ -184,8 +184,8 @@ module _ {T E W : Type 0} (calls : E → Option (List ToldCall)) (stores : T →
   serves {old = old} nobody = nothing old
   serves (one_more {line = line} {reply = reply} {mid = mid} {new = new} more answers) = then_ (serves more)
       (let marks = of_gives calls stores holds stamped (asked_by line) reply.refusal reply.text mid answers.mid answers.gives in
-      let given = then_ {ys = []} (gives (asked_by line) reply.refusal reply.text mid answers.mid answers.gives) (lent_on answers.edge answers.mid) in
-      let heard = subst (λ ms. Goes ms mid (lent answers.edge answers.mid)) (append-nil marks) given in
+      let given : Goes (marks ++ []) mid (lent answers.edge answers.mid) = then_ {ys = []} (gives (asked_by line) reply.refusal reply.text mid answers.mid answers.gives) (lent_on answers.edge answers.mid) in
+      let heard : Goes marks mid (lent answers.edge answers.mid) = subst (λ ms. Goes ms mid (lent answers.edge answers.mid)) (append-nil marks) given in
       subst (λ (r : RoundLauncher T E W). Goes marks mid r) (sym answers.noted) (record { are = heard.are }))
 
   client : (label : List ℕ) (job conn : ℕ) (answer : HandedIn) (old new : RoundLauncher T E W) (t : TellsCame calls stores holds stamped label job conn answer old new) →
