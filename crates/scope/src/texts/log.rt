@@ -64,6 +64,7 @@ fn until_of(journal: &OpenJournal, news: &News, now: Reading) -> u64 {
             KeptJob {
                 def: Some(def),
                 record,
+                ..
             },
         ) => throttle_end(record, def.throttle_interval(), up, now),
         _ => coming_second(now, up),
