@@ -17,6 +17,22 @@ const CLOSED: &str = "a write was refused, or a line found no memory";
 /// What is told of a store that refused something.
 const REFUSED: &str = "a setting was not stored";
 
+// How the journal stands. It lives as long as what it is told beside.
+fn journal_of<'a>(has_journal: bool, is_closed: bool) -> JournalStatus<'a> {
+    if !has_journal {
+        JournalStatus::None
+    } else if is_closed {
+        JournalStatus::Closed(CLOSED)
+    } else {
+        JournalStatus::Open
+    }
+}
+
+// What the store refused last.
+fn refused_by<'a>(has_refused: bool) -> Option<&'a str> {
+    if has_refused { Some(REFUSED) } else { None }
+}
+
 /// What is kept beside the table for the file: what was heard of runs, and what is told of the launcher.
 #[derive(Drop)]
 pub struct Keeper {
@@ -63,34 +79,22 @@ impl Keeper {
         self.has_refused = self.has_refused || refusal == Some(Refusal::StoreRefused);
     }
 
-    fn journal(&self) -> JournalStatus<'static> {
-        if !self.has_journal {
-            JournalStatus::None
-        } else if self.is_closed {
-            JournalStatus::Closed(CLOSED)
-        } else {
-            JournalStatus::Open
-        }
-    }
-
     /// Writes the text of the file anew. False: it found no memory.
     pub(crate) fn write(&mut self, table: &JobTable, at: Reading) -> bool
         ensures { result ≡ true → IsStatusText table.now self.new.text.bytes.items }
     {
         self.notes.see_all(table);
         self.text.clear();
+        let journal = journal_of(self.has_journal, self.is_closed);
+        let store = refused_by(self.has_refused);
         let launcher = LauncherStatus {
             version: VERSION,
             pid: self.own.pid,
             began: self.own.began,
             header: self.header.as_str(),
             at,
-            journal: self.journal(),
-            store: if self.has_refused {
-                Some(REFUSED)
-            } else {
-                None
-            },
+            journal,
+            store,
         };
         add_launcher(&mut self.text, self.alloc, &launcher);
         add_jobs(
