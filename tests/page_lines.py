@@ -93,8 +93,8 @@ def the_definitions_load():
     for row in block("man/jobd.json.5", "EXAMPLES"):
         ran = run("jobscope", "check", "--utc", "-", given=row)
         want(f"the check of {row[:40]}", (0, False), (ran.returncode, " error: " in ran.stdout))
-    # The place of a definition, what is not here, and what one example is about.
-    allowed = re.compile(r"is not there|no such|NoSuch|not found|cannot be|daylight_saving")
+    # What is not here, and what one example is about.
+    allowed = re.compile(r"is not there|one of its conditions suffices")
     for path in sorted(glob.glob(f"{HERE}/examples/jobs/*.json")):
         ran = run("jobscope", "check", "--utc", path)
         told = [row for row in ran.stdout.splitlines() if " warning: " in row and not allowed.search(row)]
@@ -146,7 +146,7 @@ def a_run_has_so_many_bytes(folder):
     """A start of a job with its end adds about as many bytes to the journal as the pages say."""
     said = {int(number) for number in re.findall(r"adds some (\d+) bytes", read("docs/OPERATING.md"))}
     with open(f"{folder}/org.example.often.json", "w", encoding="utf-8") as it:
-        json.dump({"Label": "org.example.often", "Program": "/bin/true", "KeepAlive": True, "ThrottleInterval": 0}, it)
+        json.dump({"Label": "org.example.often", "Program": "/bin/true", "KeepAlive": True, "ThrottleInterval": 1}, it)
     run("jobctl", "--socket", "s", "load", "org.example.often.json", folder=folder)
     time.sleep(0.5)
 
@@ -156,11 +156,11 @@ def a_run_has_so_many_bytes(folder):
         return len(text), text.count('"ev":"spawned"')
 
     before, runs = state()
-    time.sleep(2)
+    time.sleep(6)
     after, more = state()
     run("jobctl", "--socket", "s", "unload", "org.example.often.json", folder=folder)
     bytes_each = (after - before) / max(1, more - runs)
-    if len(said) != 1 or not 0.8 * min(said) <= bytes_each <= 1.25 * min(said):
+    if len(said) != 1 or not 0.85 * min(said) <= bytes_each <= 1.15 * min(said):
         faults.append(f"a run adds {bytes_each:.0f} bytes, and the pages say {said}")
 
 

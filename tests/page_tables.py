@@ -56,7 +56,7 @@ LIMITS = [
     ("connections that wait for a job", [("history_model/src/lib.rt", r"MAX_CONNECTIONS: usize = ([\d_]+)")]),
     ("connections of a job whose request still comes", [("job_clients/src/callers.rt", r"CALLERS_OF_A_JOB: usize = ([\d_]+)")]),
     ("connections of all jobs whose request still comes", [("job_clients/src/callers.rt", r"CALLERS: usize = ([\d_]+)")]),
-    ("connections held of all jobs", [("child_edge/src/connections.rt", r"ROOM: usize = ([\d_]+)"), ("startup/src/standing.rt", r"MOST: u64 = ([\d_]+)")]),
+    ("connections held of all jobs", [("child_edge/src/room.rt", r"MOST: u64 = ([\d_]+)")]),
     ("connections of a job whose run is over", [("child_edge/src/connections.rt", r"OVER: usize = ([\d_]+)")]),
     ("seconds without a byte", [("child_edge/src/connection.rt", r"STILL: u64 = ([\d_]+)"), ("job_clients/src/caller.rt", r"LONGEST_SILENCE: u64 = ([\d_]+) \* SECOND")]),
     ("bytes of a connection's request", [("socket_demand/src/exchange.rt", r"MAX_REQUEST: usize = ([\d_]+)")]),
@@ -67,7 +67,7 @@ LIMITS = [
     ("bytes of a line before its newline", [("ctl_protocol/src/feed.rt", r"LINE_LIMIT: usize = ([\d_]+)")]),
     ("looks at paths in a round", [("live_loop/src/paths.rt", r"LOOKS: u32 = ([\d_]+)")]),
     ("look-outs that hang", [("look_out/src/hung.rt", r"MOST: usize = ([\d_]+)")]),
-    ("descriptors at least", [("startup/src/standing.rt", r"FEWEST: u64 = ([\d_]+)")]),
+    ("descriptors at least", [("child_edge/src/room.rt", r"FEWEST: u64 = ([\d_]+)")]),
     ("bytes of the store", [("startup/src/looking.rt", r"MOST_BYTES: u64 = ([\d_]+)")]),
     ("bytes of a zone file", [("startup/src/zone.rt", r"MOST_BYTES: u64 = ([\d_]+)"), ("calendar_due/src/zone.rt", r"LONGEST_FILE: usize = ([\d_]+)")]),
     ("bytes of a text within a line on standard error", [("child_edge/src/words.rt", r"LONGEST: usize = ([\d_]+)")]),
@@ -79,7 +79,7 @@ NUMBERS = [
     ("man/jobctl.1", "has more than @ bytes. Or, for", "ctl_protocol/src/feed.rt", r"LINE_LIMIT: usize = ([\d_]+)"),
     ("man/jobctl.1", ": @ are loaded", "history_model/src/lib.rt", r"MAX_JOBS: usize = ([\d_]+)"),
     ("man/jobctl.1", ": the launcher has @, and none", "control_socket/src/control.rt", r"CLIENTS: usize = ([\d_]+)"),
-    ("man/jobd.8", "fewer than @ descriptors are allowed", "startup/src/standing.rt", r"FEWEST: u64 = ([\d_]+)"),
+    ("man/jobd.8", "fewer than @ descriptors are allowed", "child_edge/src/room.rt", r"FEWEST: u64 = ([\d_]+)"),
     ("man/jobd.8", "it keeps @ lines of each kind", "child_edge/src/notices.rt", r"ROOM: usize = ([\d_]+)"),
     ("man/jobd.journal.5", "Milliseconds, at most @.", "history_model/src/lib.rt", r"MAX_UP: u64 = ([\d_]+)"),
     ("man/jobd.journal.5", "Unix time, at most @.", "history_model/src/lib.rt", r"MAX_WALL: u64 = ([\d_]+)"),
@@ -96,7 +96,6 @@ NUMBERS = [
     ("man/jobscope.1", "up to @; after now", "history_model/src/lib.rt", r"MAX_WALL: u64 = ([\d_]+)"),
     ("man/jobscope.1", "So many lines are written: @ if it is absent", "scope/src/program.rt", r"const COUNT: u64 = ([\d_]+)"),
     ("man/jobscope.1", "that of the last @ runs", "scope/src/journal/past.rt", r"MOST_RUNS: usize = ([\d_]+)"),
-    ("man/jobscope.1", "marks before the last @,", "scope/src/charted.rt", r"MOST_MARKS: usize = ([\d_]+)"),
     ("man/jobscope.1", "is, for picture ; @ if it is absent", "scope/src/report.rt", r"COLUMNS: u16 = ([\d_]+)"),
     ("man/jobscope.1", "if more than @ entries would be needed", "definition_files/src/cron/entries.rt", r"MOST_ENTRIES: usize = ([\d_]+)"),
     ("man/jobscope.1", "a NUL byte or more than @ bytes", "definition_files/src/cron/command.rt", r"LONGEST_COMMAND: usize = ([\d_]+)"),
@@ -153,7 +152,7 @@ JOBCTL = (set(CODES.values()) - IN_JOURNALS) | statuses("USAGE", "BAD_FILE", "NO
 REPLAY = {int(number) for number in re.findall(r"=> (\d+),", read("crates/replay/src/status.rt"))} | statuses("USAGE")
 OVERRIDES = statuses("NO_MEMORY", "STREAMS", "STORE", "USAGE")
 SERVE = statuses("NO_MEMORY", "STORE", "CONTROL_SOCKET", "ZONE", "JOURNAL", "CLOCK_OR_WAITING", "SPOOL", "USAGE")
-SCOPE = statuses("REFUSED", "USAGE", "BAD_FILE", "BAD_CLOCK", "BAD_OUTPUT", "READER_GONE")
+SCOPE = statuses("REFUSED", "DIFFERS", "USAGE", "BAD_FILE", "BAD_CLOCK", "BAD_OUTPUT", "READER_GONE")
 
 
 def check_statuses(what, wanted, in_page, in_help):
@@ -185,7 +184,7 @@ for code, text in TEXTS.items():
 # ---- the environment: what a program reads stands in its page, and what its words read in its help
 READS = {
     "man/jobctl.1": (["control_client"], set()),
-    "man/jobd.8": (["startup"], set()),
+    "man/jobd.8": (["startup"], {"JOBD_STATUS_FILE"}),
     "man/jobscope.1": (["scope", "run_times", "definition_files"], set()),
 }
 for page, (crates, others) in READS.items():

@@ -34,9 +34,10 @@ want() {
 set_all() {
     store=$1
     shift
+    rm -f ready
     "$programs/jobd" serve --socket socket --store "$store" --spool spool >ready &
     launcher=$!
-    until grep -q ready ready; do sleep 0.1; done
+    until grep -qs ready ready; do sleep 0.1; done
     while [ $# -gt 0 ]; do
         "$programs/jobctl" --socket socket "$1" "$2"
         shift 2

@@ -4,12 +4,9 @@ use crate::forms::{Argument, Form, Subcommand, with_subcommands};
 use std::alloc::{AllocError, Global};
 
 const EXIT_HELP: &str =
-    "Exit status: 0 done; 1 no memory, or a definition, a line or a list is refused, or has a warning with check --strict; 64 these words are no command; 65 a file can't be read, used or written, or nothing has a label that was named; 71 the clock can't be read; 74 standard output can't be written; 141 its reader has gone.";
+    "Exit status: 0 done; 1 no memory, or a definition, a line or a list is refused, or has a warning with check --strict; 2 drift found a difference; 64 these words are no command; 65 a file can't be read, used or written, or nothing has a label that was named; 71 the clock can't be read; 74 standard output can't be written; 141 its reader has gone.";
 
 const SEE_EXIT: &str = "jobscope --help has the exit statuses.";
-
-const DRIFT_EXIT: &str =
-    "Exit status: 0 nothing differs; 1 no memory; 2 something differs; 64 these words are no command; 65 a file or the journal can't be read, or is none.";
 
 const ZONE: Argument = Argument {
     id: "zone",
@@ -226,13 +223,13 @@ const SUBCOMMANDS: &[Subcommand] = &[
     Subcommand {
         name: "show",
         about: "Show definitions as they are loaded, and when they were",
-        after: JOURNAL_EXIT,
+        after: SEE_EXIT,
         arguments: SHOW,
     },
     Subcommand {
         name: "drift",
         about: "Say how files of definitions differ from what is loaded",
-        after: DRIFT_EXIT,
+        after: SEE_EXIT,
         arguments: DRIFT,
     },
     Subcommand {

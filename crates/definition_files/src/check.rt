@@ -35,3 +35,4 @@ pub use files::check_files;
 pub use finding::{Grade, Place, Remark, finding_line};
 pub use mistakes::{Mistake, is_made, mistakes_in};
 pub use summary::summary_of;
+pub use there::put_seen;

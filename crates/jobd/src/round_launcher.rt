@@ -37,7 +37,7 @@ pub struct RoundLauncher<T: SettingStore, E: ChildEdge + SocketEdge, W: Write> {
 }
 
 impl<T: SettingStore, E: ChildEdge + SocketEdge, W: Write> RoundLauncher<T, E, W> {
-    ghost use Rattle.jobd.specs.Launches.{Heard, HeardReading, Reads, ReadsIf, ReadsClock, HandsNews, Shows, Gives, Tells, Begins, PollsRun};
+    ghost use Rattle.jobd.specs.Launches.{Heard, HeardReading, Reads, ReadsIf, ReadsClock, HandsNews, Shows, Gives, Tells, Begins, PollsRun, AnswersLine};
 
     /// The launcher at its own last reading, from which on sleeps count; `before` is what its edge told of sleeps then.
     pub fn new(host: Host<T, E, W>, before: u64) -> RoundLauncher<T, E, W>
@@ -161,6 +161,15 @@ impl<T: SettingStore, E: ChildEdge + SocketEdge, W: Write> RoundLauncher<T, E, W
         self.turn(alloc, input)
     }
 
+    /// Hands in a control client's line, and notes a load that was accepted.
+    pub fn answer_line(&mut self, alloc: Global, line: &[u8]) -> Reply
+        ensures { AnswersLine E.told T.told T.holds T.stamped line.now result self.old self.new }
+    {
+        let reply = self.give(alloc, Input::Line(line));
+        self.has_loaded = self.has_loaded | self.host.has_loaded();
+        reply
+    }
+
     // Hands in what happened, and gives why it was refused.
     fn tell(&mut self, alloc: Global, input: Input<'_>) -> Option<Refusal>
         ensures memory { is_memory result ≡ true → wants_memory input.entry ≡ true }
@@ -225,8 +234,7 @@ impl<T: SettingStore, E: RoundEdge, W: Write> Answers for RoundLauncher<T, E, W>
     ghost Answered = { AnswersLine E.told T.told T.holds T.stamped };
 
     fn answer(&mut self, alloc: Global, line: &[u8]) -> Reply {
-        let reply = self.give(alloc, Input::Line(line));
-        self.has_loaded = self.has_loaded | self.host.has_loaded();
+        let reply = self.answer_line(alloc, line);
         self.host.edge().note_reply(reply.refusal);
         reply
     }

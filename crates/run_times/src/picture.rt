@@ -4,6 +4,7 @@
 mod axis;
 mod blocks;
 mod chart;
+mod gathering;
 mod html;
 mod piece;
 mod svg;
@@ -13,6 +14,7 @@ mod words;
 pub use axis::Axis;
 pub use blocks::blocks_text;
 pub use chart::{Bar, Chart, End, Mark, MarkKind, Row};
+pub use gathering::{Gathered, Gathering};
 pub use html::{Beside, Coming};
 pub use piece::picture_piece;
 pub use svg::PLACES;

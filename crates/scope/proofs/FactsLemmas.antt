@@ -1,5 +1,5 @@
 -- What a table tells of a job are the facts of each machine that it keeps, and so of the one that heard the lines.
-use Rattle.std.proofs.Common.{◌≡◌, ℕ, List, [], ◌∷◌, map, Option, Some}
+use Rattle.std.proofs.Common.{ℕ, List, [], ◌∷◌, map, Option, Some}
 use Rattle.history_model.specs.Labels.{Label}
 use Rattle.history_model.specs.Machine.{State, past_of}
 use Rattle.history_model.specs.Step.{run}

@@ -1,4 +1,5 @@
 pub mod CausesLemmas
+pub mod EndedLemmas
 pub mod FactsLemmas
 pub mod HearingLemmas
 pub mod LineLemmas

@@ -1,4 +1,4 @@
-//! What a chart shows of a journal: the runs that its reader keeps, and the marks that are kept while it is read.
+//! What a chart shows of a journal: the runs and the marks, joined as they go by while it is read.
 
 ghost use Rattle.std.specs.Prelude.{◌≡◌, IfSome, option_map};
 ghost use Rattle.scope.specs.RunBars.{run_bar_end};
@@ -10,31 +10,17 @@ use crate::journal::run::{JobRun, RunEnd};
 use crate::journal::waiting::Wait;
 use crate::texts::log::is_named;
 use history_model::Text;
-use run_times::picture::{Axis, Bar, Chart, End, MarkKind, PLACES, Row};
+use run_times::picture::{Axis, Bar, Chart, End, Gathered, Gathering, MarkKind, PLACES, Row};
 use std::alloc::{AllocError, Global};
-use std::collections::VecDeque;
-
-/// So many marks are kept, of all jobs together: the last ones.
-const MOST_MARKS: usize = 65_536;
-
-/// A mark, and the serial number of its job.
-#[derive(Clone, Copy)]
-pub(crate) struct KeptMark {
-    job: u64,
-    kind: MarkKind,
-    at: u64,
-}
 
 /// What is kept of the lines that were read, of all jobs or of those that are named.
 #[derive(Drop)]
 pub(crate) struct HeardMarks<'a> {
     pub(crate) labels: &'a [Text],
-    pub(crate) marks: VecDeque<KeptMark>,
-    pub(crate) dropped: u64,
+    /// The runs that are over, and the marks, by the serial numbers of their jobs.
+    pub(crate) gathering: Gathering,
     /// How many refusals were of jobs that were not loaded before.
     pub(crate) rowless: u64,
-    /// How many runs that had begun are over.
-    pub(crate) ended: u64,
     /// The least and the greatest second that the clock showed.
     pub(crate) from: u64,
     pub(crate) until: u64,
@@ -45,10 +31,8 @@ impl HeardMarks<'_> {
     pub(crate) fn new(alloc: Global, labels: &[Text]) -> HeardMarks<'_> {
         HeardMarks {
             labels,
-            marks: VecDeque::new(alloc),
-            dropped: 0,
+            gathering: Gathering::new(alloc),
             rowless: 0,
-            ended: 0,
             from: u64::MAX,
             until: 0,
         }
@@ -67,21 +51,19 @@ impl HeardMarks<'_> {
     }
 
     fn hear_news(&mut self, news: &News, at: u64) -> Result<(), AllocError> {
-        if let What::Ended { .. } = news.what {
-            self.ended = self.ended.saturating_add(1);
+        if let What::Ended { run, .. } = &news.what {
+            if let Some(bar) = bar_of(&Axis::new(at, at, PLACES), run) {
+                self.gathering.add(run.job, bar)?;
+            }
         }
-        let Some(kind) = mark_of(&news.what) else {
-            return Ok(());
-        };
-        let Some(job) = news.serial else {
-            self.rowless = self.rowless.saturating_add(1);
-            return Ok(());
-        };
-        if self.marks.len() >= MOST_MARKS {
-            let _oldest = self.marks.pop_front();
-            self.dropped = self.dropped.saturating_add(1);
+        match (mark_of(&news.what), news.serial) {
+            (Some(kind), Some(job)) => self.gathering.mark(job, kind, at),
+            (Some(_), None) => {
+                self.rowless = self.rowless.saturating_add(1);
+                Ok(())
+            }
+            (None, _) => Ok(()),
         }
-        Ok(self.marks.push_back(KeptMark { job, kind, at })?)
     }
 }
 
@@ -133,8 +115,8 @@ pub(crate) fn chart_of(
         chart: Chart {
             axis: Axis::new(heard.from, heard.until, PLACES),
             rows: Vec::new(alloc),
-            missing_runs: 0,
-            missing_marks: heard.dropped,
+            missing_runs: heard.gathering.missing_runs,
+            missing_marks: heard.gathering.missing_marks,
             rowless_refusals: heard.rowless,
         },
         places: Vec::new(alloc),
@@ -171,70 +153,47 @@ impl Rows {
             }
         }
         self.places.sort_unstable();
-        self.add_runs(past, heard)?;
-        for mark in &heard.marks {
-            self.add_mark(mark)?;
+        for of in &heard.gathering.rows {
+            self.add_gathered(of)?;
         }
-        Ok(())
+        self.add_living(past)
     }
 
     fn add_job(&mut self, alloc: Global, label: &str, serial: u64) -> Result<(), AllocError> {
         self.places.push((serial, self.chart.rows.len()))?;
-        let row = Row {
-            label: String::from_str(alloc, label)?,
-            bars: Vec::new(alloc),
-            demands: Vec::new(alloc),
-            throttles: Vec::new(alloc),
-            refusals: Vec::new(alloc),
-        };
+        let row = Row::new(alloc, String::from_str(alloc, label)?);
         Ok(self.chart.rows.push(row)?)
     }
 
-    // The runs that are over and kept, and those that live.
-    fn add_runs(&mut self, past: &Past, heard: &HeardMarks<'_>) -> Result<(), AllocError> {
-        let mut drawn: u64 = 0;
-        for run in &past.runs {
-            if self.add_run(run)? {
-                drawn = drawn.saturating_add(1);
-            }
+    // What was gathered of a job. That of one which was forgotten meanwhile counts among what is missing.
+    fn add_gathered(&mut self, of: &Gathered) -> Result<(), AllocError> {
+        let axis = self.chart.axis;
+        let place = place_of(self.places.as_slice(), of.job).unwrap_or(usize::MAX);
+        if let Some(row) = self.chart.rows.get_mut(place) {
+            return row.add_all(&axis, &of.row);
         }
-        self.chart.missing_runs = heard.ended.saturating_sub(drawn);
+        self.chart.missing_runs = self.chart.missing_runs.saturating_add(of.row.runs());
+        self.chart.missing_marks = self.chart.missing_marks.saturating_add(of.row.moments());
+        Ok(())
+    }
+
+    // The runs that live.
+    fn add_living(&mut self, past: &Past) -> Result<(), AllocError> {
         for (_, job) in &past.jobs {
             if let Some(run) = &job.record.current {
-                let _is_drawn = self.add_run(run)?;
+                self.add_run(run)?;
             }
         }
         Ok(())
     }
 
-    // Whether the run began and has a row.
-    fn add_run(&mut self, run: &JobRun) -> Result<bool, AllocError> {
+    // Adds the run, if it began and has a row.
+    fn add_run(&mut self, run: &JobRun) -> Result<(), AllocError> {
         let axis = self.chart.axis;
-        let (Some(place), Some(bar)) = (
-            place_of(self.places.as_slice(), run.job),
-            bar_of(&axis, run),
-        ) else {
-            return Ok(false);
-        };
-        match self.chart.rows.get_mut(place) {
-            Some(row) => {
-                row.add(&axis, bar)?;
-                Ok(true)
-            }
-            None => Ok(false),
-        }
-    }
-
-    // The mark of a job that was forgotten meanwhile counts among those that are missing.
-    fn add_mark(&mut self, mark: &KeptMark) -> Result<(), AllocError> {
-        let axis = self.chart.axis;
-        let Some(place) = place_of(self.places.as_slice(), mark.job) else {
-            self.chart.missing_marks = self.chart.missing_marks.saturating_add(1);
-            return Ok(());
-        };
-        match self.chart.rows.get_mut(place) {
-            Some(row) => row.mark(&axis, mark.kind, mark.at),
-            None => Ok(()),
+        let place = place_of(self.places.as_slice(), run.job).unwrap_or(usize::MAX);
+        match (self.chart.rows.get_mut(place), bar_of(&axis, run)) {
+            (Some(row), Some(bar)) => row.add(&axis, bar),
+            _ => Ok(()),
         }
     }
 }

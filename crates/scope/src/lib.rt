@@ -6,6 +6,7 @@ mod at;
 mod charted;
 mod clock;
 mod drift;
+mod ended;
 mod journal;
 mod listener;
 mod log;
@@ -16,6 +17,7 @@ mod texts;
 mod writer;
 mod zone;
 
+pub use ended::{check_ended, cron_ended, next_ended, plist_ended};
 pub use journal::fault::JournalFault;
 pub use journal::lines::{Hears, JournalLines};
 pub use journal::reader::{OpenJournal, open};

@@ -1,19 +1,18 @@
 //! One run of the program: which subcommand runs, and what ends it.
 
 use crate::clock::now;
+use crate::ended::{check_ended, cron_ended, next_ended, plist_ended};
 use crate::report::report;
 use crate::zone::{Named, zone_of};
 use ctl_protocol::LINE_LIMIT;
-use definition_files::check::check_files;
-use definition_files::cron::{HostLines, definitions_of, lines_of, surroundings_of};
-use definition_files::lists::lists_as_json;
-use definition_files::{Asked, HostFiles, coming_starts};
+use definition_files::cron::{HostLines, lines_of, surroundings_of};
+use definition_files::{Asked, HostFiles};
 use exit_status::{BAD_CLOCK, BAD_FILE, USAGE};
 use files_and_process::path_files::files_at;
 use history_model::{MAX_WALL, Text};
 use launchctl_words::{Meaning, ScopeCommand, Task, WordFault, explain_scope, read_scope_words};
-use run_times::telling::{Outcome, put, put_outcome, tell_end, want_memory};
-use std::alloc::{AllocError, Global};
+use run_times::telling::{put, tell_end, want_memory};
+use std::alloc::Global;
 use std::io;
 use std::sync::Wait;
 
@@ -56,17 +55,15 @@ fn run<W: Wait>(
     command: &ScopeCommand,
 ) -> io::Result<u8> {
     match command.task {
-        Task::Check | Task::Next => {
-            put_outcome(&mut host.stdout(), by_zone(host, alloc, command))
-        }
-        Task::Cron => put_outcome(&mut host.stdout(), by_lines(host, alloc, command)),
-        Task::Plist => put_outcome(&mut host.stdout(), of_lists(host, alloc, command)),
+        Task::Check | Task::Next => by_zone(host, alloc, command),
+        Task::Cron => by_lines(host, alloc, command),
+        Task::Plist => of_lists(host, alloc, command),
         _ => report(host, waits, alloc, command),
     }
 }
 
 // The definitions that are made of the lines which the words give; the one word `-` stands for those of standard input.
-fn by_lines(host: &HostRuntime, alloc: Global, of: &ScopeCommand) -> Result<Outcome, AllocError> {
+fn by_lines(host: &HostRuntime, alloc: Global, of: &ScopeCommand) -> io::Result<u8> {
     match of.words.as_slice() {
         [only] if only.as_str() == "-" => match lines_of(host, alloc)? {
             Some(lines) => {
@@ -74,7 +71,7 @@ fn by_lines(host: &HostRuntime, alloc: Global, of: &ScopeCommand) -> Result<Outc
                 drop(lines);
                 made
             }
-            None => Ok(Outcome::failed(alloc, BAD_FILE)),
+            None => Ok(BAD_FILE),
         },
         lines => of_lines(host, alloc, of, lines),
     }
@@ -85,15 +82,15 @@ fn of_lines(
     alloc: Global,
     of: &ScopeCommand,
     lines: &[Text],
-) -> Result<Outcome, AllocError> {
+) -> io::Result<u8> {
     let around = surroundings_of(host, alloc, of.has_user)?;
     let mut keeper = HostLines {
         host,
         into: into_of(of),
     };
-    let made = definitions_of(host, alloc, &mut keeper, lines, &around);
+    let ended = cron_ended(host, alloc, &mut keeper, lines, &around);
     drop(around);
-    made
+    ended
 }
 
 fn into_of(of: &ScopeCommand) -> Option<&str> {
@@ -104,36 +101,36 @@ fn into_of(of: &ScopeCommand) -> Option<&str> {
 }
 
 // The property lists that the words name, as JSON.
-fn of_lists(host: &HostRuntime, alloc: Global, of: &ScopeCommand) -> Result<Outcome, AllocError> {
+fn of_lists(host: &HostRuntime, alloc: Global, of: &ScopeCommand) -> io::Result<u8> {
     let mut source = HostFiles { host };
     let paths = of.words.as_slice();
-    lists_as_json(host, alloc, &mut source, paths, LINE_LIMIT, into_of(of))
+    plist_ended(host, alloc, &mut source, paths, LINE_LIMIT, into_of(of))
 }
 
 // What is told of definitions in the zone that the words name, as of the second that they name, or of now.
-fn by_zone(host: &HostRuntime, alloc: Global, of: &ScopeCommand) -> Result<Outcome, AllocError> {
+fn by_zone(host: &HostRuntime, alloc: Global, of: &ScopeCommand) -> io::Result<u8> {
     let Some(named) = zone_of(host, alloc, &of.zone, of.is_utc)? else {
-        return Ok(Outcome::failed(alloc, BAD_FILE));
+        return Ok(BAD_FILE);
     };
     let second = match of.from {
         Some(second) => Some(second.min(MAX_WALL)),
         None => now(host),
     };
-    let made = match second {
-        Some(second) => made_of(host, alloc, of, &named, second),
-        None => Ok(Outcome::failed(alloc, BAD_CLOCK)),
+    let ended = match second {
+        Some(second) => ended_by(host, alloc, of, &named, second),
+        None => Ok(BAD_CLOCK),
     };
     drop(named);
-    made
+    ended
 }
 
-fn made_of(
+fn ended_by(
     host: &HostRuntime,
     alloc: Global,
     of: &ScopeCommand,
     named: &Named,
     from: u64,
-) -> Result<Outcome, AllocError> {
+) -> io::Result<u8> {
     let asked = Asked {
         longest: LINE_LIMIT,
         zone: &named.zone,
@@ -143,15 +140,15 @@ fn made_of(
     let files = files_at(host, of.words.as_slice())?;
     let mut source = HostFiles { host };
     let listed = files.as_slice();
-    let made = match of.task {
-        Task::Check => check_files(host, alloc, &mut source, listed, &asked, of.is_strict),
+    let ended = match of.task {
+        Task::Check => check_ended(host, alloc, &mut source, listed, &asked, of.is_strict),
         _ => {
             let count = of.count.unwrap_or(COUNT);
-            coming_starts(host, alloc, &mut source, listed, &asked, count)
+            next_ended(host, alloc, &mut source, listed, &asked, count)
         }
     };
     drop(files);
-    made
+    ended
 }
 
 // The help goes to the standard output, and what is wrong with the words to the standard error.

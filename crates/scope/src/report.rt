@@ -13,17 +13,20 @@ use crate::journal::source::{INPUT, journal_path, read_journal, tell_bad};
 use crate::listener::{JournalListener, zone_shown};
 use crate::log::follow;
 use crate::page::coming_of;
+use crate::texts::log::is_named;
 use crate::texts::runs::runs_table;
 use crate::texts::show::show_text;
 use crate::texts::unknown::unknown_text;
 use crate::texts::why::{is_known, why_text};
 use crate::writer::writer_of;
 use calendar_due::Zone;
+use definition_files::check::put_seen;
 use exit_status::BAD_FILE;
 use history_model::Text;
 use launchctl_words::{ScopeCommand, Task};
 use run_times::picture::{Beside, Chart, blocks_text, picture_piece};
 use run_times::telling::{put_made, put_outcome, tell_of};
+use run_times::{Ink, Piece};
 use std::alloc::Global;
 use std::io::IsTerminal;
 use std::sync::Wait;
@@ -151,7 +154,11 @@ fn write_report(
         _ => Ok(()),
     };
     match (written, of.task) {
-        (Ok(()), Task::Why) => tell_unknown(host, alloc, name, journal, labels),
+        (Ok(()), Task::Why) => {
+            let status = tell_unknown(host, alloc, name, journal, labels)?;
+            put_now(host, alloc, journal, labels)?;
+            Ok(status)
+        }
         (Ok(()), Task::Show) => tell_absent(host, name, journal, labels),
         (Ok(()), _) => Ok(0),
         (Err(error), _) => Err(error),
@@ -170,6 +177,33 @@ fn put_runs(
     }
     let now = journal.table.reading();
     put_made(host, runs_table(alloc, &journal.past, now, labels))
+}
+
+// What is seen now of what a start of a job needs, of each whose last start was refused. It comes last: a path on a file system that hangs
+// silences nothing that the journal tells.
+fn put_now(
+    host: &HostRuntime,
+    alloc: Global,
+    journal: &OpenJournal,
+    labels: &[Text],
+) -> io::Result<()> {
+    for (label, job) in &journal.past.jobs {
+        let label = label.as_str();
+        if let (Some(def), Some(_), true) = (
+            &job.def,
+            &job.record.refused,
+            is_named(labels, label),
+        ) {
+            let mut ink = Ink::new(alloc);
+            ink.fill(
+                "\n$, whose last start was refused:\n",
+                &[Piece::Text(label)],
+            );
+            put_made(host, ink.into_text())?;
+            put_seen(host, alloc, def)?;
+        }
+    }
+    Ok(())
 }
 
 // Tells each of the labels that nothing in the journal has. It answers the exit status, which is 65 then.

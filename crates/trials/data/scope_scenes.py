@@ -333,8 +333,27 @@ def jobscope_journal(stage):
 DRAWN = ("three_runs", "killed", "live_end")
 
 
+def a_long_journal(stage):
+    """A picture has each of 140,000 runs, from the first to the last: more than could be kept one by one."""
+    count, wall = 140_000, 1795611777
+    path = stage.at("long_journal")
+    with open(path, "w", encoding="utf-8") as journal:
+        journal.write(HEADER + json.dumps({"ev": "load", "def": '{"Label": "r", "Program": "/bin/r", "ThrottleInterval": 0}'}) + "\n")
+        for run in range(1, count + 1):
+            journal.write('{"ev":"start","job":"r"}\n' + f'{{"ev":"spawned","job":"r","run":{run},"pid":5}}\n')
+            journal.write(f'{{"ev":"clock","up":{1000 * run},"wall":{wall + run}}}\n' + f'{{"ev":"ended","job":"r","run":{run},"code":0}}\n')
+    it = subprocess.run([*stage.given.jobscope, "picture", "--journal", path], capture_output=True, timeout=LONGEST, text=True)
+    os.remove(path)
+    check((it.returncode, it.stderr) == (0, ""), f"a long journal: {it.returncode} {it.stderr!r}")
+    drawn = [int(runs) for runs in re.findall('data-runs="([0-9]+)"', it.stdout)]
+    check(sum(drawn) == count, f"{count} runs began, and {sum(drawn)} are drawn")
+    check(100 < len(drawn) < 2000, f"they stand in {len(drawn)} bars")
+    check("from run 1 on" in it.stdout and "Not drawn" not in it.stdout, "the first run is not drawn, or some are told as not drawn")
+
+
 def jobscope_pictures(stage):
-    """The SVG, the page and the terminal's blocks show each run of a journal, from its begin to its end, and no other."""
+    """The SVG, the page and the terminal's blocks show each run of a journal, from its begin to its end, and no other. A long one is drawn whole."""
+    a_long_journal(stage)
     for name in DRAWN:
         faults = list(faults_of(stage.given.jobscope, os.path.join(HERE, "scope", "journal", f"{name}.jsonl")))
         check(not faults, f"{name}: {'; '.join(faults)}")

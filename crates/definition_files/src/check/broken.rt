@@ -7,8 +7,7 @@ use json_kinds::json_value;
 use run_times::Ink;
 use std::alloc::Global;
 
-const XML: &str =
-    "a property list in XML; convert it with: python3 -c 'import plistlib,json,sys; json.dump(plistlib.load(sys.stdin.buffer),sys.stdout)' < FILE > FILE.json";
+const XML: &str = "a property list in XML; write it as JSON with: jobscope plist FILE > FILE.json";
 
 const BINARY: &str =
     "a binary property list; convert it with: python3 -c 'import plistlib,json,sys; json.dump(plistlib.load(sys.stdin.buffer),sys.stdout)' < FILE > FILE.json";

@@ -9,11 +9,13 @@ use crate::check::outline::outline_of;
 use crate::check::remarks::Remarks;
 use crate::check::sockets::add_sockets;
 use crate::check::there::add_missing;
-use crate::check::{Change, Checked, Grade, Remark, changes_ahead, check_def, summary_of};
+use crate::check::{Change, Checked, Grade, Place, Remark, changes_ahead, check_def, summary_of};
 use crate::files::{Asked, Contents, DefinitionSource};
+use crate::folder::laid_out;
+use crate::lists::json_of_list;
 use crate::verdict::{Verdict, Verdicts};
 use files_and_process::path_files::Found;
-use history_model::KeyName;
+use history_model::{KeyName, Reason};
 use job_defs::Def;
 use run_times::Ink;
 use run_times::Piece::Text;
@@ -178,18 +180,133 @@ fn check_bytes(
             }
         }
         Checked::Refused {
+            reason,
             place,
             text,
             further,
             ..
         } => {
-            let lines = lines_of(alloc, path, bytes);
-            lines.put(place, Grade::Error, text.as_str(), &mut findings.ink);
-            lines.put_all(further.as_slice(), &mut findings.ink);
-            drop(lines);
-            Ok(Verdict::Refused)
+            put_refused(alloc, path, bytes, place, text, further, &mut findings.ink);
+            let added = match reason {
+                Reason::NotJson => add_list(host, alloc, path, bytes, changes, findings),
+                _ => Ok(()),
+            };
+            match added {
+                Ok(()) => Ok(Verdict::Refused),
+                Err(error) => Err(error),
+            }
         }
     }
+}
+
+// Adds the lines of a definition that is refused.
+fn put_refused(
+    alloc: Global,
+    path: &str,
+    bytes: &[u8],
+    place: Option<Place>,
+    text: String,
+    further: Vec<Remark>,
+    ink: &mut Ink,
+) {
+    let lines = lines_of(alloc, path, bytes);
+    lines.put(place, Grade::Error, text.as_str(), ink);
+    lines.put_all(further.as_slice(), ink);
+    drop(lines);
+    drop(text);
+    drop(further);
+}
+
+// If the bytes are a property list in XML: adds what is said of the JSON that `jobscope plist` writes of it, with the places in that.
+fn add_list(
+    host: &HostRuntime,
+    alloc: Global,
+    path: &str,
+    bytes: &[u8],
+    changes: &[Change],
+    findings: &mut Findings,
+) -> Result<(), AllocError> {
+    let Some(made) = json_of_list(alloc, bytes)? else {
+        return Ok(());
+    };
+    let shown = laid_out(alloc, std::str::from_utf8(made.as_slice()).unwrap_or(""));
+    drop(made);
+    match shown {
+        Ok(shown) => {
+            let added = add_shown(host, alloc, path, shown.as_slice(), changes, findings);
+            drop(shown);
+            added
+        }
+        Err(error) => Err(error),
+    }
+}
+
+// Adds what is said of the JSON that a property list at the path is.
+fn add_shown(
+    host: &HostRuntime,
+    alloc: Global,
+    path: &str,
+    shown: &[u8],
+    changes: &[Change],
+    findings: &mut Findings,
+) -> Result<(), AllocError> {
+    let mut named = Ink::new(alloc);
+    named.put_all(&[Text(path), Text(" as JSON")]);
+    let named = named.into_text()?;
+    let checked = check_def(alloc, shown, changes);
+    let verdict = match &checked {
+        Ok(Checked::Loads { .. }) => "ok",
+        _ => "refused",
+    };
+    findings.ink.fill(
+        "$: note: it is a property list in XML: as JSON (jobscope plist) it would be $\n",
+        &[Text(path), Text(verdict)],
+    );
+    let added = match checked {
+        Ok(
+            Checked::Loads {
+                def,
+                mistakes,
+                remarks,
+            },
+        ) => {
+            drop(mistakes);
+            let added = add_definition(
+                host,
+                alloc,
+                named.as_str(),
+                shown,
+                &def,
+                &remarks,
+                findings,
+            );
+            drop(remarks);
+            drop(def);
+            added
+        }
+        Ok(
+            Checked::Refused {
+                place,
+                text,
+                further,
+                ..
+            },
+        ) => {
+            put_refused(
+                alloc,
+                named.as_str(),
+                shown,
+                place,
+                text,
+                further,
+                &mut findings.ink,
+            );
+            Ok(())
+        }
+        Err(error) => Err(error),
+    };
+    drop(named);
+    added
 }
 
 // Adds what is found of a definition that loads, behind the remarks on its text.

@@ -7,6 +7,7 @@ use job_defs::{Address, Def};
 use json_kinds::key_name;
 use run_times::Ink;
 use run_times::Piece::Text;
+use run_times::telling::put_made;
 use std::alloc::Global;
 use std::fs::metadata;
 use std::io;
@@ -42,10 +43,12 @@ pub(crate) enum Found {
     Nothing,
 }
 
-/// Adds a warning for each file or folder that the definition names by a path from the root, and that is not there, or is not what it
-/// has to be.
-pub(crate) fn add_missing(host: &HostRuntime, def: &Def, remarks: &mut Remarks<'_>) {
-    let keys = [
+/// A key, the path that it names, and what is to stand there.
+type Named<'a> = (KeyName, Option<&'a str>, Wanted);
+
+// What a start needs, in the order in which it is looked for.
+fn needed(def: &Def) -> [Named<'_>; 5] {
+    [
         (KeyName::Program, Some(def.program()), Wanted::Program),
         (
             KeyName::WorkingDirectory,
@@ -67,7 +70,52 @@ pub(crate) fn add_missing(host: &HostRuntime, def: &Def, remarks: &mut Remarks<'
             def.standard_error_path(),
             Wanted::Output,
         ),
-    ];
+    ]
+}
+
+/// Writes a line for each path from the root that a start of the definition needs, and that is not there now or is not what it has to be; one
+/// line that says so if there is none. Each line is written before the next path is looked at, so that one on a file system that hangs
+/// silences no other. An error is of the standard output, or of memory.
+pub fn put_seen(host: &HostRuntime, alloc: Global, def: &Def) -> io::Result<()> {
+    let mut is_well = true;
+    let keys = needed(def);
+    for (_, path, wanted) in keys.iter() {
+        let mut ink = Ink::new(alloc);
+        add_wrong(host, alloc, path.unwrap_or(""), *wanted, &mut ink);
+        match ink.into_text() {
+            Ok(told) => {
+                let written = put_line(host, alloc, told.as_str());
+                is_well = is_well && told.is_empty();
+                drop(told);
+                written?;
+            }
+            Err(_) => return Err(io::Error::from(ErrorKind::OutOfMemory)),
+        }
+    }
+    if is_well {
+        return put_line(
+            host,
+            alloc,
+            "each path from the root that its start needs is there",
+        );
+    }
+    Ok(())
+}
+
+// Writes the line that tells what is seen now; none if there is nothing to tell.
+fn put_line(host: &HostRuntime, alloc: Global, told: &str) -> io::Result<()> {
+    if told.is_empty() {
+        return Ok(());
+    }
+    let mut ink = Ink::new(alloc);
+    ink.fill("  Now: $.\n", &[Text(told)]);
+    put_made(host, ink.into_text())
+}
+
+/// Adds a warning for each file or folder that the definition names by a path from the root, and that is not there, or is not what it
+/// has to be.
+pub(crate) fn add_missing(host: &HostRuntime, def: &Def, remarks: &mut Remarks<'_>) {
+    let keys = needed(def);
     for (key, path, wanted) in keys.iter() {
         add_of(host, *key, path.unwrap_or(""), *wanted, remarks);
     }

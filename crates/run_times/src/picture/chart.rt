@@ -1,10 +1,10 @@
 //! What a chart shows: a row for each job, with its runs as bars, and with the demands, throttles and refusals as marks.
 
-ghost use Rattle.std.specs.Prelude.{◌≡◌, ◌≤◌, ◌↔◌, ◌+◌, ℕ, OnOk, IfSome};
+ghost use Rattle.std.specs.Prelude.{◌≡◌, ◌≤◌, ◌↔◌, ◌+◌, ℕ, [], OnOk, IfSome};
 ghost use Rattle.run_times.specs.Bars.{Covers, IsAdded, Joins, WasThere, bar_end, runs_in};
 
 use crate::picture::axis::Axis;
-use std::alloc::AllocError;
+use std::alloc::{AllocError, Global};
 
 /// How a run stands or ended.
 #[derive(Clone, Copy)]
@@ -133,41 +133,123 @@ fn joined(axis: &Axis, last: Bar, next: Bar) -> Option<Bar>
     })
 }
 
-// Adds a moment; those of one place stand together.
-fn add_moment(marks: &mut Vec<Mark>, axis: &Axis, at: u64) -> Result<(), AllocError> {
+// Adds a bar behind the others. One that lies whole in the place of the last is joined to it.
+#[tactic(auto, using(crate::proofs::BarsLemmas::one_more))]
+fn add_bar(bars: &mut Vec<Bar>, axis: &Axis, bar: Bar) -> Result<(), AllocError>
+    ensures runs { OnOk result (runs_in bars.new.items ≡ runs_in bars.old.items + bar.runs) }
+    ensures added { OnOk result (IsAdded axis.now bar bars.old.items bars.new.items) }
+{
+    let mut next = bar;
+    if let Some(last) = bars.pop() {
+        match joined(axis, last, bar) {
+            Some(joined) => next = joined,
+            None => bars.push(last)?,
+        }
+    }
+    Ok(bars.push(next)?)
+}
+
+// Adds each of the bars.
+fn add_bars(bars: &mut Vec<Bar>, axis: &Axis, others: &[Bar]) -> Result<(), AllocError>
+    ensures { OnOk result (runs_in bars.new.items ≡ runs_in bars.old.items + runs_in others.now) }
+{
+    for bar in others {
+        match add_bar(bars, axis, *bar) {
+            Ok(()) => {}
+            Err(error) => return Err(error),
+        }
+    }
+    Ok(())
+}
+
+// Adds a mark; those of one place stand together.
+fn add_mark(marks: &mut Vec<Mark>, axis: &Axis, mark: Mark) -> Result<(), AllocError> {
     if let Some(last) = marks.last_mut() {
-        if axis.place(last.at) == axis.place(at) {
-            last.count = last.count.saturating_add(1);
+        if axis.place(last.at) == axis.place(mark.at) {
+            last.count = last.count.saturating_add(mark.count);
             return Ok(());
         }
     }
-    Ok(marks.push(Mark { at, count: 1 })?)
+    Ok(marks.push(mark)?)
+}
+
+// Adds each of the marks.
+fn add_marks(marks: &mut Vec<Mark>, axis: &Axis, others: &[Mark]) -> Result<(), AllocError> {
+    for mark in others {
+        add_mark(marks, axis, *mark)?;
+    }
+    Ok(())
 }
 
 impl Row {
+    /// A row of the label, with nothing in it.
+    pub fn new(alloc: Global, label: String) -> Row
+        ensures { result.bars.items ≡ [] }
+    {
+        Row {
+            label,
+            bars: Vec::new(alloc),
+            demands: Vec::new(alloc),
+            throttles: Vec::new(alloc),
+            refusals: Vec::new(alloc),
+        }
+    }
+
     /// Adds a run. Runs that lie whole in one place of the axis stand together in one bar, so that no more bars are kept than can
     /// be seen; none is lost.
-    #[tactic(auto, using(crate::proofs::BarsLemmas::one_more))]
     pub fn add(&mut self, axis: &Axis, bar: Bar) -> Result<(), AllocError>
         ensures runs { OnOk result (runs_in self.new.bars.items ≡ runs_in self.old.bars.items + bar.runs) }
         ensures added { OnOk result (IsAdded axis.now bar self.old.bars.items self.new.bars.items) }
     {
-        let mut next = bar;
-        if let Some(last) = self.bars.pop() {
-            match joined(axis, last, bar) {
-                Some(joined) => next = joined,
-                None => self.bars.push(last)?,
-            }
-        }
-        Ok(self.bars.push(next)?)
+        add_bar(&mut self.bars, axis, bar)
     }
 
     /// Adds a mark. Those of one kind and one place stand together.
-    pub fn mark(&mut self, axis: &Axis, kind: MarkKind, at: u64) -> Result<(), AllocError> {
+    pub fn mark(&mut self, axis: &Axis, kind: MarkKind, mark: Mark) -> Result<(), AllocError> {
         match kind {
-            MarkKind::Demand => add_moment(&mut self.demands, axis, at),
-            MarkKind::Throttle => add_moment(&mut self.throttles, axis, at),
-            MarkKind::Refusal => add_moment(&mut self.refusals, axis, at),
+            MarkKind::Demand => add_mark(&mut self.demands, axis, mark),
+            MarkKind::Throttle => add_mark(&mut self.throttles, axis, mark),
+            MarkKind::Refusal => add_mark(&mut self.refusals, axis, mark),
         }
+    }
+
+    /// Adds the bars and the marks of another row, each as by `add` and `mark`: no run is lost.
+    pub fn add_all(&mut self, axis: &Axis, other: &Row) -> Result<(), AllocError>
+        ensures runs { OnOk result (runs_in self.new.bars.items ≡ runs_in self.old.bars.items + runs_in other.now.bars.items) }
+    {
+        add_marks(&mut self.demands, axis, other.demands.as_slice())?;
+        add_marks(&mut self.throttles, axis, other.throttles.as_slice())?;
+        add_marks(&mut self.refusals, axis, other.refusals.as_slice())?;
+        add_bars(&mut self.bars, axis, other.bars.as_slice())
+    }
+
+    /// How many runs its bars stand for.
+    pub fn runs(&self) -> u64 {
+        let mut runs: u64 = 0;
+        for bar in &self.bars {
+            runs = runs.saturating_add(u64::from(bar.runs));
+        }
+        runs
+    }
+
+    /// How many moments its marks stand for.
+    pub fn moments(&self) -> u64 {
+        let mut moments: u64 = 0;
+        for marks in [&self.demands, &self.throttles, &self.refusals] {
+            for mark in marks {
+                moments = moments.saturating_add(u64::from(mark.count));
+            }
+        }
+        moments
+    }
+
+    /// How many bars and marks it has.
+    pub(crate) fn size(&self) -> usize {
+        let marks = self
+            .demands
+            .len()
+            .saturating_add(self.throttles.len())
+            .saturating_add(self.refusals.len());
+        self.bars.len().saturating_add(marks)
     }
 }

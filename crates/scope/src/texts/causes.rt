@@ -1,6 +1,6 @@
 //! What stands behind the first words of the line of a cause.
 
-use crate::journal::job::JobRequest;
+use crate::journal::job::{JobRequest, Record};
 use crate::journal::telling::JobCause;
 use crate::texts::by_facts::{OrderWhen, ThrottleBy, kill_when, term_when, throttle_by};
 use crate::texts::coming::ways_said;
@@ -10,9 +10,10 @@ use crate::texts::told::{
 use crate::texts::words::{asked_name, demand_words};
 use history_model::{DemandKind, Reading, StandingChild};
 use run_times::Filling::{Coming, Number, Span, Text, Time};
+use run_times::coming_second;
 
 /// The sentences that end the line of a cause which names no path.
-pub(crate) fn sentences_of(told: &ToldJob<'_>, cause: JobCause) -> Sentences<'static> {
+pub(crate) fn sentences_of<'a>(told: &ToldJob<'a>, cause: JobCause) -> Sentences<'a> {
     match cause {
         JobCause::Removing => removing_said(told.asked),
         JobCause::Child(child) => child_said(told, child),
@@ -117,10 +118,26 @@ fn throttle_said(told: &ToldJob<'_>, up: u64) -> Sentences<'static> {
         ThrottleBy::Unknown => ("$ (in $).", 0),
     };
     let left = up.saturating_sub(told.at.up);
+    let end = Time(throttle_end(told.job, throttle, up, told.at));
     let throttle = Number(u64::from(throttle));
     let mut said = [SILENCE; MOST_SENTENCES];
-    said[0] = (form, [Coming(up), Span(left), Time(wall), throttle]);
+    said[0] = (form, [end, Span(left), Time(wall), throttle]);
     said
+}
+
+/// The second of `wall` that is shown for the end of a job's throttle at this `up`. It is counted from the start by which the job is throttled,
+/// so that it is the same whenever it is told; from the present reading, if that start is not kept, or if a clock was set since.
+pub(crate) fn throttle_end(job: &Record, throttle: u32, up: u64, now: Reading) -> u64 {
+    let from_now = coming_second(now, up);
+    let from_start = match throttle_by(job.ordered, job.refused_at(), throttle, up) {
+        ThrottleBy::Order(at) | ThrottleBy::Refusal(at) => coming_second(at, up),
+        ThrottleBy::Unknown => from_now,
+    };
+    if from_start.abs_diff(from_now) <= 1 {
+        from_start
+    } else {
+        from_now
+    }
 }
 
 fn demand_form(told: &ToldJob<'_>) -> &'static str {

@@ -5,14 +5,16 @@ use crate::texts::told::{
     CalendarNext, MOST_SENTENCES, NONE, SILENCE, Sentence, Sentences, ToldJob, said_if,
 };
 use calendar_due::{Calendar, Zone};
-use history_model::{Entry, MAX_WALL};
-use run_times::Filling::{Coming, Minute, Number, Text};
+use history_model::{Entry, MAX_WALL, Text};
+use job_defs::PathState;
+use run_times::Filling;
+use run_times::Filling::{Coming, Minute, Number};
 
 /// How far is looked ahead, in seconds: 400 days.
 pub(crate) const FARTHEST: u64 = 34_560_000;
 
 /// Why its conditions do not want it, and the ways by which it comes to be wanted. Of a job that can't start again nothing is said.
-pub(crate) fn ways_said(told: &ToldJob<'_>) -> Sentences<'static> {
+pub(crate) fn ways_said<'a>(told: &ToldJob<'a>) -> Sentences<'a> {
     let mut said = [SILENCE; MOST_SENTENCES];
     if !can_start_again(&told.facts.reasons) {
         return said;
@@ -23,18 +25,17 @@ pub(crate) fn ways_said(told: &ToldJob<'_>) -> Sentences<'static> {
     said[2] = said_if(true, " It will be wanted");
     said[3] = calendar_said(told.calendar);
     said[4] = interval_said(told.keys.start_interval, told.facts.moments.interval);
-    said[5] = said_if(
-        told.keys.has_watch_paths,
-        " once a path of WatchPaths changes,",
+    said[5] = paths_said(
+        told.keys.watch_paths,
+        " once $ changes (WatchPaths),",
+        " once $ changes, or another of the $ paths of WatchPaths,",
     );
-    said[6] = said_if(
-        told.keys.has_queue_directories,
-        " once a folder of QueueDirectories has an entry,",
+    said[6] = paths_said(
+        told.keys.queue_directories,
+        " once $ has an entry (QueueDirectories),",
+        " once $ has an entry, or another of the $ folders of QueueDirectories,",
     );
-    said[7] = said_if(
-        !told.keys.path_state.is_empty(),
-        " once a path of KeepAlive PathState is as it says,",
-    );
+    said[7] = conditions_said(told.keys.path_state);
     said[8] = said_if(
         told.keys.has_sockets,
         " once a connection comes to its sockets,",
@@ -45,8 +46,46 @@ pub(crate) fn ways_said(told: &ToldJob<'_>) -> Sentences<'static> {
     } else {
         " by `jobctl $`."
     };
-    said[9] = (form, [Text(word), NONE, NONE, NONE]);
+    said[9] = (form, [Filling::Text(word), NONE, NONE, NONE]);
     said
+}
+
+// By which path it comes to be wanted: the form for one path alone, or that for the first of several.
+fn paths_said<'a>(paths: &'a [Text], one: &'static str, first: &'static str) -> Sentence<'a> {
+    match paths {
+        [] => SILENCE,
+        [path] => (one, [Filling::Text(path.as_str()), NONE, NONE, NONE]),
+        [path, ..] => (
+            first,
+            [
+                Filling::Text(path.as_str()),
+                Number(paths.len() as u64),
+                NONE,
+                NONE,
+            ],
+        ),
+    }
+}
+
+// By which condition of `PathState`.
+fn conditions_said<'a>(conditions: &'a [PathState]) -> Sentence<'a> {
+    let Some(first) = conditions.first() else {
+        return SILENCE;
+    };
+    let form = match (first.present, conditions.len()) {
+        (true, 1) => " once $ exists (KeepAlive PathState),",
+        (false, 1) => " once $ is not there (KeepAlive PathState),",
+        (true, _) =>
+            " once $ exists, or another of the $ paths of KeepAlive PathState is as it says,",
+        (false, _) => {
+            " once $ is not there, or another of the $ paths of KeepAlive PathState is as it says,"
+        }
+    };
+    let count = Number(conditions.len() as u64);
+    (
+        form,
+        [Filling::Text(first.path.as_str()), count, NONE, NONE],
+    )
 }
 
 // Whether something but a client can want it.
@@ -54,8 +93,8 @@ fn has_way(told: &ToldJob<'_>) -> bool {
     let keys = &told.keys;
     keys.has_calendar
         || told.facts.moments.interval.is_some()
-        || keys.has_watch_paths
-        || keys.has_queue_directories
+        || !keys.watch_paths.is_empty()
+        || !keys.queue_directories.is_empty()
         || !keys.path_state.is_empty()
         || keys.has_sockets
 }

@@ -1,14 +1,16 @@
 //! The journal for people: a line for each event that matters.
 
+use crate::journal::job::KeptJob;
 use crate::journal::news::{News, What};
 use crate::journal::reader::OpenJournal;
 use crate::journal::run::JobRun;
 use crate::journal::waiting::Wait;
+use crate::texts::causes::throttle_end;
 use crate::texts::words::{asked_name, demand_words, end_words, refusal_name, refusal_words};
-use history_model::{DemandKind, Refusal, Wants};
+use history_model::{DemandKind, Reading, Refusal, Wants};
 use pace::Signal;
-use run_times::Filling::{Coming, Now, Number, Span, Text};
-use run_times::{Filling, Page};
+use run_times::Filling::{Now, Number, Span, Text, Time};
+use run_times::{Filling, Page, coming_second};
 
 /// What ends the line of the third end in turn that is odd.
 const BACKGROUND: &str =
@@ -38,13 +40,39 @@ pub(crate) fn add_lines(
                 What::Ordered { .. } => journal.table.path_that_holds(label),
                 _ => None,
             };
-            add_news(page, news, path);
+            let until = until_of(journal, news, page.now);
+            add_news(page, news, path, until);
         }
     }
 }
 
-// The path is that which holds its job wanted, if what is told is an order of a start.
-fn add_news(page: &mut Page<'_>, news: &News, path: Option<&str>) {
+// The second at which the throttle is over for whose end the job waits; 0, if it waits for none.
+fn until_of(journal: &OpenJournal, news: &News, now: Reading) -> u64 {
+    let up = match news.what {
+        What::NotBegun {
+            wait: Wait::Throttled(up),
+            ..
+        } => up,
+        What::Ended {
+            wait: Wait::Throttled(up),
+            ..
+        } => up,
+        _ => return 0,
+    };
+    match journal.past.jobs.get(news.label.as_str()) {
+        Some(
+            KeptJob {
+                def: Some(def),
+                record,
+                ..
+            },
+        ) => throttle_end(record, def.throttle_interval(), up, now),
+        _ => coming_second(now, up),
+    }
+}
+
+// The path is that which holds its job wanted, if what is told is an order of a start; until then its throttle lasts, if it waits for that.
+fn add_news(page: &mut Page<'_>, news: &News, path: Option<&str>, until: u64) {
     let label = news.label.as_str();
     let front = if label.is_empty() { "$  " } else { "$  $: " };
     page.add(front, &[Now, Text(label)]);
@@ -62,7 +90,7 @@ fn add_news(page: &mut Page<'_>, news: &News, path: Option<&str>) {
         What::Ended { run, .. } => add_ended(page, run),
         what => add_what(page, what),
     }
-    add_wait(page, &news.what);
+    add_wait(page, &news.what, until);
 }
 
 fn add_refused(page: &mut Page<'_>, refusal: Refusal) {
@@ -146,23 +174,23 @@ fn add_ended(page: &mut Page<'_>, run: &JobRun) {
 }
 
 // The wait that follows, and the line's end.
-fn add_wait(page: &mut Page<'_>, what: &What) {
-    let (form, until) = match what {
+fn add_wait(page: &mut Page<'_>, what: &What, until: u64) {
+    let form = match what {
         What::NotBegun { wait, .. } | What::Ended { wait, .. } => wait_words(wait),
-        _ => ("", 0),
+        _ => "",
     };
-    page.add(form, &[Coming(until)]);
+    page.add(form, &[Time(until)]);
     page.ink.put(match what {
         What::Ended { is_odd: true, .. } => BACKGROUND,
         _ => "\n",
     });
 }
 
-fn wait_words(wait: &Wait) -> (&'static str, u64) {
+fn wait_words(wait: &Wait) -> &'static str {
     match *wait {
-        Wait::Unwanted => ("; nothing wants it", 0),
-        Wait::Throttled(up) => ("; it waits until $ (throttled)", up),
-        Wait::Leaves | Wait::Other => ("", 0),
+        Wait::Unwanted => "; nothing wants it",
+        Wait::Throttled(_) => "; it waits until $ (throttled)",
+        Wait::Leaves | Wait::Other => "",
     }
 }
 

@@ -11,13 +11,13 @@ ghost use Rattle.run_times.specs.Told.{IsTold};
 ghost use Rattle.scope.specs.declared.texts.coming.TheConstants.{FARTHEST};
 ghost use Rattle.scope.specs.Ages.{ComesSince, StartsSo, reasons_then};
 
-use crate::journal::facts::JobFacts;
 use crate::texts::coming::FARTHEST;
 use calendar_due::Zone;
 use history_model::{Entry, Reading, Reasons};
 use job_table::Moments;
 use run_times::Filling::{Text, Time};
 use run_times::{Page, coming_second, next_run};
+use status_file::JobFacts;
 
 /// When the clocks alone start a job, by seconds of `wall`.
 #[derive(Clone, Copy)]
@@ -95,7 +95,8 @@ pub(crate) fn reasons_then(reasons: &Reasons, up: u64) -> Reasons
 }
 
 /// Adds when the job starts by the clocks alone, or what came due by them after the last reading and up to now. Of a job that waits for
-/// nothing but to be wanted, a start that comes was told among the ways.
+/// nothing but to be wanted, a start that comes was told among the ways. A start at the end of the throttle, the first of these two seconds, is told
+/// at the second one.
 pub(crate) fn add_coming(
     page: &mut Page<'_>,
     facts: &JobFacts<'_>,
@@ -104,6 +105,7 @@ pub(crate) fn add_coming(
     last: Reading,
     now: Reading,
     is_idle: bool,
+    throttle: Option<(u64, u64)>,
 )
     requires up { last.up ≤ MAX_UP }
     requires wall { last.wall ≤ MAX_WALL }
@@ -119,11 +121,12 @@ pub(crate) fn add_coming(
         StartWhen::Since(at) => {
             page.add(
                 "  By the clocks alone its start has been due since $.\n",
-                &[Time(at)],
+                &[Time(shown(at, throttle))],
             );
         }
         StartWhen::At(at) if !is_idle => {
-            page.add("  It starts at $, if nothing else happens.\n", &[Time(at)]);
+            let at = Time(shown(at, throttle));
+            page.add("  It starts at $, if nothing else happens.\n", &[at]);
         }
         _ => {}
     }
@@ -131,6 +134,13 @@ pub(crate) fn add_coming(
     add_since(page, "KILL for its run", kill, last);
     let term = term_since(&facts.moments, last.up, now.up);
     add_since(page, "TERM for its run", term, last);
+}
+
+fn shown(at: u64, throttle: Option<(u64, u64)>) -> u64 {
+    match throttle {
+        Some((end, told)) if end == at => told,
+        _ => at,
+    }
 }
 
 fn add_since(page: &mut Page<'_>, what: &'static str, up: Option<u64>, last: Reading) {

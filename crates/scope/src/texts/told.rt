@@ -1,7 +1,7 @@
 //! What is told of one job, and the sentences that tell it.
 
 use crate::journal::job::{JobRequest, Record};
-use history_model::Reading;
+use history_model::{Reading, Text};
 use job_defs::{Def, PathState};
 use run_times::Filling;
 use status_file::JobFacts;
@@ -74,8 +74,8 @@ pub(crate) struct Keys<'a> {
     /// Both in seconds.
     pub(crate) throttle_interval: u32,
     pub(crate) exit_time_out: u32,
-    pub(crate) has_watch_paths: bool,
-    pub(crate) has_queue_directories: bool,
+    pub(crate) watch_paths: &'a [Text],
+    pub(crate) queue_directories: &'a [Text],
     pub(crate) has_sockets: bool,
 }
 
@@ -90,8 +90,8 @@ impl Keys<'_> {
             has_calendar: !def.calendar().is_empty(),
             throttle_interval: def.throttle_interval(),
             exit_time_out: def.exit_time_out(),
-            has_watch_paths: !def.watch_paths().is_empty(),
-            has_queue_directories: !def.queue_directories().is_empty(),
+            watch_paths: def.watch_paths(),
+            queue_directories: def.queue_directories(),
             has_sockets: def.has_sockets(),
         }
     }

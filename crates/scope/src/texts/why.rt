@@ -1,11 +1,11 @@
 //! Why each job stands as it does, at the journal's end or at a moment before.
 
 use crate::age::{AsOf, add_head, clock_as_of, reading_as_of, within_limits};
-use crate::journal::facts::JobFacts;
 use crate::journal::job::{KeptJob, Record};
 use crate::journal::labels::{DisabledBy, KnownLabel};
 use crate::journal::reader::OpenJournal;
 use crate::texts::cause_lines::add_causes;
+use crate::texts::causes::throttle_end;
 use crate::texts::coming::calendar_next;
 use crate::texts::since::{add_coming, reasons_then};
 use crate::texts::told::{Keys, ToldJob};
@@ -13,7 +13,8 @@ use crate::texts::words::{asked_name, end_words, refusal_words};
 use calendar_due::Zone;
 use history_model::{Reading, Reasons, Refusal};
 use run_times::Filling::{Number, Span, Text, Time};
-use run_times::Page;
+use run_times::{Page, coming_second};
+use status_file::JobFacts;
 use std::alloc::{AllocError, Global};
 
 /// For each loaded job, or for those named: its state, a line for each thing that keeps it from a start or wants it, how it ended
@@ -129,10 +130,28 @@ fn add_job(page: &mut Page<'_>, journal: &OpenJournal, label: &str, job: &KeptJo
     let is_idle = add_causes(page, &told);
     add_past(page, &job.record);
     add_background(page, &job.record);
+    add_inert(page, def.not_acted_on());
     add_label(page, label, journal.past.labels.of(label));
     // Of a job that nothing wants, and that nothing else keeps from a start, the ways by which it comes to start were told.
     let last = within_limits(journal.table.reading());
-    add_coming(page, &facts, entries, &journal.zone, last, clock, is_idle);
+    let end = throttle_shown(&told, &facts, last);
+    add_coming(
+        page,
+        &facts,
+        entries,
+        &journal.zone,
+        last,
+        clock,
+        is_idle,
+        end,
+    );
+}
+
+// The second at which the throttle ends, as the clock counts it, and the one that is told for it.
+fn throttle_shown(told: &ToldJob<'_>, facts: &JobFacts<'_>, last: Reading) -> Option<(u64, u64)> {
+    let up = facts.reasons.throttled_until?;
+    let shown = throttle_end(told.job, told.keys.throttle_interval, up, last);
+    Some((coming_second(last, up), shown))
 }
 
 // The facts, but that a throttle which is over by then is left out.
@@ -175,6 +194,16 @@ fn add_past(page: &mut Page<'_>, job: &Record) {
         let form =
             "  Its last start (run $) was refused, at $. The system's reason stood on the launcher's standard error (journalctl -u jobd).\n";
         page.add(form, &[Number(run.run), Time(run.ended.wall)]);
+    }
+}
+
+// The conditions of `KeepAlive` among the keys that nothing acts on.
+fn add_inert(page: &mut Page<'_>, keys: &[history_model::Text]) {
+    for key in keys {
+        if let Some(condition) = key.as_str().strip_prefix("KeepAlive.") {
+            let form = "  Nothing acts on its KeepAlive $: that never wants it.\n";
+            page.add(form, &[Text(condition)]);
+        }
     }
 }
 

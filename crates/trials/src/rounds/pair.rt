@@ -5,7 +5,6 @@ use crate::memory_stage::{
     ABSENT, Handed, LINES, Launched, PATHS, START, Sights as Seen, Stage, parts_of,
 };
 use crate::rounds::step::{Step, Stream};
-use control_socket::Answers;
 use history_model::{Reading, Reply};
 use jobd::RoundLauncher;
 use launcher::{Host, Input};
@@ -77,7 +76,7 @@ impl<T: SettingStore, E: Handed, W: Write> Pair<T, E, W> {
                 true
             }
             Step::Ask(line) => {
-                let spared = self.spared.answer(alloc, line.as_bytes());
+                let spared = self.spared.answer_line(alloc, line.as_bytes());
                 self.is_alike(alloc, &spared, Input::Line(line.as_bytes()))
             }
             Step::End(label, run, how) => {

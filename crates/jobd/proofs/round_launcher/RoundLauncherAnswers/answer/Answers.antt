@@ -1,11 +1,12 @@
--- A load that was accepted is noted, and the edge hears of the reply.
-use Rattle.std.proofs.Common.{rules}
+-- The edge hears of the reply to the line.
+use Rattle.std.proofs.Common.{ap}
+use Rattle.jobd.specs.Launches.{lent}
 use Rattle.jobd.proofs.round_launcher.RoundLauncherAnswers.answer.Goals as goal
 
 pub returns : goal.returns
 returns g c = record {
-  mid = c.give-reply.new.self;
-  gives = c.give-reply.ensures.gives;
+  mid = c.answer_line-reply.ensures.mid;
+  gives = c.answer_line-reply.ensures.gives;
   edge = c.note_reply.new.self;
-  noted = search rules;
+  noted = ap (lent c.note_reply.new.self) c.answer_line-reply.ensures.noted;
 }
