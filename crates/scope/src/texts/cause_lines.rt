@@ -5,7 +5,9 @@ ghost use Rattle.run_times.specs.Written.{Adds, Grows};
 ghost use Rattle.scope.specs.Fronts.{front_of, TellsCauses, TellsEach};
 
 use crate::journal::telling::{JobCause, causes};
+use crate::texts::by_facts::can_start_again;
 use crate::texts::causes::{path_said, queue_said, sentences_of};
+use crate::texts::coming::{asked_said, conditions_said, queued_said, unmet_said, watched_said};
 use crate::texts::fronts::put_front;
 use crate::texts::told::{Sentence, ToldJob};
 use run_times::Page;
@@ -55,10 +57,29 @@ fn add_end(page: &mut Page<'_>, told: &ToldJob<'_>, cause: JobCause)
     ensures { Grows page.old.ink page.new.ink }
 {
     match cause {
+        JobCause::NotWanted if can_start_again(&told.facts.reasons) => add_ways(page, told),
         JobCause::PathState => add_sentences(page, &path_said(told)),
         JobCause::QueueDirectories => add_sentences(page, &queue_said(told)),
         cause => add_sentences(page, &sentences_of(told, cause)),
     }
+}
+
+// Why its conditions do not want it, and the ways by which it comes to be wanted.
+fn add_ways(page: &mut Page<'_>, told: &ToldJob<'_>)
+    ensures { Grows page.old.ink page.new.ink }
+{
+    add_sentences(page, &unmet_said(told));
+    add_sentence(page, &watched_said(told.keys.watch_paths));
+    add_sentence(page, &queued_said(told.keys.queue_directories));
+    add_sentence(page, &conditions_said(told.keys.path_state));
+    add_sentences(page, &asked_said(told));
+}
+
+fn add_sentence(page: &mut Page<'_>, said: &Sentence<'_>)
+    ensures { Grows page.old.ink page.new.ink }
+{
+    let (form, holes) = said;
+    page.add(*form, holes);
 }
 
 fn add_sentences(page: &mut Page<'_>, said: &[Sentence<'_>])

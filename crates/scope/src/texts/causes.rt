@@ -3,7 +3,6 @@
 use crate::journal::job::{JobRequest, Record};
 use crate::journal::telling::JobCause;
 use crate::texts::by_facts::{OrderWhen, ThrottleBy, kill_when, term_when, throttle_by};
-use crate::texts::coming::ways_said;
 use crate::texts::told::{
     MOST_SENTENCES, NONE, SILENCE, Sentence, Sentences, ToldJob, alone, said_if,
 };
@@ -12,13 +11,12 @@ use history_model::{DemandKind, Reading, StandingChild};
 use run_times::Filling::{Coming, Number, Span, Text, Time};
 use run_times::coming_second;
 
-/// The sentences that end the line of a cause which names no path.
-pub(crate) fn sentences_of<'a>(told: &ToldJob<'a>, cause: JobCause) -> Sentences<'a> {
+/// The sentences that end the line of a cause which names no path; of `NotWanted` none.
+pub(crate) fn sentences_of(told: &ToldJob<'_>, cause: JobCause) -> Sentences<'static> {
     match cause {
         JobCause::Removing => removing_said(told.asked),
         JobCause::Child(child) => child_said(told, child),
         JobCause::Throttled(up) => throttle_said(told, up),
-        JobCause::NotWanted => ways_said(told),
         JobCause::LaunchSpent | JobCause::RunsSpent => alone(" Unload it and load it.", NONE, NONE),
         JobCause::Demand => alone(
             demand_form(told),
@@ -28,6 +26,7 @@ pub(crate) fn sentences_of<'a>(told: &ToldJob<'a>, cause: JobCause) -> Sentences
         JobCause::SuccessfulExit => alone(exit_words(told.keys.successful_exit), NONE, NONE),
         JobCause::Crashed => alone(crash_words(told.keys.crashed), NONE, NONE),
         JobCause::Awaited(_)
+        | JobCause::NotWanted
         | JobCause::Connections(_)
         | JobCause::KeepAlive
         | JobCause::PathState

@@ -1,6 +1,6 @@
 //! By what a job that nothing wants will be wanted, in words.
 
-use crate::texts::by_facts::{StartWord, can_start_again, start_word};
+use crate::texts::by_facts::{StartWord, start_word};
 use crate::texts::told::{
     CalendarNext, MOST_SENTENCES, NONE, SILENCE, Sentence, Sentences, ToldJob, said_if,
 };
@@ -13,30 +13,40 @@ use run_times::Filling::{Coming, Minute, Number};
 /// How far is looked ahead, in seconds: 400 days.
 pub(crate) const FARTHEST: u64 = 34_560_000;
 
-/// Why its conditions do not want it, and the ways by which it comes to be wanted. Of a job that can't start again nothing is said.
-pub(crate) fn ways_said<'a>(told: &ToldJob<'a>) -> Sentences<'a> {
-    let mut said = [SILENCE; MOST_SENTENCES];
-    if !can_start_again(&told.facts.reasons) {
-        return said;
-    }
+/// Why its conditions do not want it, and when the clocks will.
+pub(crate) fn unmet_said(told: &ToldJob<'_>) -> Sentences<'static> {
     let has_ended = told.job.last.is_some();
+    let mut said = [SILENCE; MOST_SENTENCES];
     said[0] = said_if(has_ended, exit_unmet(told.keys.successful_exit));
     said[1] = said_if(has_ended, crash_unmet(told.keys.crashed));
     said[2] = said_if(true, " It will be wanted");
     said[3] = calendar_said(told.calendar);
     said[4] = interval_said(told.keys.start_interval, told.facts.moments.interval);
-    said[5] = paths_said(
-        told.keys.watch_paths,
+    said
+}
+
+/// By which of the paths that are watched.
+pub(crate) fn watched_said<'a>(paths: &'a [Text]) -> Sentence<'a> {
+    paths_said(
+        paths,
         " once $ changes (WatchPaths),",
         " once $ changes, or another of the $ paths of WatchPaths,",
-    );
-    said[6] = paths_said(
-        told.keys.queue_directories,
+    )
+}
+
+/// By which of its folders.
+pub(crate) fn queued_said<'a>(folders: &'a [Text]) -> Sentence<'a> {
+    paths_said(
+        folders,
         " once $ has an entry (QueueDirectories),",
         " once $ has an entry, or another of the $ folders of QueueDirectories,",
-    );
-    said[7] = conditions_said(told.keys.path_state);
-    said[8] = said_if(
+    )
+}
+
+/// By its sockets, and by which word of a client.
+pub(crate) fn asked_said(told: &ToldJob<'_>) -> Sentences<'static> {
+    let mut said = [SILENCE; MOST_SENTENCES];
+    said[0] = said_if(
         told.keys.has_sockets,
         " once a connection comes to its sockets,",
     );
@@ -46,7 +56,7 @@ pub(crate) fn ways_said<'a>(told: &ToldJob<'a>) -> Sentences<'a> {
     } else {
         " by `jobctl $`."
     };
-    said[9] = (form, [Filling::Text(word), NONE, NONE, NONE]);
+    said[1] = (form, [Filling::Text(word), NONE, NONE, NONE]);
     said
 }
 
@@ -67,8 +77,8 @@ fn paths_said<'a>(paths: &'a [Text], one: &'static str, first: &'static str) -> 
     }
 }
 
-// By which condition of `PathState`.
-fn conditions_said<'a>(conditions: &'a [PathState]) -> Sentence<'a> {
+/// By which condition of `PathState`.
+pub(crate) fn conditions_said<'a>(conditions: &'a [PathState]) -> Sentence<'a> {
     let Some(first) = conditions.first() else {
         return SILENCE;
     };

@@ -16,7 +16,7 @@ pub(crate) const NONE: Filling<'static> = Filling::Text("");
 pub(crate) const SILENCE: Sentence<'static> = ("", [NONE; 4]);
 
 /// How many sentences a line may have behind its first words.
-pub(crate) const MOST_SENTENCES: usize = 10;
+pub(crate) const MOST_SENTENCES: usize = 6;
 
 /// The sentences of a line, in order.
 pub(crate) type Sentences<'a> = [Sentence<'a>; MOST_SENTENCES];
