@@ -227,19 +227,34 @@ fn put_files<'a>(
     for (index, file) in filed.iter().enumerate() {
         let before = filed.get(..index).unwrap_or(&[]);
         let is_twice = of_label(before, file.label.as_str()).is_some();
-        let keys = match of_label(loaded, file.label.as_str()) {
-            Some(job) => Some(changed_keys(alloc, &file.def, &job.def)?),
-            None => None,
+        let is_other = match of_label(loaded, file.label.as_str()) {
+            _ if is_twice => put_standing(file, Standing::Twice, ink),
+            Some(job) => put_compared(alloc, file, job, ink)?,
+            None => {
+                let standing = absent(alloc, journal, file, filed, loaded, renamed)?;
+                put_standing(file, standing, ink)
+            }
         };
-        let standing = match &keys {
-            _ if is_twice => Standing::Twice,
-            Some(keys) if keys.is_empty() => Standing::Same,
-            Some(keys) => Standing::Changed(keys.as_str()),
-            None => absent(alloc, journal, file, filed, loaded, renamed)?,
-        };
-        differs = put_standing(file, standing, ink) || differs;
-        drop(keys);
+        differs = is_other || differs;
     }
+    Ok(differs)
+}
+
+// Puts the line of a file of whose label this job is loaded. Whether the two differ.
+fn put_compared(
+    alloc: Global,
+    file: &Placed,
+    job: &Placed,
+    ink: &mut Ink,
+) -> Result<bool, AllocError> {
+    let keys = changed_keys(alloc, &file.def, &job.def)?;
+    let standing = if keys.is_empty() {
+        Standing::Same
+    } else {
+        Standing::Changed(keys.as_str())
+    };
+    let differs = put_standing(file, standing, ink);
+    drop(keys);
     Ok(differs)
 }
 

@@ -35,7 +35,7 @@ pub(crate) fn sentences_of<'a>(told: &ToldJob<'a>, cause: JobCause) -> Sentences
     }
 }
 
-fn removing_said(asked: Option<(JobRequest, Reading)>) -> Sentences<'static> {
+fn removing_said<'a>(asked: Option<(JobRequest, Reading)>) -> Sentences<'a> {
     match asked {
         Some((asked, at)) => alone(
             " ($ at $): it is gone once its run has ended.",
@@ -47,7 +47,7 @@ fn removing_said(asked: Option<(JobRequest, Reading)>) -> Sentences<'static> {
 }
 
 // Since when the run lives, and what was asked and ordered for its end.
-fn child_said(told: &ToldJob<'_>, child: StandingChild) -> Sentences<'static> {
+fn child_said<'a>(told: &ToldJob<'_>, child: StandingChild) -> Sentences<'a> {
     let mut said = match &told.job.current {
         Some(run) => alone(
             ", since $ (for $).",
@@ -66,7 +66,7 @@ fn child_said(told: &ToldJob<'_>, child: StandingChild) -> Sentences<'static> {
 
 // Which signals were ordered for the run that lives, and when KILL follows. That it is due, and waits for the answer to TERM, is so of a run
 // that a `kickstart -k` struck.
-fn signals_said(told: &ToldJob<'_>) -> Sentence<'static> {
+fn signals_said<'a>(told: &ToldJob<'_>) -> Sentence<'a> {
     let when = kill_when(&told.facts.moments, told.at.up);
     let (form, at, up) = match (told.job.kill, told.job.term, when) {
         (Some(at), _, _) => (" KILL was ordered at $.", at, 0),
@@ -92,7 +92,7 @@ fn signals_said(told: &ToldJob<'_>) -> Sentence<'static> {
 }
 
 // When TERM is ordered again, which was refused.
-fn term_said(told: &ToldJob<'_>) -> Sentence<'static> {
+fn term_said<'a>(told: &ToldJob<'_>) -> Sentence<'a> {
     match term_when(&told.facts.moments, told.at.up) {
         OrderWhen::At(up) => (
             " TERM could not be sent: it is ordered again at $.",
@@ -103,7 +103,7 @@ fn term_said(told: &ToldJob<'_>) -> Sentence<'static> {
 }
 
 // How long it is throttled, and by which start, if that is known.
-fn throttle_said(told: &ToldJob<'_>, up: u64) -> Sentences<'static> {
+fn throttle_said<'a>(told: &ToldJob<'_>, up: u64) -> Sentences<'a> {
     let throttle = told.keys.throttle_interval;
     let refused = told.job.refused_at();
     let (form, wall) = match throttle_by(told.job.ordered, refused, throttle, up) {

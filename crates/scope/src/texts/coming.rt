@@ -130,7 +130,7 @@ pub(crate) fn calendar_next(entries: &[Entry], zone: &Zone, after: u64) -> Calen
     }
 }
 
-fn calendar_said(next: CalendarNext) -> Sentence<'static> {
+fn calendar_said<'a>(next: CalendarNext) -> Sentence<'a> {
     let (form, wall) = match next {
         CalendarNext::Absent => ("", 0),
         CalendarNext::Far => (
@@ -143,7 +143,7 @@ fn calendar_said(next: CalendarNext) -> Sentence<'static> {
 }
 
 // The moment at which its interval is over, and its seconds.
-fn interval_said(interval: Option<u32>, end: Option<u64>) -> Sentence<'static> {
+fn interval_said<'a>(interval: Option<u32>, end: Option<u64>) -> Sentence<'a> {
     match (interval, end) {
         (Some(seconds), Some(up)) => (
             " at $ (StartInterval is $),",

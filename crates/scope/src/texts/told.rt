@@ -22,7 +22,7 @@ pub(crate) const MOST_SENTENCES: usize = 10;
 pub(crate) type Sentences<'a> = [Sentence<'a>; MOST_SENTENCES];
 
 /// A sentence without holes; nothing, if it does not hold.
-pub(crate) fn said_if(holds: bool, words: &'static str) -> Sentence<'static> {
+pub(crate) fn said_if<'a>(holds: bool, words: &'static str) -> Sentence<'a> {
     (if holds { words } else { "" }, [NONE; 4])
 }
 
