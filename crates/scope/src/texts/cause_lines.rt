@@ -6,6 +6,7 @@ ghost use Rattle.scope.specs.Fronts.{front_of, TellsCauses, TellsEach};
 
 use crate::journal::telling::{JobCause, causes};
 use crate::texts::causes::{path_said, queue_said, sentences_of};
+use crate::texts::coming::ways_said;
 use crate::texts::fronts::put_front;
 use crate::texts::told::{Sentence, ToldJob};
 use run_times::Page;
@@ -57,6 +58,7 @@ fn add_end(page: &mut Page<'_>, told: &ToldJob<'_>, cause: JobCause)
     match cause {
         JobCause::PathState => add_sentences(page, &path_said(told)),
         JobCause::QueueDirectories => add_sentences(page, &queue_said(told)),
+        JobCause::NotWanted => add_sentences(page, &ways_said(told)),
         cause => add_sentences(page, &sentences_of(told, cause)),
     }
 }

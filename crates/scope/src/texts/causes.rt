@@ -3,7 +3,6 @@
 use crate::journal::job::{JobRequest, Record};
 use crate::journal::telling::JobCause;
 use crate::texts::by_facts::{OrderWhen, ThrottleBy, kill_when, term_when, throttle_by};
-use crate::texts::coming::ways_said;
 use crate::texts::told::{
     MOST_SENTENCES, NONE, SILENCE, Sentence, Sentences, ToldJob, alone, said_if,
 };
@@ -12,13 +11,12 @@ use history_model::{DemandKind, Reading, StandingChild};
 use run_times::Filling::{Coming, Number, Span, Text, Time};
 use run_times::coming_second;
 
-/// The sentences that end the line of a cause which names no path.
-pub(crate) fn sentences_of<'a>(told: &ToldJob<'a>, cause: JobCause) -> Sentences<'a> {
+/// The sentences that end the line of a cause that names no path; of `NotWanted` `ways_said` has them.
+pub(crate) fn sentences_of(told: &ToldJob<'_>, cause: JobCause) -> Sentences<'static> {
     match cause {
         JobCause::Removing => removing_said(told.asked),
         JobCause::Child(child) => child_said(told, child),
         JobCause::Throttled(up) => throttle_said(told, up),
-        JobCause::NotWanted => ways_said(told),
         JobCause::LaunchSpent | JobCause::RunsSpent => alone(" Unload it and load it.", NONE, NONE),
         JobCause::Demand => alone(
             demand_form(told),
@@ -27,7 +25,8 @@ pub(crate) fn sentences_of<'a>(told: &ToldJob<'a>, cause: JobCause) -> Sentences
         ),
         JobCause::SuccessfulExit => alone(exit_words(told.keys.successful_exit), NONE, NONE),
         JobCause::Crashed => alone(crash_words(told.keys.crashed), NONE, NONE),
-        JobCause::Awaited(_)
+        JobCause::NotWanted
+        | JobCause::Awaited(_)
         | JobCause::Connections(_)
         | JobCause::KeepAlive
         | JobCause::PathState
@@ -35,7 +34,7 @@ pub(crate) fn sentences_of<'a>(told: &ToldJob<'a>, cause: JobCause) -> Sentences
     }
 }
 
-fn removing_said<'a>(asked: Option<(JobRequest, Reading)>) -> Sentences<'a> {
+fn removing_said(asked: Option<(JobRequest, Reading)>) -> Sentences<'static> {
     match asked {
         Some((asked, at)) => alone(
             " ($ at $): it is gone once its run has ended.",
@@ -47,7 +46,7 @@ fn removing_said<'a>(asked: Option<(JobRequest, Reading)>) -> Sentences<'a> {
 }
 
 // Since when the run lives, and what was asked and ordered for its end.
-fn child_said<'a>(told: &ToldJob<'_>, child: StandingChild) -> Sentences<'a> {
+fn child_said(told: &ToldJob<'_>, child: StandingChild) -> Sentences<'static> {
     let mut said = match &told.job.current {
         Some(run) => alone(
             ", since $ (for $).",
@@ -66,7 +65,7 @@ fn child_said<'a>(told: &ToldJob<'_>, child: StandingChild) -> Sentences<'a> {
 
 // Which signals were ordered for the run that lives, and when KILL follows. That it is due, and waits for the answer to TERM, is so of a run
 // that a `kickstart -k` struck.
-fn signals_said<'a>(told: &ToldJob<'_>) -> Sentence<'a> {
+fn signals_said(told: &ToldJob<'_>) -> Sentence<'static> {
     let when = kill_when(&told.facts.moments, told.at.up);
     let (form, at, up) = match (told.job.kill, told.job.term, when) {
         (Some(at), _, _) => (" KILL was ordered at $.", at, 0),
@@ -92,7 +91,7 @@ fn signals_said<'a>(told: &ToldJob<'_>) -> Sentence<'a> {
 }
 
 // When TERM is ordered again, which was refused.
-fn term_said<'a>(told: &ToldJob<'_>) -> Sentence<'a> {
+fn term_said(told: &ToldJob<'_>) -> Sentence<'static> {
     match term_when(&told.facts.moments, told.at.up) {
         OrderWhen::At(up) => (
             " TERM could not be sent: it is ordered again at $.",
@@ -103,7 +102,7 @@ fn term_said<'a>(told: &ToldJob<'_>) -> Sentence<'a> {
 }
 
 // How long it is throttled, and by which start, if that is known.
-fn throttle_said<'a>(told: &ToldJob<'_>, up: u64) -> Sentences<'a> {
+fn throttle_said(told: &ToldJob<'_>, up: u64) -> Sentences<'static> {
     let throttle = told.keys.throttle_interval;
     let refused = told.job.refused_at();
     let (form, wall) = match throttle_by(told.job.ordered, refused, throttle, up) {
