@@ -778,7 +778,8 @@ def half_lines_at_a_low_limit(stage):
             client.sendall(b'{"req":"li')
         except OSError:
             pass
-    launcher.answers("beside 60 half lines")
+    # They are silent from the next round on.
+    wait_for(lambda: launcher.ask({"req": "list"})["code"] == 0, "beside 60 half lines list is refused")
     launcher.load(shell_job("lasting", "exec sleep 1000", RunAtLoad=True, StandardOutPath=stage.at("out"), StandardErrorPath=stage.at("err")))
     launcher.tells("lasting", "pid = ")
     launcher.ask({"req": "stop", "job": "lasting"})
@@ -854,7 +855,7 @@ def a_start_with_no_descriptor_left(stage):
             wait_for(lambda: text_at(stage.at("err")) == "error\n" * times, lambda: f"the job does not start: {launcher.said()!r}")
             check(text_at(stage.at("out")) == "text" * times, f"its output is {text_at(stage.at('out'))!r}")
             check(ask({"req": "stop", "job": "lasting"})["code"] == 0, "stop refused")
-            wait_for(lambda: "pid = " not in shown(), lambda: f"TERM does not come: {launcher.said()!r}")
+            wait_for(lambda: "pid = -" in shown(), lambda: f"TERM does not come: {launcher.said()!r}")
             check("last exit = signal 15" in shown(), f"it ended otherwise: {shown()!r}")
             check(ask({"req": "start", "job": "lasting"})["code"] == 0, "start refused")
         # The launcher saw it absent before.

@@ -164,8 +164,8 @@ def status_files_that_are_refused(stage):
         check(not os.path.exists(path) and not os.path.exists(path + ".lock"), f"something was made at {path}")
         launcher.shut_down()
 
-    os.mkdir(stage.at("standing"), 0o700)
-    os.mkdir(stage.at("standing/status.jsonl"))
+    os.makedirs(stage.at("standing/status.jsonl"), mode=0o700, exist_ok=True)
+    os.chmod(stage.at("standing"), 0o700)
     launcher, path = serve(stage)
     wait_for(lambda: launcher.lines(f"jobd: status file {path}: "), f"a folder at its place is not told, but {launcher.said()!r}")
     launcher.load(shell_job("runs", "exec sleep 600", RunAtLoad=True))
