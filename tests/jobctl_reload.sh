@@ -86,7 +86,7 @@ wants 8 'bad.json: refused' bad.json a.json
 
 # A misspelt key is told before the job is replaced.
 echo '{"Label":"keyed","ProgramArguments":["/bin/sleep","1000"],"RunAtLoad":true,"Keepalive":true}' >keyed.json
-wants 0 'keyed.json:1:78: warning: Keepalive: nothing acts on this key; is KeepAlive meant?' keyed.json
+wants 0 'keyed.json:1:76 (Keepalive): warning: Keepalive: nothing acts on this key; is KeepAlive meant?' keyed.json
 
 # A folder as a whole. A job from elsewhere is only named.
 export JOBD_JOURNAL=$folder/journal.jsonl
@@ -117,14 +117,14 @@ second=$(pid_of c)
 define jobs/old.json new.name 'exec sleep 3000'
 echo '{"Label":"broken","Program":"/bin/true","StartInterval":0}' >jobs/broken.json
 echo '{"Label":"spelt","Program":"/bin/true","Keepalive":true}' >jobs/spelt.json
-wants 1 'jobs/spelt.json:1:38: warning: Keepalive: nothing acts on this key; is KeepAlive meant?' --all --strict jobs
+wants 1 'jobs/spelt.json:1:40 (Keepalive): warning: Keepalive: nothing acts on this key; is KeepAlive meant?' --all --strict jobs
 grep -qF 'nothing was done' err || fail "--strict: $(cat err)"
 [ "$(pid_of b)" = "$first" ] || fail "--strict replaced a job"
 wants 65 'jobs/broken.json: bad definition: OutOfRange StartInterval' --all jobs
 says 'replace b (ProgramArguments): jobs/b.json' 'unload old.name, load new.name: jobs/old.json' 'load spelt: jobs/spelt.json'
 [ "$(pid_of b)" != "$first" ] || fail "a changed job was not replaced"
 [ "$(pid_of c)" = "$second" ] || fail "a job whose file was laid out anew was replaced"
-[ -z "$(pid_of old.name)" ] && [ -n "$(pid_of new.name)" ] || fail "the old label still runs: $(jobctl list)"
+[ -z "$(pid_of old.name)" ] && [ -n "$(pid_of new.name)" ] || fail "the old label still runs: $(jobctl list; cat out err)"
 rm jobs/broken.json jobs/spelt.json jobs/c.json
 
 # What the folder had is named, and unloaded by --prune alone; what is from elsewhere stays.
