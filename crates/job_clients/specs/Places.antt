@@ -1,10 +1,18 @@
 -- Where a further client of a job's socket can be, and which client goes for it.
-use Rattle.std.specs.Prelude.{ℕ, suc, ◌+◌, ◌≤◌, ◌<◌, ◌≡◌, ◌⊎◌, Bool, true, false, ◌||◌, ◌&&◌, ◌==◌, not, nat_lt, nat_le, List, [], ◌∷◌, length, count_by, Option, Some, None, if◌then◌else◌}
+use Rattle.std.specs.Prelude.{ℕ, suc, ◌+◌, ◌≤◌, ◌<◌, ◌≡◌, ◌⊎◌, Bool, true, false, ◌||◌, ◌&&◌, ◌==◌, not, nat_lt, nat_le, min, max, ◌/◌, List, [], ◌∷◌, length, count_by, Option, Some, None, if◌then◌else◌}
 use Rattle.std.specs.List.{All, Contains, list_any}
 use Rattle.job_clients.specs.declared.places.CallerRoom.{CallerRoom}
 use Rattle.job_clients.specs.declared.places.Heard.{Heard}
 use Rattle.job_clients.specs.declared.places.Place.{Place}
 use Rattle.job_clients.specs.declared.places.Place.TheVariants.{Free, Of, Nowhere, Next, Later}
+
+-- Room for so many clients, 256 at most: a third of them, 64 at most and one at least, may be of one job.
+abbrev pub room_by : ℕ → CallerRoom
+room_by clients = record {
+  of_a_job = min (max (min clients 256 / 3) 1) 64;
+  in_all = min clients 256;
+  share = min clients 256;
+}
 
 -- how many clients of the bind's job are heard
 abbrev pub own : List Heard → ℕ → ℕ

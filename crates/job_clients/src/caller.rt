@@ -1,11 +1,13 @@
 //! A client of a job's socket whose request still comes.
 
+ghost use Rattle.std.specs.Prelude.{◌≡◌};
+ghost use Rattle.job_clients.specs.Callers.{Hears, Takes, WaitsOrLost};
+
 use crate::losses::Loss;
+use crate::sender::Sender;
 use child_edge::Client;
 use history_model::{JobNo, SECOND};
-use mio::{Interest, Registry, Token};
 use socket_demand::Exchange;
-use std::io;
 use std::io::ErrorKind;
 
 /// What became of a client's request in a round.
@@ -37,9 +39,9 @@ pub struct Origin {
 
 /// A client, with what came of its request.
 #[derive(Drop)]
-pub struct Caller {
+pub struct Caller<C = Client> {
     pub origin: Origin,
-    pub client: Client,
+    pub client: C,
     pub exchange: Exchange,
     // The `up` at which it came.
     pub came: u64,
@@ -51,18 +53,11 @@ pub struct Caller {
     pub is_new: bool,
 }
 
-impl Caller {
-    /// Has what the client sends and takes wake the poll, under the token.
-    pub fn register(&mut self, registry: &Registry, token: Token) -> io::Result<()> {
-        let interest = Interest::READABLE | Interest::WRITABLE;
-        match &mut self.client {
-            Client::Unix(stream) => registry.register(stream, token, interest),
-            Client::Inet(stream) => registry.register(stream, token, interest),
-        }
-    }
-
+impl<C: Sender> Caller<C> {
     /// Takes what came of the request by this `up`, at most 65,536 bytes.
-    pub fn gather(&mut self, up: u64) -> Gathered {
+    pub fn gather(&mut self, up: u64) -> Gathered
+        ensures { Hears C.remaining result self.old self.new }
+    {
         if !self.is_ready {
             return self.waits(up);
         }
@@ -76,7 +71,9 @@ impl Caller {
         Gathered::MayGoOn
     }
 
-    fn waits(&self, up: u64) -> Gathered {
+    fn waits(&self, up: u64) -> Gathered
+        ensures { WaitsOrLost result }
+    {
         if up.saturating_sub(self.heard_at) >= LONGEST_SILENCE {
             Gathered::Lost(Some(Loss::Silent))
         } else {
@@ -84,7 +81,9 @@ impl Caller {
         }
     }
 
-    fn read(&mut self, up: u64) -> Gathered {
+    fn read(&mut self, up: u64) -> Gathered
+        ensures { Hears C.remaining result self.old self.new }
+    {
         let mut piece = [0u8; 4096];
         match self.client.read(&mut piece) {
             Ok(0) => Gathered::Whole,
@@ -100,7 +99,11 @@ impl Caller {
         }
     }
 
-    fn take(&mut self, piece: &[u8], up: u64) -> Gathered {
+    fn take(&mut self, piece: &[u8], up: u64) -> Gathered
+        ensures takes { Takes piece.now result self.old.exchange.request self.new.exchange.request }
+        ensures client { self.new.client ≡ self.old.client }
+        ensures origin { self.new.origin ≡ self.old.origin }
+    {
         self.heard_at = up;
         match self.exchange.request(piece) {
             Ok(()) => Gathered::MayGoOn,

@@ -1,8 +1,15 @@
 //! The clients of jobs' sockets whose request still comes, as many as there is room for.
 
-use crate::caller::{Caller, Origin};
+ghost use Rattle.std.specs.Prelude.{◌≡◌, IfOk, None};
+ghost use Rattle.std.specs.Option.{option_map};
+ghost use Rattle.slab.specs.Slab.{get};
+ghost use Rattle.job_clients.specs.Callers.{GrowsAt, HearsAt, IsNobody, MayComeIn, Rouses, Sets, Welcomes, coming_in, coming_of};
+ghost use Rattle.job_clients.specs.Places.{room_by};
+
+use crate::caller::{Caller, Gathered, Origin};
 use crate::losses::Loss;
 use crate::places::{CallerRoom, Heard, Place, jobs_among, place_for, share_of};
+use crate::sender::Sender;
 use child_edge::Client;
 use mio::{Registry, Token};
 use slab::Slab;
@@ -20,9 +27,9 @@ const CALLERS_OF_A_JOB: usize = 64;
 const FIRST: usize = 2;
 
 #[derive(Drop)]
-pub struct Callers {
+pub struct Callers<C = Client> {
     alloc: Global,
-    held: Slab<Caller>,
+    held: Slab<Caller<C>>,
     // Those of `held`, when a further one comes.
     heard: Vec<Heard>,
     // The binds of those that had no place in this pass and in the last one, though their job had fewer than its share.
@@ -34,7 +41,9 @@ pub struct Callers {
 }
 
 // A job may have a third of the room, so that one job's clients leave room for those of others.
-fn room_of(in_all: usize) -> CallerRoom {
+fn room_of(in_all: usize) -> CallerRoom
+    ensures { result ≡ room_by in_all }
+{
     let in_all = in_all.min(CALLERS);
     CallerRoom {
         of_a_job: (in_all / 3).max(1).min(CALLERS_OF_A_JOB),
@@ -43,8 +52,11 @@ fn room_of(in_all: usize) -> CallerRoom {
     }
 }
 
-impl Callers {
-    pub fn new(alloc: Global) -> Result<Callers, AllocError> {
+impl<C: Sender + Drop> Callers<C> {
+    /// Room for as many clients as may be heard, with none yet.
+    pub fn new(alloc: Global) -> Result<Callers<C>, AllocError>
+        ensures { IfOk result (λ callers. IsNobody (coming_in callers)) }
+    {
         let held = Slab::with_capacity(alloc, CALLERS)?;
         let heard = Vec::with_capacity(alloc, CALLERS)?;
         let waits = Vec::with_capacity(alloc, CALLERS)?;
@@ -61,8 +73,11 @@ impl Callers {
         })
     }
 
-    /// How many are heard at a time from now on, and a third of them, at most 64, of one job.
-    pub fn set_room(&mut self, in_all: usize) {
+    /// How many are heard at a time from now on, and a third of them, at most 64, of one job. Nobody goes by it: who is heard still is.
+    pub fn set_room(&mut self, in_all: usize)
+        ensures room { self.new ≡ record self.old { room = room_by in_all } }
+        ensures coming { coming_in self.new ≡ coming_in self.old }
+    {
         self.room = room_of(in_all);
     }
 
@@ -70,27 +85,56 @@ impl Callers {
         self.held.is_empty()
     }
 
-    pub fn get_mut(&mut self, key: usize) -> Option<&mut Caller> {
-        self.held.get_mut(key)
+    /// To whose sockets the client of the key came, if there is one.
+    pub fn origin_of(&self, key: usize) -> Option<Origin>
+        ensures { result ≡ option_map (λ coming. coming.origin) (coming_in self.now key) }
+    {
+        match self.held.get(key) {
+            Some(caller) => Some(caller.origin),
+            None => None,
+        }
     }
 
-    pub fn remove(&mut self, key: usize) -> Option<Caller> {
+    /// Whether bytes of the client of the key, or itself, came at this `up`.
+    pub fn was_heard_at(&self, key: usize, up: u64) -> bool {
+        match self.held.get(key) {
+            Some(caller) => caller.heard_at == up,
+            None => false,
+        }
+    }
+
+    /// Takes what the client of the key has sent by this `up`, as [`Caller::gather`] does. Where there is none, nothing comes.
+    pub fn gather(&mut self, key: usize, up: u64) -> Gathered
+        ensures hears { HearsAt C.remaining key result self.old.held self.new.held }
+        ensures grows { GrowsAt key (coming_in self.old) (coming_in self.new) }
+    {
+        hear(&mut self.held, key, up)
+    }
+
+    /// Gives the client of the key, if there is one, which is held no more.
+    pub fn remove(&mut self, key: usize) -> Option<Caller<C>>
+        ensures value { result ≡ get self.old.held key }
+        ensures client { option_map coming_of result ≡ coming_in self.old key }
+        ensures gone { Sets key None (coming_in self.old) (coming_in self.new) }
+    {
         self.held.try_remove(key)
     }
 
     /// Something may have come of the client whose token this is.
-    pub fn wake(&mut self, token: Token) {
+    pub fn wake(&mut self, token: Token)
+        ensures { coming_in self.new ≡ coming_in self.old }
+    {
         let Some(key) = token.0.checked_sub(FIRST) else {
             return;
         };
-        if let Some(caller) = self.held.get_mut(key) {
-            caller.is_ready = true;
-        }
+        rouse(&mut self.held, key);
     }
 
     /// A pass over all sockets begins: those that had no place in the last one are those that wait. The share of a job is reckoned anew
     /// from the jobs whose clients are heard or wait.
-    pub fn begin_pass(&mut self) {
+    pub fn begin_pass(&mut self)
+        ensures { coming_in self.new ≡ coming_in self.old }
+    {
         mem::swap(&mut self.waits, &mut self.waited);
         self.waits.clear();
         self.binds.clear();
@@ -104,7 +148,9 @@ impl Callers {
     }
 
     /// Where a client can be that comes at this `up`, by this bind.
-    pub fn place(&mut self, bind: u64, up: u64) -> Place {
+    pub fn place(&mut self, bind: u64, up: u64) -> Place
+        ensures { coming_in self.new ≡ coming_in self.old }
+    {
         self.heard.clear();
         for (key, caller) in self.held.iter() {
             let _listed = self.heard.push(Heard {
@@ -135,9 +181,12 @@ impl Callers {
         &mut self,
         registry: &Registry,
         origin: Origin,
-        client: Client,
+        client: C,
         up: u64,
-    ) -> Result<(), Loss> {
+    ) -> Result<(), Loss>
+        ensures welcomes { Welcomes C.remaining origin client result self.old.held self.new.held }
+        ensures comes { MayComeIn origin (coming_in self.old) (coming_in self.new) }
+    {
         let Ok(exchange) = Exchange::new(self.alloc) else {
             return Err(Loss::NoMemory);
         };
@@ -151,12 +200,31 @@ impl Callers {
             is_new: true,
         };
         let token = Token(self.held.vacant_key().saturating_add(FIRST));
-        match caller.register(registry, token) {
+        match caller.client.register(registry, token) {
             Ok(()) => {
                 let _ = self.held.insert(caller);
                 Ok(())
             }
             Err(error) => Err(Loss::System(error)),
         }
+    }
+}
+
+// What the client of the key has sent by this `up`.
+fn hear<C: Sender>(held: &mut Slab<Caller<C>>, key: usize, up: u64) -> Gathered
+    ensures { HearsAt C.remaining key result held.old held.new }
+{
+    let Some(caller) = held.get_mut(key) else {
+        return Gathered::Waits;
+    };
+    caller.gather(up)
+}
+
+// Something may have come of the client of the key.
+fn rouse<C>(held: &mut Slab<Caller<C>>, key: usize)
+    ensures { Rouses key held.old held.new }
+{
+    if let Some(caller) = held.get_mut(key) {
+        caller.is_ready = true;
     }
 }

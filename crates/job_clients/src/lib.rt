@@ -6,8 +6,10 @@ mod caller;
 mod callers;
 mod losses;
 mod places;
+mod sender;
 
 pub use caller::{Caller, Gathered, Origin};
 pub use callers::{CALLERS, Callers};
 pub use losses::{Loss, Losses};
 pub use places::{CallerRoom, Heard, Place, jobs_among, place_for, share_of};
+pub use sender::Sender;

@@ -276,17 +276,15 @@ impl JobSockets {
         ensures asks { Asks H.Asked host.old host.new }
         ensures conn { self.new.conn ≡ self.old.conn }
     {
-        let Some(caller) = self.callers.get_mut(key) else {
+        let Some(origin) = self.callers.origin_of(key) else {
             return Gathered::Waits;
         };
-        if !host.listens_at(caller.origin) {
+        if !host.listens_at(origin) {
             return Gathered::Lost(None);
         }
         let up = host.up();
-        let gathered = caller.gather(up);
-        if caller.heard_at == up {
-            self.is_stirred = true;
-        }
+        let gathered = self.callers.gather(key, up);
+        self.is_stirred = self.is_stirred | self.callers.was_heard_at(key, up);
         gathered
     }
 

@@ -9,8 +9,5 @@ returns-in_default-clause-asks g c = nothing
 pub returns-then-not-listens_at-clause-asks : goal.returns-then-not-listens_at-clause-asks
 returns-then-not-listens_at-clause-asks g c = asks_one c.listens_at.ensures
 
-pub returns-then-caller-up-clause-asks : goal.returns-then-caller-up-clause-asks
-returns-then-caller-up-clause-asks g c = asks_one c.listens_at.ensures
-
-pub returns-else-caller-up-clause-asks : goal.returns-else-caller-up-clause-asks
-returns-else-caller-up-clause-asks g c = asks_one c.listens_at.ensures
+pub returns-clause-asks : goal.returns-clause-asks
+returns-clause-asks g c = asks_one c.listens_at.ensures
