@@ -1,3 +1,4 @@
 pub mod LooksLemmas
 pub mod RoundsLemmas
 pub mod ChildrenLemmas
+pub mod CountingLemmas

@@ -1,4 +1,5 @@
 pub mod Children
+pub mod Counting
 pub mod Kept
 pub mod Looks
 pub mod Rounds

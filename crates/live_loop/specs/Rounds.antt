@@ -1,5 +1,5 @@
 -- A round of the live loop.
-use Rattle.std.specs.Prelude.{◌≡◌, ◌⊎◌, ◌+◌, ◌-◌, ◌^◌, ◌<◌, ◌≤◌, min, ℕ, List, Option}
+use Rattle.std.specs.Prelude.{◌≡◌, ◌⊎◌, ◌+◌, ◌<◌, ◌≤◌, ℕ, List, Option}
 use Rattle.history_model.specs.declared.Reply.{Reply}
 use Rattle.control_socket.specs.Serving.{Serves}
 use Rattle.live_loop.specs.declared.loop_host.HandedIn.{HandedIn}
@@ -19,7 +19,7 @@ pub data Gathers {H : Type 0} (Asked : H → H → Type 0) (Came : ℕ → ℕ �
       Gathers Asked Came first from conn mid → Asked mid new → Gathers Asked Came first from conn new
   came : {conn job : ℕ} {answer : HandedIn} {mid new : H} →
       Gathers Asked Came first from conn mid → Came conn job answer mid new →
-      Gathers Asked Came first from (min (conn + 1) (2 ^ 64 - 1)) new
+      Gathers Asked Came first from (conn + 1) new
 
 module _ {H : Type 0} (Answered : List ℕ → Reply → H → H → Type 0) (Asked : H → H → Type 0) (Came : ℕ → ℕ → HandedIn → H → H → Type 0) where
   -- Control clients were served, then those of jobs' sockets, from the first of these numbers up to the second, and then perhaps the control

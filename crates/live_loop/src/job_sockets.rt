@@ -288,7 +288,8 @@ impl JobSockets {
         gathered
     }
 
-    // Hands in a client, under its number. Why one is closed that the launcher refused is told.
+    // Hands in a client, under its number. Why one is closed that the launcher refused is told. If there were no further number, the client
+    // would be let go.
     fn hand_in<H: LoopHost>(
         &mut self,
         alloc: Global,
@@ -298,13 +299,17 @@ impl JobSockets {
     )
         ensures { Gathers H.Asked H.Came self.old.conn host.old self.new.conn host.new }
     {
+        let conn = self.conn;
+        let Some(next) = conn.checked_add(1) else {
+            self.let_go(host, key, None);
+            return;
+        };
         let Some(caller) = self.callers.remove(key) else {
             return;
         };
         let origin = caller.origin;
         self.is_whole = true;
-        let conn = self.conn;
-        self.conn = conn.saturating_add(1);
+        self.conn = next;
         match host.hand_in(alloc, label, conn, caller) {
             HandedIn::Dropped => {}
             HandedIn::Heard => self.losses.came_through(origin.job, host.up()),

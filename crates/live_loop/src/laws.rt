@@ -2,6 +2,8 @@
 
 ghost use Rattle.std.specs.Prelude.{◌≡◌, ◌⊎◌, ◌≤◌, ◌+◌, ◌-◌, ◌^◌, min, ℕ};
 ghost use Rattle.live_loop.specs.Children.{PollsAll};
+ghost use Rattle.live_loop.specs.Counting.{AreCounted, numbers_by};
+ghost use Rattle.live_loop.specs.Rounds.{AreRounds, Left};
 
 use crate::loop_host::LoopHost;
 
@@ -10,6 +12,22 @@ use crate::loop_host::LoopHost;
 pub fn no_child_is_left_out<H: LoopHost>(host: &H)
     ensures { (first next : ℕ) (old new : H) → PollsAll H.Polled first old next new →
         (next ≡ 0) ⊎ (min (first + 1) (2 ^ 32 - 1) ≤ next) }
+{
+    let _ = host;
+}
+
+/// No two clients of jobs' sockets have one number: any rounds hand them in under one number after another, each once.
+pub fn each_client_has_a_number_of_its_own<H: LoopHost>(host: &H)
+    ensures { (first last : Left H) → (rounds : AreRounds (record {
+      round_up = H.round_up;
+      IsNext = H.IsNext;
+      Did = H.Did;
+      Answered = H.Answered;
+      Begun = H.Begun;
+      Polled = H.Polled;
+      Asked = H.Asked;
+      Came = H.Came;
+    }) first last) → AreCounted first.conn (numbers_by rounds) last.conn }
 {
     let _ = host;
 }
