@@ -1,3 +1,4 @@
 pub mod CallsLemmas
 mod RoomExamples
 mod VariableLemmas
+mod RepliesLemmas

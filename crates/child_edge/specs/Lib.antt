@@ -4,3 +4,5 @@ pub mod Listeners
 pub mod MemoryEdges
 pub mod Rooms
 pub mod Sights
+pub mod Replies
+pub mod Spool

@@ -1,6 +1,6 @@
 //! A client of a job's socket.
 
-ghost use Rattle.std.specs.Io.{ReadsAtMost, WritesAtMost};
+ghost use Rattle.std.specs.Io.{ReadsAtMost};
 
 use mio::net::{TcpStream, UnixStream};
 use std::io;
@@ -24,14 +24,21 @@ impl Client {
             Client::Inet(stream) => stream.read(piece),
         }
     }
+}
 
+impl Write for Client {
     /// Sends what the client's side takes of `piece` at once, and says how many bytes that was.
-    pub fn write(&mut self, piece: &[u8]) -> io::Result<usize>
-        ensures { WritesAtMost result piece.now }
-    {
+    fn write(&mut self, piece: &[u8]) -> io::Result<usize> {
         match self {
             Client::Unix(stream) => stream.write(piece),
             Client::Inet(stream) => stream.write(piece),
+        }
+    }
+
+    fn flush(&mut self) -> io::Result<()> {
+        match self {
+            Client::Unix(stream) => stream.flush(),
+            Client::Inet(stream) => stream.flush(),
         }
     }
 }

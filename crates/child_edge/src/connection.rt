@@ -2,6 +2,7 @@
 
 ghost use Rattle.std.specs.Prelude.{◌≡◌, ◌≤◌, drop, false, length, []};
 ghost use Rattle.socket_demand.specs.declared.exchange.TheConstants.{MAX_UNSENT};
+ghost use Rattle.child_edge.specs.Replies.{Ends, Forwards, ForwardsIf, IsOpen, Rests, SendsPiece, WaitsIf, WaitsOrLost};
 
 use crate::Client;
 use crate::notices::LetGo;
@@ -10,7 +11,7 @@ use history_model::Text;
 use socket_demand::{Exchange, MAX_UNSENT};
 use std::fs::File;
 use std::io;
-use std::io::{ErrorKind, Read};
+use std::io::{ErrorKind, Read, Write};
 use std::time::Instant;
 
 /// What is still to be done for a connection.
@@ -32,11 +33,12 @@ const PIECES: u32 = 16;
 /// After how many seconds a client is let go that takes nothing of its reply.
 const STILL: u64 = 60;
 
-pub(crate) struct Connection {
-    pub(crate) client: Client,
+/// A client, with the file to which its run writes the reply. The sending is over any client and any reply.
+pub(crate) struct Connection<C = Client, F = File> {
+    pub(crate) client: C,
     pub(crate) exchange: Exchange,
     pub(crate) files: Spooled,
-    pub(crate) reply: File,
+    pub(crate) reply: F,
     // Its job's label, if it was known and there was memory for it.
     pub(crate) label: Option<Text>,
     // The run that it was served by has ended.
@@ -46,7 +48,7 @@ pub(crate) struct Connection {
 }
 
 // for the proof: who lets it go calls this, in place of letting each part go
-impl Drop for Connection {
+impl<C: Drop, F: Drop> Drop for Connection<C, F> {
     fn drop(self) {
         let Connection {
             client: _,
@@ -60,29 +62,43 @@ impl Drop for Connection {
     }
 }
 
-impl Connection {
+impl<C: Write, F: Read> Connection<C, F> {
     pub(crate) fn label(&self) -> Option<&str> {
         let label = self.label.as_ref()?;
         Some(label.as_str())
     }
 
     /// Sends the client what its run has written since, as much as it takes at once.
-    pub(crate) fn forward(&mut self, now: Instant) -> Progress {
+    pub(crate) fn forward(&mut self, now: Instant) -> Progress
+        ensures { IsOpen self.old.exchange →
+            Forwards C.contents F.remaining result self.old self.new }
+    {
         for _ in 0..PIECES {
-            let stop = if self.exchange.to_send().is_empty() {
-                self.pass_on(now)
-            } else {
-                self.send_rest(now)
-            };
-            if let Some(progress) = stop {
+            if let Some(progress) = self.send_next(now) {
                 return progress;
             }
         }
         Progress::MayGoOn
     }
 
+    // Sends what waits, or else the next piece. None: it may go on.
+    fn send_next(&mut self, now: Instant) -> Option<Progress>
+        ensures { IsOpen self.old.exchange →
+            ForwardsIf C.contents F.remaining result self.old self.new }
+    {
+        if self.exchange.to_send().is_empty() {
+            self.pass_on(now)
+        } else {
+            self.send_rest(now)
+        }
+    }
+
     // Sends the next piece of the reply, if there is one, and keeps what the client does not take. None: it may go on.
-    fn pass_on(&mut self, now: Instant) -> Option<Progress> {
+    fn pass_on(&mut self, now: Instant) -> Option<Progress>
+        requires { self.old.exchange.unsent ≡ [] }
+        ensures { IsOpen self.old.exchange →
+            ForwardsIf C.contents F.remaining result self.old self.new }
+    {
         let mut piece = [0u8; MAX_UNSENT];
         match self.reply.read(&mut piece) {
             Ok(0) => Some(self.end(now)),
@@ -92,23 +108,45 @@ impl Connection {
         }
     }
 
-    fn send_piece(&mut self, piece: &[u8], now: Instant) -> Option<Progress> {
-        let sent = match self.client.write(piece) {
+    fn send_piece(&mut self, piece: &[u8], now: Instant) -> Option<Progress>
+        requires nothing { self.old.exchange.unsent ≡ [] }
+        requires short { length piece.now ≤ MAX_UNSENT }
+        ensures reply { self.new.reply ≡ self.old.reply }
+        ensures sends { IsOpen self.old.exchange →
+            SendsPiece C.contents piece.now result self.old self.new }
+    {
+        match self.client.write(piece) {
             Ok(count) => {
                 self.moved = now;
-                count
+                keep_rest(&mut self.exchange, piece, count);
+                None
             }
-            Err(error) => match error.kind() {
-                ErrorKind::WouldBlock | ErrorKind::Interrupted => 0,
-                _ => return Some(Progress::Lost(LetGo::Write(error))),
-            },
-        };
-        keep_rest(&mut self.exchange, piece, sent);
-        None
+            Err(error) => self.put_off(piece, error),
+        }
+    }
+
+    // The client took nothing of the piece, for this reason.
+    fn put_off(&mut self, piece: &[u8], error: io::Error) -> Option<Progress>
+        requires nothing { self.old.exchange.unsent ≡ [] }
+        requires short { length piece.now ≤ MAX_UNSENT }
+        ensures reply { self.new.reply ≡ self.old.reply }
+        ensures client { self.new.client ≡ self.old.client }
+        ensures waits { IsOpen self.old.exchange → WaitsIf result piece.now self.new.exchange }
+    {
+        match error.kind() {
+            ErrorKind::WouldBlock | ErrorKind::Interrupted => {
+                keep_rest(&mut self.exchange, piece, 0);
+                None
+            }
+            _ => Some(Progress::Lost(LetGo::Write(error))),
+        }
     }
 
     // Sends what was kept of the last piece.
-    fn send_rest(&mut self, now: Instant) -> Option<Progress> {
+    fn send_rest(&mut self, now: Instant) -> Option<Progress>
+        ensures { IsOpen self.old.exchange →
+            ForwardsIf C.contents F.remaining result self.old self.new }
+    {
         match self.client.write(self.exchange.to_send()) {
             Ok(count) => {
                 self.moved = now;
@@ -122,7 +160,10 @@ impl Connection {
     }
 
     // The run has written no more yet, or nothing more comes.
-    fn end(&mut self, now: Instant) -> Progress {
+    fn end(&mut self, now: Instant) -> Progress
+        requires { self.old.exchange.unsent ≡ [] }
+        ensures { Ends result self.old self.new }
+    {
         if self.is_over {
             self.exchange.reply_end();
         }
@@ -130,7 +171,12 @@ impl Connection {
     }
 
     // There is nothing to send now.
-    fn rest(&mut self, now: Instant) -> Progress {
+    fn rest(&mut self, now: Instant) -> Progress
+        ensures exchange { self.new.exchange ≡ self.old.exchange }
+        ensures rests { Rests result self.old.exchange }
+        ensures client { self.new.client ≡ self.old.client }
+        ensures reply { self.new.reply ≡ self.old.reply }
+    {
         if self.exchange.done() {
             return Progress::Ended;
         }
@@ -139,7 +185,9 @@ impl Connection {
     }
 
     // The client takes nothing now.
-    fn wait(&self, now: Instant) -> Progress {
+    fn wait(&self, now: Instant) -> Progress
+        ensures { WaitsOrLost result }
+    {
         if now.saturating_duration_since(self.moved).as_secs() >= STILL {
             Progress::Lost(LetGo::Still)
         } else {

@@ -6,6 +6,9 @@
 //! was killed is cleared at the start. When the run is started, each file is opened again, if it is still the one that was
 //! made; nothing else is opened.
 
+ghost use Rattle.std.specs.Prelude.{◌≡◌, IfOk, IsOkAnd, string_bytes};
+ghost use Rattle.child_edge.specs.Spool.{IsNamed, file_name};
+
 use history_model::JobNo;
 use std::alloc::{AllocError, Global};
 use std::fs::{File, Files, Metadata, OpenOptions};
@@ -37,7 +40,9 @@ impl Spooled {
         folder: &str,
         key: (JobNo, u64),
         bytes: &[u8],
-    ) -> io::Result<(Spooled, File)> {
+    ) -> io::Result<(Spooled, File)>
+        ensures { IfOk result (λ made. IsNamed folder.now key made.0) }
+    {
         let request = match written(rt, name_of(alloc, folder, key, "request"), bytes) {
             Ok(request) => request,
             Err(error) => return Err(error),
@@ -107,12 +112,9 @@ impl SpoolFile {
     }
 }
 
-fn name_of(
-    alloc: Global,
-    folder: &str,
-    key: (JobNo, u64),
-    end: &str,
-) -> Result<String, AllocError> {
+fn name_of(alloc: Global, folder: &str, key: (JobNo, u64), end: &str) -> Result<String, AllocError>
+    ensures { IfOk result (λ name. string_bytes name ≡ file_name folder.now key end.now) }
+{
     let (job, conn) = key;
     format!(in alloc; "{folder}/{job}-{conn}.{end}")
 }
@@ -122,7 +124,9 @@ fn written<R: Files<File = File>>(
     rt: &R,
     path: Result<String, AllocError>,
     bytes: &[u8],
-) -> io::Result<SpoolFile> {
+) -> io::Result<SpoolFile>
+    ensures { IfOk result (λ spooled. IsOkAnd path (λ path. spooled.path ≡ path)) }
+{
     match make(rt, path) {
         Ok((spooled, file)) => {
             let mut file = file;
@@ -145,7 +149,9 @@ fn written<R: Files<File = File>>(
 fn make<R: Files<File = File>>(
     rt: &R,
     path: Result<String, AllocError>,
-) -> io::Result<(SpoolFile, File)> {
+) -> io::Result<(SpoolFile, File)>
+    ensures { IfOk result (λ made. IsOkAnd path (λ path. made.0.path ≡ path)) }
+{
     let path = match path {
         Ok(path) => path,
         Err(error) => return Err(io::Error::from(error)),
