@@ -266,8 +266,9 @@ impl ControlSocket {
     /// told, and the longest silent client is let go if there is no other way to keep a descriptor again. If no client is silent, the
     /// one that becomes silent first is let go for it, unless a descriptor gets free before; until then who comes has to wait.
     ///
-    /// Once a second of `up` at most it looks whether the socket's file is still the one that was bound. If it is not, it binds the socket
-    /// anew as [`open`](ControlSocket::open) does, and keeps its clients; that, or why it can't be done, is told.
+    /// Once a second of `up` at most it looks whether the socket's file is still the one that was bound, and then the lock's. If the first is not, it
+    /// binds the socket anew as [`open`](ControlSocket::open) does, and keeps its clients; if the second is not, it takes the lock on a new one.
+    /// That, or why it can't be done, is told. Where the system does not say whether a file is there, that is told, and nothing is made.
     pub fn accept<R: Files<File = File> + Net>(&mut self, rt: &R, registry: &Registry) {
         self.accept_all(rt, registry);
         if self.up >= self.next_look {
@@ -276,15 +277,37 @@ impl ControlSocket {
         }
     }
 
-    // Binds the socket anew if its file is gone, or another is in its place.
+    // Binds the socket anew if its file is gone, or another is in its place, and takes the lock anew if its file is.
     fn keep_file<R: Files<File = File> + Net>(&mut self, rt: &R, registry: &Registry) {
-        if socket_file::is_at(rt, self.path.as_str(), self.mark) {
-            self.notices.file_stands();
-            return;
+        match socket_file::is_at(rt, self.path.as_str(), self.mark) {
+            Ok(true) => self.keep_lock(rt),
+            Ok(false) => match self.bind_again(rt, registry) {
+                Ok(()) => self.notices.made_again(),
+                Err(error) => self.notices.not_made_again(error),
+            },
+            Err(error) => self.notices.look_refused(error),
         }
-        match self.bind_again(rt, registry) {
-            Ok(()) => self.notices.made_again(),
-            Err(error) => self.notices.not_made_again(error),
+    }
+
+    // Takes the lock anew if its file is gone, or another is in its place. The one that is held is kept until then.
+    fn keep_lock<R: Files<File = File>>(&mut self, rt: &R) {
+        match self.lock.is_at_its_path(rt) {
+            Ok(true) => self.notices.files_stand(),
+            Ok(false) => match self.lock_again(rt) {
+                Ok(()) => self.notices.taken_again(),
+                Err(error) => self.notices.not_taken_again(error),
+            },
+            Err(error) => self.notices.look_refused(error),
+        }
+    }
+
+    fn lock_again<R: Files<File = File>>(&mut self, rt: &R) -> io::Result<()> {
+        match lock_beside(rt, self.alloc, self.path.as_str()) {
+            Ok(lock) => {
+                drop(mem::replace(&mut self.lock, lock));
+                Ok(())
+            }
+            Err(error) => Err(error),
         }
     }
 
@@ -294,11 +317,8 @@ impl ControlSocket {
         rt: &R,
         registry: &Registry,
     ) -> io::Result<()> {
-        if !self.lock.is_at_its_path(rt) {
-            match lock_beside(rt, self.alloc, self.path.as_str()) {
-                Ok(lock) => drop(mem::replace(&mut self.lock, lock)),
-                Err(error) => return Err(error),
-            }
+        if let Ok(false) = self.lock.is_at_its_path(rt) {
+            self.lock_again(rt)?;
         }
         let (mut listener, mark) = match socket_file::bind(rt, self.path.as_str()) {
             Ok(bound) => bound,
@@ -468,8 +488,8 @@ impl ControlSocket {
     /// The next line on what was refused, without a newline: an accept, or a client that was let go for want of memory or since
     /// a read or a write failed. Each is told once, and again when its reason changes; an accept also after a call of `accept`
     /// that took a client and was refused nothing, a client after one that had all its replies. A client that only went away is
-    /// not told. That the socket's file was gone and is made again is told each time; why it can't be made again, once for each reason,
-    /// until it is there.
+    /// not told. That the socket's file or the lock's was gone and is made again is told each time; why it can't be made again, or looked at, once
+    /// for each reason, until both are there.
     pub fn next_notice(&mut self) -> Option<Text> {
         self.notices.next(self.alloc)
     }

@@ -16,8 +16,12 @@ struct Refusals {
 enum Told {
     Accept,
     Client,
+    NoMemory,
+    Look,
     NoFile,
     File,
+    NoLock,
+    Lock,
 }
 
 /// The refusals of the control socket. They take no memory until they are told.
@@ -25,10 +29,16 @@ enum Told {
 pub(crate) struct Notices {
     accepts: Refusals,
     clients: Refusals,
+    // That a look at the socket's file, or at the lock's, was refused.
+    looks: Refusals,
     // That the socket's file can't be made again.
     files: Refusals,
     // It was made again, and this was not told.
     is_made_again: bool,
+    // That the lock can't be taken again.
+    locks: Refusals,
+    // It was taken again, and this was not told.
+    is_taken_again: bool,
 }
 
 impl Refusals {
@@ -55,14 +65,24 @@ impl Notices {
         Notices {
             accepts: none,
             clients: none,
+            looks: none,
             files: none,
             is_made_again: false,
+            locks: none,
+            is_taken_again: false,
         }
     }
 
-    /// The socket's file is the one that was bound: the next refusal to make it again is told.
-    pub(crate) fn file_stands(&mut self) {
+    /// The socket's file and the lock's are those that were made: the next refusal to look at one, or to make it again, is told.
+    pub(crate) fn files_stand(&mut self) {
+        self.looks.last = None;
         self.files.last = None;
+        self.locks.last = None;
+    }
+
+    /// Whether the socket's file or the lock's is there was not told.
+    pub(crate) fn look_refused(&mut self, error: Error) {
+        self.looks.note(error);
     }
 
     /// The socket's file was gone, and is made again.
@@ -75,6 +95,18 @@ impl Notices {
     /// The socket's file is gone, and can't be made again.
     pub(crate) fn not_made_again(&mut self, error: Error) {
         self.files.note(error);
+    }
+
+    /// The lock's file was gone, and the lock is held on a new one.
+    pub(crate) fn taken_again(&mut self) {
+        self.locks.last = None;
+        self.locks.due = None;
+        self.is_taken_again = true;
+    }
+
+    /// The lock's file is gone, and no lock on a new one can be had.
+    pub(crate) fn not_taken_again(&mut self, error: Error) {
+        self.locks.note(error);
     }
 
     /// A client could not be taken.
@@ -101,44 +133,54 @@ impl Notices {
 
     /// The next line to be told. None also for want of memory for it: it then stays.
     pub(crate) fn next(&mut self, alloc: Global) -> Option<Text> {
-        let (text, of) = self.due(alloc)?;
-        let Ok(text) = text else {
+        let (told, error) = self.due()?;
+        let Ok(line) = line_of(alloc, told, error) else {
             return None;
         };
-        match of {
+        match told {
             Told::Accept => self.accepts.due = None,
-            Told::Client => self.clients.due = None,
+            Told::Client | Told::NoMemory => self.clients.due = None,
+            Told::Look => self.looks.due = None,
             Told::NoFile => self.files.due = None,
             Told::File => self.is_made_again = false,
+            Told::NoLock => self.locks.due = None,
+            Told::Lock => self.is_taken_again = false,
         }
-        Some(Text::new(text))
+        Some(Text::new(line))
     }
 
-    // What is to be told first.
-    fn due(&self, alloc: Global) -> Option<(Result<String, AllocError>, Told)> {
-        if let Some(error) = self.accepts.due {
-            return Some((line_of(alloc, "cannot accept", error), Told::Accept));
+    // What is to be told first, and the error behind it, if it ends with one.
+    fn due(&self) -> Option<(Told, Option<Error>)> {
+        if self.accepts.due.is_some() {
+            return Some((Told::Accept, self.accepts.due));
         }
         if let Some(error) = self.clients.due {
-            return Some((client_line(alloc, error), Told::Client));
+            return Some(client_told(error));
         }
-        if let Some(error) = self.files.due {
-            let what = "its file is gone, and can't be made again";
-            return Some((line_of(alloc, what, error), Told::NoFile));
+        if self.looks.due.is_some() {
+            return Some((Told::Look, self.looks.due));
+        }
+        if self.files.due.is_some() {
+            return Some((Told::NoFile, self.files.due));
         }
         if self.is_made_again {
-            let text = "control socket: its file was gone, and is made again";
-            return Some((String::from_str(alloc, text), Told::File));
+            return Some((Told::File, None));
+        }
+        if self.locks.due.is_some() {
+            return Some((Told::NoLock, self.locks.due));
+        }
+        if self.is_taken_again {
+            return Some((Told::Lock, None));
         }
         None
     }
 }
 
-fn client_line(alloc: Global, error: Error) -> Result<String, AllocError> {
+fn client_told(error: Error) -> (Told, Option<Error>) {
     if error.kind() == ErrorKind::OutOfMemory {
-        String::from_str(alloc, "control socket: a client was let go: no memory")
+        (Told::NoMemory, None)
     } else {
-        line_of(alloc, "a client was let go", error)
+        (Told::Client, Some(error))
     }
 }
 
@@ -149,6 +191,19 @@ fn is_going_away(kind: ErrorKind) -> bool {
     )
 }
 
-fn line_of(alloc: Global, what: &str, error: Error) -> Result<String, AllocError> {
-    format!(in alloc; "control socket: {what}: {error}")
+fn line_of(alloc: Global, told: Told, error: Option<Error>) -> Result<String, AllocError> {
+    let what = match told {
+        Told::Accept => "cannot accept",
+        Told::Client => "a client was let go",
+        Told::NoMemory => "a client was let go: no memory",
+        Told::Look => "cannot look at its file",
+        Told::NoFile => "its file is gone, and can't be made again",
+        Told::File => "its file was gone, and is made again",
+        Told::NoLock => "its lock's file is gone, and can't be made again",
+        Told::Lock => "its lock's file was gone, and is made again",
+    };
+    match error {
+        Some(error) => format!(in alloc; "control socket: {what}: {error}"),
+        None => format!(in alloc; "control socket: {what}"),
+    }
 }

@@ -37,16 +37,19 @@ pub fn bind<R: Files + Net>(rt: &R, path: &str) -> io::Result<(UnixListener, Soc
 /// Removes the socket's file if it is the one of the mark. Any other file at the path is left. It is called while the listener
 /// lives, since the system may give the numbers of a mark anew after that.
 pub fn remove<R: Files>(rt: &R, path: &str, mark: SocketMark) {
-    if is_at(rt, path, mark) {
+    if let Ok(true) = is_at(rt, path, mark) {
         let _left = fs::remove_file(rt, path);
     }
 }
 
-/// Whether the file at the path is the one of the mark, as long as its listener lives. False also if the system does not say.
-pub fn is_at<R: Files>(rt: &R, path: &str, mark: SocketMark) -> bool {
+/// Whether the file at the path is the one of the mark, as long as its listener lives. False: another is there, or none. An error is that of
+/// the system's look: then the file may be there.
+pub fn is_at<R: Files>(rt: &R, path: &str, mark: SocketMark) -> io::Result<bool> {
     match mark_at(rt, path) {
-        Ok(Some(found)) => found.device == mark.device && found.inode == mark.inode,
-        _ => false,
+        Ok(Some(found)) => Ok(found.device == mark.device && found.inode == mark.inode),
+        Ok(None) => Ok(false),
+        Err(error) if error.kind() == ErrorKind::NotFound => Ok(false),
+        Err(error) => Err(error),
     }
 }
 

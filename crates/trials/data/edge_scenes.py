@@ -871,7 +871,8 @@ def a_start_with_no_descriptor_left(stage):
 
 def a_control_socket_that_was_removed(stage):
     """The control socket's file is removed: it is made again, for its owner alone, which is told each time; its clients stay. What somebody else
-    put there is left, which is told once, and it is made once that is gone. If its lock was removed too, that is made again."""
+    put there is left, which is told once, and it is made once that is gone. If its lock was removed too, that is made again, and so it is if
+    it alone was removed."""
     launcher = stage.serve()
     path, lock = stage.at("socket"), stage.at("socket.lock")
     is_there = lambda: os.path.exists(path) and stat.S_ISSOCK(os.stat(path).st_mode) and stat.S_IMODE(os.stat(path).st_mode) == 0o600
@@ -893,6 +894,10 @@ def a_control_socket_that_was_removed(stage):
         os.remove(path)
         wait_for(lambda: is_there() and os.path.exists(lock), "it is not made again with its lock")
         wait_for(lambda: len(launcher.lines(told)) == 3, lambda: f"it said {launcher.said()!r}")
+        os.remove(lock)
+        wait_for(lambda: os.path.exists(lock), "its lock alone is not made again")
+        locked = "jobd: control socket: its lock's file was gone, and is made again"
+        wait_for(lambda: launcher.lines("")[4:] == [locked], lambda: f"it said {launcher.said()!r}")
     launcher.answers("at a control socket that was made again with its lock")
     second = stage.start(store="store.2", spool="spool.2")
     check(second.ends() == 6, f"a second launcher ends with {second.ends()}")

@@ -5,6 +5,7 @@
 import json
 import os
 import re
+import signal
 import socket
 import stat
 import time
@@ -792,6 +793,8 @@ def a_path_with_one_launcher(stage):
         launcher = stage.serve()
         is_refused(stage, "beside a launcher", LOCKED)
         check(os.path.exists(at("socket")) and os.path.exists(at("socket.lock")), "a file of the first launcher is gone")
+        # It is stopped: else it makes the file again within a second.
+        os.kill(launcher.pid, signal.SIGSTOP)
         os.remove(at(name))
         is_refused(stage, f"beside a launcher whose {name} was removed", LOCKED if name == "socket" else IN_USE)
         check(name == "socket" or not os.path.exists(at(name)), f"{name} was made anew")

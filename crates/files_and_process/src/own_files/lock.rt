@@ -23,7 +23,7 @@ impl LockFile {
         for _ in 0..TRIES {
             if let Some(file) = open(rt, path.as_str())? {
                 lock(&file)?;
-                if is_at(rt, path.as_str(), &file) {
+                if is_at(rt, path.as_str(), &file)? {
                     return Ok(LockFile { file, path });
                 }
             }
@@ -31,14 +31,15 @@ impl LockFile {
         Err(busy())
     }
 
-    /// Whether the lock's file is still at its path.
-    pub fn is_at_its_path<R: Files<File = File>>(&self, rt: &R) -> bool {
+    /// Whether the lock's file is still at its path. False: another is there, or none. An error is that of the system's look: then it may be
+    /// there.
+    pub fn is_at_its_path<R: Files<File = File>>(&self, rt: &R) -> io::Result<bool> {
         is_at(rt, self.path.as_str(), &self.file)
     }
 
     /// Removes the lock's file, while the lock is held. A file that somebody else put there is left.
     pub fn remove<R: Files<File = File>>(&self, rt: &R) {
-        if self.is_at_its_path(rt) {
+        if let Ok(true) = self.is_at_its_path(rt) {
             let _left = fs::remove_file(rt, self.path.as_str());
         }
     }
@@ -84,12 +85,11 @@ fn open<R: Files<File = File>>(rt: &R, path: &str) -> io::Result<Option<File>> {
 }
 
 // Whether the file is the one at the path.
-fn is_at<R: Files<File = File>>(rt: &R, path: &str, file: &File) -> bool {
-    let Ok(own) = file.metadata() else {
-        return false;
-    };
-    let Ok(there) = fs::symlink_metadata(rt, path) else {
-        return false;
-    };
-    own.dev() == there.dev() && own.ino() == there.ino()
+fn is_at<R: Files<File = File>>(rt: &R, path: &str, file: &File) -> io::Result<bool> {
+    let own = file.metadata()?;
+    match fs::symlink_metadata(rt, path) {
+        Ok(there) => Ok(own.dev() == there.dev() && own.ino() == there.ino()),
+        Err(error) if error.kind() == ErrorKind::NotFound => Ok(false),
+        Err(error) => Err(error),
+    }
 }

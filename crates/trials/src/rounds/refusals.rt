@@ -25,7 +25,7 @@ const JOURNAL: &[u8] = b"{\"overrides\":{},\"up\":0,\"wall\":1700000000,\"zone\"
 const TOLD: &str = "jobd: a: run 1: cannot wait for its end: permission denied
 jobd: cannot look at /w: permission denied
 jobd: a: cannot let a client in: Invalid argument (os error 22)
-jobd: control socket: its file is gone, and can't be made again: permission denied
+jobd: control socket: cannot look at its file: permission denied
 ";
 
 /// A child for which the first two waits are refused.
