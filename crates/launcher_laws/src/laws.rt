@@ -22,7 +22,7 @@ ghost use Rattle.child_edge.specs.Calls.{ToldCall};
 
 use outside::SettingStore;
 use override_store::{LastingSettings, OverrideStore, StorePlace};
-use sqlite::Alter;
+use sqlite::{Alter, Connection};
 
 /// After any turns the table stands for the machine that the turns' events lead to, and the store holds that machine's settings. The
 /// replies and the calls were the machine's.
@@ -40,7 +40,7 @@ pub fn the_store_holds_what_the_machine_sets<T: SettingStore>(store: &T)
 /// A launcher's store that is closed after any turns and opened again, over a disk that returns what was written, tells of each label the
 /// last setting that the launcher made, whatever was refused between and however often it was opened anew: `listed` is what `all`
 /// gives of it. It is not shut.
-pub fn a_store_opened_again_has_the_last_settings<S: Alter, P: StorePlace<S>, R: Alter>(
+pub fn a_store_opened_again_has_the_last_settings<S: Alter, P: StorePlace<Connection<S>>, R: Alter>(
     store: &LastingSettings<S, P>,
     again: &OverrideStore<R>,
 )

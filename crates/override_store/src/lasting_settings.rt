@@ -37,7 +37,7 @@ pub enum NotKept {
 
 /// The store at its place, with the settings that it has to hold. A setting that is refused shuts it. The next one opens it anew, and
 /// what its database then has otherwise is written back before that one is made. Once it is let go, its database is closed whole.
-pub struct LastingSettings<S: Alter, P: StorePlace<S>> {
+pub struct LastingSettings<S: Alter, P: StorePlace<Connection<S>>> {
     alloc: Global,
     pub place: P,
     /// The store, if it is not shut.
@@ -53,7 +53,7 @@ pub struct LastingSettings<S: Alter, P: StorePlace<S>> {
     is_full: bool,
 }
 
-impl<S: Alter + Drop, P: StorePlace<S> + Drop> Drop for LastingSettings<S, P> {
+impl<S: Alter + Drop, P: StorePlace<Connection<S>> + Drop> Drop for LastingSettings<S, P> {
     fn drop(self) {
         let LastingSettings {
             alloc,
@@ -75,7 +75,7 @@ impl<S: Alter + Drop, P: StorePlace<S> + Drop> Drop for LastingSettings<S, P> {
 }
 
 // Opens the store anew, so that what others did to its files meanwhile is seen and mended, and closes it.
-fn settle<S: Alter + Drop, P: StorePlace<S>>(
+fn settle<S: Alter + Drop, P: StorePlace<Connection<S>>>(
     alloc: Global,
     place: &P,
     pattern: &Schema,
@@ -91,7 +91,7 @@ fn settle<S: Alter + Drop, P: StorePlace<S>>(
 
 /// The store on a connection to the database at the place, and the settings that it holds, by rising bytes of their labels. Refused as
 /// `opened` is.
-pub fn lasting<S: Alter + Drop, P: StorePlace<S> + Drop>(
+pub fn lasting<S: Alter + Drop, P: StorePlace<Connection<S>> + Drop>(
     alloc: Global,
     place: P,
     conn: Connection<S>,
@@ -142,7 +142,7 @@ pub fn lasting<S: Alter + Drop, P: StorePlace<S> + Drop>(
     }
 }
 
-impl<S: Alter + Drop, P: StorePlace<S> + Drop> LastingSettings<S, P> {
+impl<S: Alter + Drop, P: StorePlace<Connection<S>> + Drop> LastingSettings<S, P> {
     // The store, taken out. It is opened anew if it is shut.
     fn at_hand(&mut self) -> Result<OverrideStore<S>, StoreFault>
         ensures pattern { self.new.pattern ≡ self.old.pattern }
@@ -288,7 +288,7 @@ impl<S: Alter + Drop, P: StorePlace<S> + Drop> LastingSettings<S, P> {
     }
 }
 
-impl<S: Alter + Drop, P: StorePlace<S> + Drop> SettingStore for LastingSettings<S, P> {
+impl<S: Alter + Drop, P: StorePlace<Connection<S>> + Drop> SettingStore for LastingSettings<S, P> {
     ghost holds = { λ s settings. HoldsLast S.Store s.pattern s.store s.known.items settings };
 
     ghost stamped = { λ s stamps. StampsLast S.Store s.pattern s.store s.known.items stamps };

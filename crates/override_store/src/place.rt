@@ -1,7 +1,6 @@
 //! Where a launcher's store stands, as the system or a test has it.
 
 use crate::StoreFault;
-use sqlite::{Alter, Connection};
 use std::alloc::Global;
 
 /// What a store has to tell.
@@ -25,13 +24,13 @@ pub enum Telling {
     AllButBusy,
 }
 
-/// Opens the database of a store, and again after its disk failed.
-pub trait StorePlace<S: Alter> {
+/// Opens the database of a store, and again after its disk failed. A `C` is a connection to it.
+pub trait StorePlace<C> {
     /// A new connection to the database. No other connection that it gave is there any more. No clause says what it finds: the store looks.
-    fn open(&self, alloc: Global, telling: Telling) -> Result<Connection<S>, StoreFault>;
+    fn open(&self, alloc: Global, telling: Telling) -> Result<C, StoreFault>;
 
     /// Moves what a log beside the database holds into it, and lets it go.
-    fn close(&self, conn: Connection<S>);
+    fn close(&self, conn: C);
 
     fn tell(&self, news: StoreNews);
 }

@@ -44,7 +44,7 @@ pub(crate) fn open_all<S: Alter + Drop>(
 }
 
 // A refusal is told.
-fn open_at<S: Alter + Drop, P: StorePlace<S>>(
+fn open_at<S: Alter + Drop, P: StorePlace<Connection<S>>>(
     alloc: Global,
     place: &P,
     pattern: &Schema,
@@ -130,7 +130,11 @@ pub(crate) fn store_schema(alloc: Global) -> Result<Schema, StoreFault>
     }
 }
 
-fn told<S: Alter, P: StorePlace<S>>(place: &P, telling: Telling, fault: StoreFault) -> StoreFault
+fn told<S: Alter, P: StorePlace<Connection<S>>>(
+    place: &P,
+    telling: Telling,
+    fault: StoreFault,
+) -> StoreFault
     ensures { result ≡ fault }
 {
     match telling {
@@ -141,7 +145,7 @@ fn told<S: Alter, P: StorePlace<S>>(place: &P, telling: Telling, fault: StoreFau
 }
 
 // The store at its place, and what it has, if that is not what is known.
-fn look<S: Alter + Drop, P: StorePlace<S>>(
+fn look<S: Alter + Drop, P: StorePlace<Connection<S>>>(
     alloc: Global,
     place: &P,
     pattern: &Schema,
@@ -164,7 +168,7 @@ fn look<S: Alter + Drop, P: StorePlace<S>>(
 }
 
 /// The store opened anew, which has what is known, and whether that had to be written back. Nothing is answered before it was read back.
-pub(crate) fn renewed<S: Alter + Drop, P: StorePlace<S>>(
+pub(crate) fn renewed<S: Alter + Drop, P: StorePlace<Connection<S>>>(
     alloc: Global,
     place: &P,
     pattern: &Schema,
@@ -187,7 +191,7 @@ pub(crate) fn renewed<S: Alter + Drop, P: StorePlace<S>>(
 }
 
 // The store, once it was mended.
-fn look_again<S: Alter + Drop, P: StorePlace<S>>(
+fn look_again<S: Alter + Drop, P: StorePlace<Connection<S>>>(
     alloc: Global,
     place: &P,
     pattern: &Schema,

@@ -11,8 +11,7 @@ use files_and_process::own_files::make_private;
 use history_model::Setting;
 use outside::SettingStore;
 use override_store::{StoreFault, StoreNews, StorePlace, Telling, lasting};
-use sqlite::{File, FileStore, Files, Options, Unknown};
-use sqlite_disk::Memory;
+use sqlite::{Files, Options, Unknown};
 use sqlite_std_file::OpenError;
 use std::alloc::Global;
 use std::hash::{BuildHasher, RandomState};
@@ -94,7 +93,7 @@ struct StoreFiles<'a> {
     path: &'a str,
 }
 
-impl StorePlace<FileStore<Medium<File, Memory>>> for StoreFiles<'_> {
+impl StorePlace<MediaConnection> for StoreFiles<'_> {
     fn open(&self, _alloc: Global, telling: Telling) -> Result<MediaConnection, StoreFault> {
         match private_connection_at(self.rt, self.path) {
             Ok(conn) => Ok(conn),
