@@ -7,6 +7,8 @@ use Rattle.std.proofs.lemmas.List.{map-append, reverse-append}
 use Rattle.std.proofs.lemmas.List.Sorted.{IsPermutation-sym, IsPermutation-reverse}
 use Rattle.std.specs.Cmp.Lexicographic.{same_text}
 use Rattle.sqlite_value.specs.Order.{Row, column}
+use Rattle.sqlite.specs.Effect.{Database}
+use Rattle.sqlite.specs.State.{State}
 use Rattle.sqlite.specs.declared.types.Value.TheVariants.{Int, Text}
 use Rattle.sqlite_rules.specs.Lists.{Has}
 use Rattle.sqlite_rules.proofs.ProbeLemmas.{has_mapped}
@@ -20,7 +22,9 @@ use Rattle.override_store.specs.Settings.{Change, HoldsEach, IsEntry, IsSortedLi
 use Rattle.override_store.specs.KnownSettings.{IsKnown, change_in, found_in, is_known_as, settings_of, stamps_of}
 use Rattle.override_store.proofs.AnswerLemmas.{listed_as}
 use Rattle.override_store.proofs.PermutationLemmas.{has_permuted}
+use Rattle.override_store.specs.OverrideStores.{IsOurs, StaysOurs, rows_now, setting_rows}
 use Rattle.override_store.proofs.TieLemmas.{head_second, holds_listed, same_second, zip_right}
+use Rattle.override_store.proofs.TypedLemmas.{ours_one_setting}
 use lib.Pointwise.{bytes_decides}
 
 -- ---- one more, put into a list
@@ -106,21 +110,21 @@ module _ (new : Known) (label : Label) where
 
 pub setting_found : (known : List Known) (l : Label) → setting_in (settings_of known) l ≡ option_map (λ (k : Known). k.setting.disabled) (found_in known l)
 setting_found [] l = refl
-setting_found (k ∷ known) l = go (is_known_as l k)
+setting_found (k ∷ known) l = go (is_known_as l k) (setting_found known l)
   where
-    go : (b : Bool) → option_map (λ (s : Setting). s.disabled) (first (cond b (k.setting ∷ filter (sets l) (settings_of known)) (filter (sets l) (settings_of known))))
+    go : (b : Bool) → setting_in (settings_of known) l ≡ option_map (λ (k : Known). k.setting.disabled) (found_in known l) → option_map (λ (s : Setting). s.disabled) (first (cond b (k.setting ∷ filter (sets l) (settings_of known)) (filter (sets l) (settings_of known))))
         ≡ option_map (λ (k : Known). k.setting.disabled) (first (cond b (k ∷ filter (is_known_as l) known) (filter (is_known_as l) known)))
-    go true = refl
-    go false = setting_found known l
+    go true later = refl
+    go false later = later
 
 pub second_found : (known : List Known) (l : Label) → second_in (stamps_of known) l ≡ option_map (λ (k : Known). k.changed) (found_in known l)
 second_found [] l = refl
-second_found (k ∷ known) l = go (is_known_as l k)
+second_found (k ∷ known) l = go (is_known_as l k) (second_found known l)
   where
-    go : (b : Bool) → option_map (λ (c : Change). c.1) (first (cond b (change_in k ∷ filter (λ (c : Change). is_same l c.0) (stamps_of known)) (filter (λ (c : Change). is_same l c.0) (stamps_of known))))
+    go : (b : Bool) → second_in (stamps_of known) l ≡ option_map (λ (k : Known). k.changed) (found_in known l) → option_map (λ (c : Change). c.1) (first (cond b (change_in k ∷ filter (λ (c : Change). is_same l c.0) (stamps_of known)) (filter (λ (c : Change). is_same l c.0) (stamps_of known))))
         ≡ option_map (λ (k : Known). k.changed) (first (cond b (k ∷ filter (is_known_as l) known) (filter (is_known_as l) known)))
-    go true = refl
-    go false = second_found known l
+    go true later = refl
+    go false later = later
 
 pub settings_alike : (a b : List Known) (l : Label) → found_in a l ≡ found_in b l → setting_in (settings_of a) l ≡ setting_in (settings_of b) l
 settings_alike a b l same = setting_found a l ∙ ap (option_map (λ (k : Known). k.setting.disabled)) same ∙ sym (setting_found b l)
@@ -181,3 +185,12 @@ stamps_known rows answer known it each l s e =
       label_is = sym (ap (λ (x : Row). column x 0) r.2) ∙ row.2.0.0.0 ∙ ap (λ (t : List ℕ). Text t) found.2;
       holds = subst (λ (n : ℕ). column r.0 3 ≡ Int (pos n)) found.3 (sym (ap (λ (x : Row). column x 2) r.2) ∙ row.2.1);
     }
+
+-- so a store that was read holds what its rows say
+pub known_held : (old new : State) (rows : List Row) (known all : List Known) → IsOurs old → IsSortedList (rows_now old) rows → AllZip IsKnown rows known → all ≡ reverse known → StaysOurs old new
+    → (IsOurs new × HoldsEach (rows_now new) (settings_of all)) × (IsOurs new × StampsEach (rows_now new) (stamps_of all))
+known_held old new rows known all ours it each is stays =
+    let same : rows_now old ≡ rows_now new = ap (λ (d : Database). setting_rows d.trees) (sym stays.1) in (
+      (stays.0, subst (λ (ks : List Known). HoldsEach (rows_now new) (settings_of ks)) (sym is) (subst (λ (rs : List Row). HoldsEach rs (settings_of (reverse known))) same (holds_known (rows_now old) rows known (ours_one_setting old.now ours.ours) it each))),
+      (stays.0, subst (λ (ks : List Known). StampsEach (rows_now new) (stamps_of ks)) (sym is) (subst (λ (rs : List Row). StampsEach rs (stamps_of (reverse known))) same (stamps_known (rows_now old) rows known it each))),
+    )

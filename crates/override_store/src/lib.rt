@@ -7,7 +7,7 @@ ghost use Rattle.sqlite.specs.Held.{state};
 ghost use Rattle.sqlite.specs.State.{HasCleanDisk, Survives};
 ghost use Rattle.sqlite_disk.specs.Disk.{MoreFaults};
 ghost use Rattle.sqlite.specs.Tree.{Trees};
-ghost use Rattle.sqlite.specs.View.{IsClean, doubt};
+ghost use Rattle.sqlite.specs.View.{IsClean};
 ghost use Rattle.override_store.specs.KnownSettings.{HoldsKnown};
 ghost use Rattle.history_model.specs.declared.TheConstants.{MAX_WALL};
 ghost use Rattle.history_model.specs.Labels.{is_label, is_same};
@@ -228,7 +228,8 @@ impl<S: Alter> OverrideStore<S> {
     pub(crate) fn known(&mut self, alloc: Global) -> Result<Vec<Known>, StoreFault>
         ensures tells { Between S.Store self.old self.new (λ old new. (HasCleanDisk old → IsOurs old) →
             IfOk result (λ all. HoldsKnown new all.items)) }
-        ensures clean { doubt (state S.Store self.old).is_clean ≤ doubt (state S.Store self.new).is_clean }
+        ensures crash { Between S.Store self.old self.new (λ old new.
+            Survives old new (λ _. CommitsOpen old ⊥)) }
     {
         let rows = match statements::read(&mut self.conn) {
             Ok(rows) => rows,

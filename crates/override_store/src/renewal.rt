@@ -29,6 +29,9 @@ pub(crate) fn open_all<S: Alter + Drop>(
     ensures holds { (HasCleanDisk (state S.Store conn) → IsTrue (state S.Store conn).is_open →
         AreFit (state S.Store conn).committed.trees) →
         IfOk result (λ r. HoldsKnown (state S.Store r.0) r.1.items) }
+    ensures crash { IfOk result (λ r. HasCleanDisk (state S.Store r.0) →
+        AreFit (state S.Store conn).committed.trees → (db : Trees) → (state S.Store r.0).may_leave db →
+        (state S.Store conn).may_leave db ⊎ HoldsAs (state S.Store conn).committed.trees db) }
     ensures left { IfErr result (λ e. IsClean (S.Store.view e.1) →
         AreFit (state S.Store conn).committed.trees → (db : Trees) → S.Store.recovers e.1 db →
         (state S.Store conn).may_leave db ⊎ HoldsAs (state S.Store conn).committed.trees db) }
@@ -56,11 +59,14 @@ fn open_at<S: Alter + Drop, P: StorePlace<Connection<S>>>(
         Ok(conn) => conn,
         Err(fault) => return Err(fault),
     };
-    let opened = match fit(conn, pattern) {
-        Ok(conn) => open_all(alloc, conn),
-        Err(refused) => Err(refused),
+    let conn = match fit(conn, pattern) {
+        Ok(conn) => conn,
+        Err((fault, store)) => {
+            drop(store);
+            return Err(told(place, telling, fault));
+        }
     };
-    match opened {
+    match open_all(alloc, conn) {
         Ok(both) => Ok(both),
         Err((fault, store)) => {
             drop(store);
@@ -130,11 +136,7 @@ pub(crate) fn store_schema(alloc: Global) -> Result<Schema, StoreFault>
     }
 }
 
-fn told<S: Alter, P: StorePlace<Connection<S>>>(
-    place: &P,
-    telling: Telling,
-    fault: StoreFault,
-) -> StoreFault
+fn told<C, P: StorePlace<C>>(place: &P, telling: Telling, fault: StoreFault) -> StoreFault
     ensures { result ≡ fault }
 {
     match telling {

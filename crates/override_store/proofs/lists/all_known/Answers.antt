@@ -11,4 +11,4 @@ loop-row-preserved c =
     let rows = c.args.rows.now in
     let at = c.loop-row.row-index in
     let more : take (at + 1) rows ≡ take at rows ++ c.row-item.result ∷ [] = take_more rows at c.row-item.result c.loop-row-test.true ∙ ap (λ r. take at rows ++ r ∷ []) (sym c.row-item.is) in
-    subst₂ (AllZip IsKnown) (sym more) (sym c.in-Ok-push.ensures.items) (zip_push IsKnown (take at rows) c.loop-row.all.items c.row-item.result c.in-Ok.one c.loop-row.invariant c.in-Ok.ensures)
+    subst₂ (AllZip IsKnown) (sym more) (sym c.in-Ok-push.ensures.items) (zip_push IsKnown (take at rows) c.loop-row.all.items c.row-item.result c.in-Ok.one c.loop-row.invariant c.in-Ok.ensures.ok)

@@ -9,5 +9,5 @@ use Rattle.override_store.proofs.renewal.store_schema.Goals as goal
 pub returns-in-Ok-copy : goal.returns-in-Ok-copy
 returns-in-Ok-copy c =
     let store = c.in-Ok-open_on.store in
-    c.in-Ok-copy.ensures ∙ c.schema.ensures.value ∙ ap (λ h. (state over_memory h).now.schema) c.close_on.ensures
+    c.in-Ok-copy.ensures ∙ c.schema.ensures.value ∙ ap (λ h. (state over_memory h).now.schema) c.close_on-conn.ensures
     ∙ new_schema (state over_memory c.in-Ok.conn) (state over_memory store) c.in-Ok.ensures.empty c.in-Ok-open_on.ensures.opened (memory_is_clean store)
