@@ -1,5 +1,5 @@
-/* Calls of the system that go wrong, for broken_scenes.py: a library that is loaded before the launcher's own. The word BREAK of the
-   environment says which call goes wrong and how; each other call is done as it is. */
+/* Calls of the system that go wrong, for broken_scenes.py and damaged_stores.py: a library that is loaded before the launcher's own. The word
+   BREAK of the environment says which call goes wrong and how, or FAIL_AT which one is refused; each other call is done as it is. */
 #define _GNU_SOURCE
 #include <dlfcn.h>
 #include <errno.h>
@@ -46,6 +46,35 @@ int open(const char *path, int flags, ...) {
   if (breaks("a_refused_open_leaves_a_descriptor") && answer < 0) syscall(SYS_dup, 0);
   return answer;
 }
+
+/* The call FAIL_AT of those that write, cut or sync the store or its log is refused, for damaged_stores.py. */
+static int is_refused(int file) {
+  static int calls;
+  char link[64], name[4096];
+  const char *at = getenv("FAIL_AT");
+  if (!at) return 0;
+  snprintf(link, sizeof link, "/proc/self/fd/%d", file);
+  long length = readlink(link, name, sizeof name - 1);
+  name[length < 0 ? 0 : length] = 0;
+  if (!ends(name, "/store") && !ends(name, "/store-wal")) return 0;
+  if (++calls != atoi(at)) return 0;
+  errno = EIO;
+  return 1;
+}
+
+ssize_t pwrite64(int file, const void *bytes, size_t count, off64_t at) {
+  return is_refused(file) ? -1 : syscall(SYS_pwrite64, file, bytes, count, at);
+}
+
+ssize_t pwrite(int file, const void *bytes, size_t count, off_t at) { return pwrite64(file, bytes, count, at); }
+
+int fsync(int file) { return is_refused(file) ? -1 : syscall(SYS_fsync, file); }
+
+int fdatasync(int file) { return is_refused(file) ? -1 : syscall(SYS_fdatasync, file); }
+
+int ftruncate64(int file, off64_t length) { return is_refused(file) ? -1 : syscall(SYS_ftruncate, file, length); }
+
+int ftruncate(int file, off_t length) { return ftruncate64(file, length); }
 
 int chmod(const char *path, mode_t mode) { return breaks("modes_stay") ? 0 : syscall(SYS_chmod, path, mode); }
 

@@ -1,7 +1,7 @@
 #!/usr/bin/env python3
 """Stores that are damaged, or none of ours, before `jobd overrides` and `jobd serve`: neither hangs, dies or writes to what it refuses.
 
-    tests/damaged_stores.py [--jobd PROGRAM] [--jobctl PROGRAM] [--count N] [--seed S] [--at-once N]
+    tests/damaged_stores.py [--jobd PROGRAM] [--jobctl PROGRAM] [--count N] [--harms N] [--calls N] [--seed S] [--at-once N]
 
 It is run by hand, after `make build`; PROGRAM is build/jobd. A sound store of 300 settings is made, as a clean end leaves it, as
 signal 9 leaves it, and as one file. 500 others are made of these, or N of them: bits flipped in the file or in its log, both cut, fields of
@@ -10,8 +10,10 @@ the path of the store or of its log.
 
 `jobd overrides` has to end with status 0 and lines of settings, or with 5, one line on standard error, and no file changed.
 `jobd serve` has to be ready, answer and shut down; or to end with 5 and a line, and no file changed. A setting that it acknowledged
-has to be there afterwards, where the store could be read before. Each fault is told, and the last line counts; the status is 1
-if there is one.
+has to be there afterwards, where the store could be read before. Then the logs of 40 launchers that run, or of N, are removed, cut,
+overwritten or put back: after a shutdown each acknowledged setting has to be there. And in 200 launchers, or N, one call on the store's files is
+refused, the first in one, the second in the next (if there is `cc`): at most one setting is refused, which is told, and after a shutdown, or signal 9, the store has
+exactly what was acknowledged. Each fault is told, and the last line counts; the status is 1 if there is one.
 """
 import argparse
 import collections
@@ -21,8 +23,10 @@ import random
 import re
 import shlex
 import shutil
+import signal
 import socket
 import stat
+import subprocess
 import sys
 import tempfile
 
@@ -297,6 +301,116 @@ def try_store(given, folder, name, make):
         stage.clear()
 
 
+# ---- logs that are harmed while a launcher runs
+
+def remove_log(path, rng, older):
+    os.remove(path)
+
+
+def cut_log(path, rng, older):
+    os.truncate(path, rng.randrange(os.path.getsize(path)))
+
+
+def overwrite_log(path, rng, older):
+    with open(path, "r+b") as file:
+        file.seek(rng.randrange(os.path.getsize(path)))
+        file.write(rng.choice((bytes, rng.randbytes))(rng.randrange(1, 100_000)))
+
+
+def put_back_log(path, rng, older):
+    with open(path + ".older", "wb") as file:
+        file.write(older)
+    os.replace(path + ".older", path)
+
+
+HARMS = [remove_log, cut_log, overwrite_log, put_back_log]
+
+
+def try_harm(given, folder, rng, harm):
+    """What came of it: after the end the store has each setting that was acknowledged."""
+    os.mkdir(folder)
+    stage, wanted, older = Stage(given, folder), {}, b""
+    try:
+        launcher = stage.serve()
+        count = rng.randrange(1, 120)
+        for number in range(count):
+            word, label = rng.choice(("disable", "enable")), f"job{rng.randrange(60):02}"
+            check(launcher.ask({"req": word, "job": label})["code"] == 0, "a setting was refused")
+            wanted[label] = f"{word}d"
+            if number == count // 2:
+                older = bytes_or_none(stage.at("store-wal"))
+        harm(stage.at("store-wal"), rng, older)
+        launcher.shut_down()
+        check(not strange(launcher.said()), f"serve said {launcher.said()[-300:]!r}")
+        lines = stage.run(["overrides", "--store", stage.at("store")]).stdout.splitlines()
+        found = dict(line.split("\t")[:2] for line in lines)
+        check(found == wanted, f"{len(wanted)} labels were set, {len(set(wanted.items()) - set(found.items()))} are lost: {launcher.said()!r}")
+        return f"{harm.__name__}, {'written again' if launcher.said() else 'nothing lost'}"
+    finally:
+        stage.clear()
+
+
+# ---- one call of the system that is refused
+
+def calls_library(folder):
+    """A library that refuses one call of a launcher, or None if it can't be made."""
+    made, source = os.path.join(folder, "calls.so"), os.path.join(HERE, "broken_calls.c")
+    if not shutil.which("cc"):
+        print("the calls are skipped: there is no cc")
+        return None
+    subprocess.run(["cc", "-shared", "-fPIC", "-O1", "-o", made, source], check=True)
+    return made
+
+
+def try_call(given, folder, library, number):
+    """What came of it: at most one setting is refused, and the store has exactly those that were acknowledged."""
+    os.mkdir(folder)
+    stage, wanted, refused, last = Stage(given, folder), {}, 0, 0
+    try:
+        launcher = stage.start(env={"LD_PRELOAD": library, "FAIL_AT": str(number)})
+        if not launcher.is_ready():
+            status = launcher.ends()
+            check(status == 5 and "store" in launcher.said(), f"serve: {status}, {launcher.said()!r}")
+            return "call, no start"
+        for at in range(300):
+            word, label = ("disable", "enable")[at // 7 % 2], f"job{at % 60:02}"
+            last = launcher.ask({"req": word, "job": label})["code"]
+            check(last in (0, 9), f"{word} of {label} got {last}")
+            refused += last == 9
+            if last == 0:
+                wanted[label] = f"{word}d"
+        check(refused <= 1, f"{refused} settings are refused after one call")
+        told = launcher.lines("store ")
+        check(len(told) == refused, f"{refused} settings are refused: said {launcher.said()!r}")
+        if number % 2:
+            launcher.shut_down()
+        else:
+            os.kill(launcher.pid, signal.SIGKILL)
+            launcher.ends()
+        check(not strange(launcher.said()), f"serve said {launcher.said()[-300:]!r}")
+        lines = stage.run(["overrides", "--store", stage.at("store")]).stdout.splitlines()
+        found = dict(line.split("\t")[:2] for line in lines)
+        check(found == wanted or last, f"{len(wanted)} labels were set, the store differs in {set(wanted.items()) ^ set(found.items())}")
+        return f"call, {'one refused' if refused else 'none refused'}"
+    finally:
+        stage.clear()
+
+
+def play_call(given, folder, library, number):
+    try:
+        return try_call(given, os.path.join(folder, f"call{number}"), library, number), None
+    except Fault as fault:
+        return "at fault", f"FAILED call {number}: {fault}".replace(folder, "@")
+
+
+def play_harm(given, folder, number, seed):
+    rng, harm = random.Random(seed), HARMS[number % len(HARMS)]
+    try:
+        return try_harm(given, os.path.join(folder, f"harm{number}"), rng, harm), None
+    except Fault as fault:
+        return "at fault", f"FAILED {harm.__name__} {number}: {fault}".replace(folder, "@")
+
+
 def play(given, folder, number, name, make):
     try:
         return try_store(given, os.path.join(folder, str(number)), name, make), None
@@ -311,12 +425,21 @@ def read_words():
     words.add_argument("--jobd", type=shlex.split, default=[f"{HERE}/../build/jobd"])
     words.add_argument("--jobctl", type=shlex.split, default=[f"{HERE}/../build/jobctl"])
     words.add_argument("--count", type=int, default=500)
+    words.add_argument("--harms", type=int, default=40)
+    words.add_argument("--calls", type=int, default=200)
     words.add_argument("--seed", type=int, default=1)
     words.add_argument("--at-once", type=int, default=4)
     given = words.parse_args()
     for command in (given.jobd, given.jobctl):
         command[0] = os.path.abspath(command[0])
     return given
+
+
+def count_all(played, outcomes):
+    for outcome, fault in played:
+        outcomes[outcome] += 1
+        if fault:
+            print(fault, flush=True)
 
 
 def main():
@@ -327,11 +450,12 @@ def main():
         os.mkdir(os.path.join(folder, "sound"))
         stores = sound_stores(given, os.path.join(folder, "sound"))
         made = makers(stores, given.count, random.Random(given.seed))
+        library = calls_library(folder)
+        calls = range(1, given.calls + 1) if library else ()
         with concurrent.futures.ThreadPoolExecutor(given.at_once) as pool:
-            for outcome, fault in pool.map(lambda each: play(given, folder, each[0], *each[1]), enumerate(made)):
-                outcomes[outcome] += 1
-                if fault:
-                    print(fault, flush=True)
+            count_all(pool.map(lambda each: play(given, folder, each[0], *each[1]), enumerate(made)), outcomes)
+            count_all(pool.map(lambda number: play_harm(given, folder, number, given.seed + number), range(given.harms)), outcomes)
+            count_all(pool.map(lambda number: play_call(given, folder, library, number), calls), outcomes)
     finally:
         end_children()
         shutil.rmtree(folder, ignore_errors=True)

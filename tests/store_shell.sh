@@ -16,7 +16,8 @@ if [ ! -x "$programs/jobd" ] || [ ! -x "$programs/jobctl" ]; then
     exit 1
 fi
 
-page=$(cd "$(dirname "$0")/../docs" && pwd)/OPERATING.md
+docs=$(cd "$(dirname "$0")/../docs" && pwd)
+page=$docs/OPERATING.md
 folder=$(mktemp -d)
 launcher=
 trap '[ -z "$launcher" ] || kill "$launcher"; rm -rf "$folder"' EXIT
@@ -98,5 +99,30 @@ count=$(wc -l <saved)
 want "a saved setting" "org.example.1599${tab}disabled" "$(cut -f 1,2 saved | tail -n 1)"
 set_all mended.db enable org.example.1000
 want "a launcher writes in what was saved" "org.example.1000${tab}enabled" "$(listed mended.db | cut -f 1,2 | head -n 1)"
+
+# labels are forgotten by the line of OPERATING, as it stands there, but for the place of the store
+line=$(sed -n 's/^    sqlite3 \/var\/lib\/jobd\/overrides.db "DELETE/"$shell" forgotten.db "DELETE/p' "$docs/OPERATING.md")
+[ -n "$line" ] || want "the line of the page" "a DELETE" "none"
+set_all forgotten.db disable org.example.old.a enable org.example.new disable org.example.old.b
+eval "$line"
+want "labels are forgotten" "org.example.new${tab}enabled" "$(listed forgotten.db | cut -f 1,2)"
+set_all forgotten.db enable org.example.old.a
+want "a forgotten label is set" "org.example.new${tab}enabled
+org.example.old.a${tab}enabled" "$(listed forgotten.db | cut -f 1,2)"
+
+# a store with more labels than a launcher makes, of more than 64 MiB, is opened; its labels can be set, and no other
+set_all large.db
+"$shell" large.db "WITH RECURSIVE n(i) AS (SELECT 0 UNION ALL SELECT i + 1 FROM n WHERE i < 122499)
+INSERT INTO settings SELECT printf('%06d', i) || printf('%0249d', 0), 1, i FROM n; PRAGMA wal_checkpoint(TRUNCATE)" >/dev/null
+[ "$(wc -c <large.db)" -gt 67108864 ] || want "a large store" "more than 64 MiB" "$(wc -c <large.db)"
+first=$(printf '%06d%0249d' 0 0)
+set_all large.db enable "$first"
+want "a large store lists its settings" "122500" "$(listed large.db | wc -l)"
+want "a label of a large store is set" "$first${tab}enabled" "$(listed large.db | head -n 1 | cut -f 1,2)"
+said=$(set_all large.db enable one.more 2>&1) || true
+case $said in
+*"16,384 labels have a setting"*) ;;
+*) want "a label too many" "16,384 labels have a setting, and no other may have one" "$said" ;;
+esac
 
 echo "store_shell: passed"

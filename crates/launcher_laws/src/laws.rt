@@ -3,14 +3,15 @@
 //! asked other things.
 
 ghost use Rattle.std.specs.Prelude.{◌≡◌, List, [], Option, Some, ℕ, reverse, true};
-ghost use Rattle.sqlite.specs.Held.{state};
+ghost use Rattle.sqlite.specs.Held.{Held, state};
 ghost use Rattle.sqlite.specs.State.{HasCleanDisk};
 ghost use Rattle.history_model.specs.declared.event.Setting.{Setting};
 ghost use Rattle.ctl_protocol.specs.declared.header.Header.{Header};
-ghost use Rattle.override_store.specs.OverrideStores.{HoldsSettings, IsOpenedOn, setting_rows};
+ghost use Rattle.override_store.specs.OverrideStores.{IsOpenedOn, setting_rows};
 ghost use Rattle.override_store.specs.Settings.{HoldsEach, ListAlike};
 ghost use Rattle.outside.specs.Stores.{StoreCall};
-ghost use Rattle.override_store.specs.declared.stored_settings.StoredSettings.{StoredSettings as Stored};
+ghost use Rattle.override_store.specs.declared.lasting_settings.LastingSettings.{LastingSettings as Lasting};
+ghost use Rattle.override_store.specs.KnownSettings.{HoldsLast};
 ghost use Rattle.launcher.specs.declared.journal.Phase.TheVariants.{Open};
 ghost use Rattle.launcher.specs.Journals.{JournalState, fresh};
 ghost use Rattle.launcher.specs.Hosts.{IsNew, with_overrides};
@@ -20,8 +21,8 @@ ghost use Rattle.launcher_laws.specs.Replays.{IsReplayed};
 ghost use Rattle.child_edge.specs.Calls.{ToldCall};
 
 use outside::SettingStore;
-use override_store::{OverrideStore, StoredSettings};
-use sqlite::Alter;
+use override_store::{LastingSettings, OverrideStore, StorePlace};
+use sqlite::{Alter, Connection};
 
 /// After any turns the table stands for the machine that the turns' events lead to, and the store holds that machine's settings. The
 /// replies and the calls were the machine's.
@@ -36,24 +37,26 @@ pub fn the_store_holds_what_the_machine_sets<T: SettingStore>(store: &T)
     let _ = store;
 }
 
-/// A store that is closed after any turns and opened again, over a disk that returns what was written, tells of each label the last
-/// setting that the launcher made: `listed` is what `all` gives of it.
-pub fn a_store_opened_again_has_the_last_settings<S: Alter, R: Alter>(
-    store: &StoredSettings<S>,
+/// A launcher's store that is closed after any turns and opened again, over a disk that returns what was written, tells of each label the
+/// last setting that the launcher made, whatever was refused between and however often it was opened anew: `listed` is what `all`
+/// gives of it. It is not shut.
+pub fn a_store_opened_again_has_the_last_settings<S: Alter, P: StorePlace<Connection<S>>, R: Alter>(
+    store: &LastingSettings<S, P>,
     again: &OverrideStore<R>,
 )
     ensures { (header : Header) (calls : Option (List ToldCall)) (stores : Option (List StoreCall))
-        (journal : JournalState) (first last : Snapshot (Stored S)) (turns : List (Turn (Stored S))) →
+        (journal : JournalState) (first last : Snapshot (Lasting S P)) (turns : List (Turn (Lasting S P))) →
         (new : IsNew header calls stores journal first.stands
-        (HoldsSettings (state S.Store store.now.store))
-        (HoldsSettings (state S.Store first.store.store))) →
-        AreTurns (λ (s : Stored S). HoldsSettings (state S.Store s.store)) first turns last →
-        (list : List Setting) → HoldsSettings (state S.Store store.now.store) list →
-        IsOpenedOn (state S.Store last.store.store) (state R.Store again.now) →
+        (HoldsLast S.Store store.now.pattern store.now.store store.now.known.items)
+        (HoldsLast S.Store first.store.pattern first.store.store first.store.known.items)) →
+        AreTurns (λ (s : Lasting S P). HoldsLast S.Store s.pattern s.store s.known.items) first turns last →
+        (list : List Setting) → HoldsLast S.Store store.now.pattern store.now.store store.now.known.items list →
+        (at_end : Held S) → last.store.store ≡ Some at_end →
+        IsOpenedOn (state S.Store at_end) (state R.Store again.now) →
         HasCleanDisk (state R.Store again.now) →
         (listed : List Setting) →
         HoldsEach (setting_rows (state R.Store again.now).now.trees) (reverse listed) →
-        (lasts : Lasts (λ (s : Stored S). HoldsSettings (state S.Store s.store))
+        (lasts : Lasts (λ (s : Lasting S P). HoldsLast S.Store s.pattern s.store s.known.items)
         new.machine turns last)
         × ListAlike (reverse listed) (settings_at_last lasts) }
 {

@@ -24,7 +24,7 @@ abbrev disabled_of : Option Setting → Option Bool
 disabled_of = option_map (λ (s : Setting). s.disabled)
 
 -- the newest setting decides of its own label
-head_setting : (s : Setting) (settings : List Setting) (l : Label) → is_same l s.label ≡ true → setting_in (s ∷ settings) l ≡ Some s.disabled
+pub head_setting : (s : Setting) (settings : List Setting) (l : Label) → is_same l s.label ≡ true → setting_in (s ∷ settings) l ≡ Some s.disabled
 head_setting s settings l same = ap (λ b. disabled_of (first (cond b (s ∷ filter (sets l) settings) (filter (sets l) settings)))) same
 
 tail_setting : (s : Setting) (settings : List Setting) (l : Label) → is_same l s.label ≡ false → setting_in (s ∷ settings) l ≡ setting_in settings l
@@ -51,14 +51,14 @@ holds_more old new settings label disabled holds now l d =
 
 -- ---- the seconds
 
-same_second : (m n : ℕ) → ◌≡◌ {A = Option ℕ} (Some m) (Some n) → m ≡ n
+pub same_second : (m n : ℕ) → ◌≡◌ {A = Option ℕ} (Some m) (Some n) → m ≡ n
 same_second m n e = cc
 
 abbrev second_of : Option Change → Option ℕ
 second_of = option_map (λ (c : Change). c.1)
 
 -- the newest second decides of its own label
-head_second : (c : Change) (changes : List Change) (l : Label) (same : Bool) → is_same l c.0 ≡ same → second_in (c ∷ changes) l ≡ (if same then Some c.1 else second_in changes l)
+pub head_second : (c : Change) (changes : List Change) (l : Label) (same : Bool) → is_same l c.0 ≡ same → second_in (c ∷ changes) l ≡ (if same then Some c.1 else second_in changes l)
 head_second c changes l true is = ap (λ b. second_of (first (cond b (c ∷ filter (λ (d : Change). is_same l d.0) changes) (filter (λ (d : Change). is_same l d.0) changes)))) is
 head_second c changes l false is = ap (λ b. second_of (first (cond b (c ∷ filter (λ (d : Change). is_same l d.0) changes) (filter (λ (d : Change). is_same l d.0) changes)))) is
 
@@ -81,7 +81,7 @@ zip_left R (a ∷ xs) [] x all h = absurd all
 zip_left R (a ∷ xs) (b ∷ ys) x all (inl same) = (b, inl refl, subst (λ r. R r b) (sym same) all.0)
 zip_left R (a ∷ xs) (b ∷ ys) x all (inr later) = let it = zip_left R xs ys x all.1 later in (it.0, inr it.1, it.2)
 
-zip_right : {A : Type 0} (R : Row → A → Type 0) (xs : List Row) (ys : List A) (y : A) → AllZip R xs ys → Has ys y → (x : Row) × Has xs x × R x y
+pub zip_right : {A : Type 0} (R : Row → A → Type 0) (xs : List Row) (ys : List A) (y : A) → AllZip R xs ys → Has ys y → (x : Row) × Has xs x × R x y
 zip_right R xs [] y all h = absurd h
 zip_right R [] (b ∷ ys) y all h = absurd all
 zip_right R (a ∷ xs) (b ∷ ys) y all (inl same) = (a, inl refl, subst (R a) (sym same) all.0)

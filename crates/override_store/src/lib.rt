@@ -8,6 +8,7 @@ ghost use Rattle.sqlite.specs.State.{HasCleanDisk, Survives};
 ghost use Rattle.sqlite_disk.specs.Disk.{MoreFaults};
 ghost use Rattle.sqlite.specs.Tree.{Trees};
 ghost use Rattle.sqlite.specs.View.{IsClean};
+ghost use Rattle.override_store.specs.KnownSettings.{HoldsKnown};
 ghost use Rattle.history_model.specs.declared.TheConstants.{MAX_WALL};
 ghost use Rattle.history_model.specs.Labels.{is_label, is_same};
 ghost use Rattle.history_model.specs.declared.event.Setting.{Setting};
@@ -16,13 +17,21 @@ ghost use Rattle.override_store.specs.Settings.{Change, HoldsEach, ListsChanges,
 
 pub mod again;
 mod batch;
+mod known;
+mod lasting_settings;
 pub mod laws;
 mod lists;
 mod open;
+mod place;
+mod renewal;
+mod sameness;
 mod statements;
 mod stored_settings;
 
 use history_model::Setting;
+pub use known::{Known, MOST_LABELS};
+pub use lasting_settings::{LastingSettings, NotKept, lasting};
+pub use place::{StoreNews, StorePlace, Telling};
 use sqlite::{Alter, Connection, Error, ErrorCode};
 use sqlite_trees::store::Store;
 use std::alloc::Global;
@@ -36,6 +45,8 @@ pub enum StoreFault {
     NoMemory,
     /// The database refused the statement, or its disk failed.
     Refused,
+    /// No room was left on the disk.
+    Full,
     /// A stored name is no label.
     Foreign,
 }
@@ -47,6 +58,7 @@ fn fault(error: Error) -> StoreFault
 {
     match error {
         Error::SqliteFailure(ErrorCode::OutOfMemory) => StoreFault::NoMemory,
+        Error::SqliteFailure(ErrorCode::DiskFull) => StoreFault::Full,
         _ => StoreFault::Refused,
     }
 }
@@ -143,6 +155,8 @@ impl<S: Alter> OverrideStore<S> {
         ensures crash { Between S.Store self.old self.new (λ old new. Survives old new (λ db.
             CommitsOpen old (HoldsSetting old db label.now disabled changed))) }
         ensures lasts { FromOurs S.Store self.old self.new (λ _ new. OnOk result (LeavesAll new)) }
+        ensures ran { Between S.Store self.old self.new (λ old new.
+            HasCleanDisk new → OnOk result (IsTrue old.is_open)) }
         ensures known { IfErr result (λ e. e ≢ StoreFault.Foreign) }
     {
         statements::put(&mut self.conn, label, disabled, changed)
@@ -208,6 +222,30 @@ impl<S: Alter> OverrideStore<S> {
             Err(fault) => return Err(fault),
         };
         lists::changes(alloc, rows.as_slice())
+    }
+
+    /// Each label's setting with its second, by falling bytes of the labels. Refused as `all` is.
+    pub(crate) fn known(&mut self, alloc: Global) -> Result<Vec<Known>, StoreFault>
+        ensures tells { Between S.Store self.old self.new (λ old new. (HasCleanDisk old → IsOurs old) →
+            IfOk result (λ all. HoldsKnown new all.items)) }
+        ensures crash { Between S.Store self.old self.new (λ old new.
+            Survives old new (λ _. CommitsOpen old ⊥)) }
+    {
+        let rows = match statements::read(&mut self.conn) {
+            Ok(rows) => rows,
+            Err(fault) => return Err(fault),
+        };
+        let mut all = match lists::all_known(alloc, rows.as_slice()) {
+            Ok(all) => all,
+            Err(fault) => return Err(fault),
+        };
+        all.reverse();
+        Ok(all)
+    }
+
+    /// Takes the label's setting out, and promises nothing of what is left.
+    pub(crate) fn forget(&mut self, label: &str) -> Result<(), StoreFault> {
+        statements::forget(&mut self.conn, label)
     }
 
     /// The connection, as it is.

@@ -1,10 +1,12 @@
-//! The rows of a query as settings, and as seconds.
+//! The rows of a query as settings, as seconds, and as both.
 
 ghost use Rattle.std.specs.Prelude.{◌≡◌, ◌<◌, All, Err, IfOk, length, map, string_bytes};
 ghost use Rattle.std.specs.List.{AllZip};
 ghost use Rattle.sqlite.specs.Order.{column};
 ghost use Rattle.override_store.specs.Settings.{IsChange, IsEntry, IsForeign, IsOf, change_of, HasForeignAnswer};
+ghost use Rattle.override_store.specs.KnownSettings.{IsKnown};
 
+use crate::known::Known;
 use crate::{StoreFault, fault};
 use history_model::{Setting, Text, is_label};
 use sqlite::{Error, ErrorCode, Row};
@@ -86,6 +88,40 @@ pub(crate) fn changes(alloc: Global, rows: &[Row]) -> Result<Vec<(String, u64)>,
     let mut all = Vec::new(alloc);
     for row in rows {
         let one = match change(row) {
+            Ok(one) => one,
+            Err(fault) => return Err(fault),
+        };
+        match all.push(one) {
+            Ok(()) => {}
+            Err(_) => return Err(StoreFault::NoMemory),
+        }
+    }
+    Ok(all)
+}
+
+fn known_in(row: &Row) -> Result<Known, StoreFault>
+    ensures ok { IfOk result (λ known. IsKnown row.now known) }
+{
+    let setting = match entry(row) {
+        Ok(setting) => setting,
+        Err(fault) => return Err(fault),
+    };
+    match row.get(2) {
+        Ok(changed) => Ok(Known { setting, changed }),
+        Err(error) => {
+            drop(setting);
+            Err(fault(error))
+        }
+    }
+}
+
+/// The settings with their seconds, in the order of the rows.
+pub(crate) fn all_known(alloc: Global, rows: &[Row]) -> Result<Vec<Known>, StoreFault>
+    ensures ok { IfOk result (λ all. AllZip IsKnown rows.now all.items) }
+{
+    let mut all = Vec::new(alloc);
+    for row in rows {
+        let one = match known_in(row) {
             Ok(one) => one,
             Err(fault) => return Err(fault),
         };

@@ -11,6 +11,8 @@ use sqlite::{Alter, Connection, Row, params};
 
 const SET: &str = "INSERT OR REPLACE INTO settings (label, disabled, changed) VALUES (?1, ?2, ?3)";
 
+const FORGET: &str = "DELETE FROM settings WHERE label = ?1";
+
 const LIST: &str = "SELECT label, disabled, changed FROM settings ORDER BY label";
 
 /// Compiles the statement, which a shut connection refuses. Nothing is changed by it.
@@ -90,6 +92,8 @@ pub(crate) fn put<S: Alter>(
     ensures crash { Between S.Store conn.old conn.new (λ old new. Survives old new (λ db.
         CommitsOpen old (HoldsSetting old db label.now disabled changed))) }
     ensures lasts { FromOurs S.Store conn.old conn.new (λ _ new. OnOk result (LeavesAll new)) }
+    ensures ran { Between S.Store conn.old conn.new (λ old new.
+        HasCleanDisk new → OnOk result (IsTrue old.is_open)) }
     ensures known { IfErr result (λ e. e ≢ StoreFault.Foreign) }
 {
     match ready(conn, SET) {
@@ -115,5 +119,13 @@ pub(crate) fn read<S: Alter>(conn: &mut Connection<S>) -> Result<Vec<Row>, Store
     match ready(conn, LIST) {
         Ok(()) => read_rows(conn),
         Err(fault) => Err(fault),
+    }
+}
+
+/// Takes the label's setting out. No clause says what it leaves: what is there is read again.
+pub(crate) fn forget<S: Alter>(conn: &mut Connection<S>, label: &str) -> Result<(), StoreFault> {
+    match conn.execute(FORGET, params![label]) {
+        Ok(_) => Ok(()),
+        Err(error) => Err(fault(error)),
     }
 }

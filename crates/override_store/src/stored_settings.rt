@@ -23,12 +23,14 @@ pub struct StoredSettings<S: Alter> {
 }
 
 /// The fault that the store's is. A name that is no label counts as refused.
-fn fault_of(fault: StoreFault) -> outside::StoreFault
+pub(crate) fn fault_of(fault: StoreFault) -> outside::StoreFault
     ensures memory { result ≡ given.NoMemory ↔ (fault ≡ StoreFault.NoMemory) }
 {
     match fault {
         StoreFault::NoMemory => outside::StoreFault::NoMemory,
-        StoreFault::Refused | StoreFault::Foreign => outside::StoreFault::Refused,
+        StoreFault::Refused | StoreFault::Full | StoreFault::Foreign => {
+            outside::StoreFault::Refused
+        }
     }
 }
 

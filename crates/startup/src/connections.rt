@@ -3,7 +3,7 @@
 
 use crate::medium::Medium;
 use crate::refusal::StoreRefusal;
-use sqlite::{Alter, Connection, Error, ErrorCode, File, Files, Options};
+use sqlite::{Alter, Connection, Error, ErrorCode, File, FileStore, Files, Options};
 use sqlite_disk::Memory;
 use std::alloc::Global;
 
@@ -17,6 +17,9 @@ pub(crate) trait Task {
     fn over<S: Alter + Drop>(self, conn: Connection<S>) -> Result<Self::Done, (StoreRefusal, Self)>;
 }
 
+/// A connection to the database of such files.
+pub(crate) type MediaConnection = Connection<FileStore<Medium<File, Memory>>>;
+
 /// Opens the database of these files, and does the task over it.
 pub(crate) fn over_files<T: Task>(
     alloc: Global,
@@ -24,29 +27,23 @@ pub(crate) fn over_files<T: Task>(
     options: Options,
     task: T,
 ) -> Result<T::Done, (StoreRefusal, T)> {
-    if !files.may_be_used() {
-        return Err((no_memory(), task));
-    }
-    match Connection::open_files(alloc, files, options) {
+    match connection_over(alloc, files, options) {
         Ok(conn) => task.over(conn),
-        Err((error, _)) => Err((StoreRefusal::Database(error), task)),
+        Err(refusal) => Err((refusal, task)),
     }
 }
 
-/// Opens the database of these files, and closes it, so that the log's pages are moved into it.
-pub(crate) fn close_files(
+/// Opens the database of these files.
+pub(crate) fn connection_over(
     alloc: Global,
     files: Media,
     options: Options,
-) -> Result<(), StoreRefusal> {
+) -> Result<MediaConnection, StoreRefusal> {
     if !files.may_be_used() {
         return Err(no_memory());
     }
     match Connection::open_files(alloc, files, options) {
-        Ok(conn) => match conn.close() {
-            Ok(()) => Ok(()),
-            Err(error) => Err(StoreRefusal::Database(error)),
-        },
+        Ok(conn) => Ok(conn),
         Err((error, _)) => Err(StoreRefusal::Database(error)),
     }
 }

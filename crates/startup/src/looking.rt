@@ -11,8 +11,9 @@ use std::fs::{File, OpenOptions};
 use std::io::{ErrorKind, Read};
 use std::{fs, io};
 
-/// A store's file has at most so many bytes, and so has the log beside it.
-const MOST_BYTES: u64 = 67_108_864;
+/// A store's file has at most so many bytes, and so has the log beside it. No launcher writes one with more: each label takes two pages of
+/// 4,096 bytes at most, and few labels get a setting (`MOST_LABELS` of `override_store`).
+const MOST_BYTES: u64 = 1_073_741_824;
 
 /// How many pages of the copy are kept a second time.
 const CACHE_PAGES: usize = 8;
@@ -166,7 +167,7 @@ fn bytes_at<R: fs::Files<File = File>>(rt: &R, alloc: Global, path: &str) -> io:
     let mut bytes = Vec::new(alloc);
     let count = file.take(MOST_BYTES + 1).read_to_end(&mut bytes)?;
     if count as u64 > MOST_BYTES {
-        return Err(io::Error::new(ErrorKind::InvalidInput, "it has more than 64 MiB"));
+        return Err(io::Error::new(ErrorKind::InvalidInput, "it has more than 1 GiB"));
     }
     Ok(bytes)
 }

@@ -45,6 +45,7 @@ pub(crate) fn refuse_store(
         StoreRefusal::Taken(why) => why,
         StoreRefusal::Foreign => "a database, but no store of overrides",
         StoreRefusal::Settings(StoreFault::Refused) => "the database refused",
+        StoreRefusal::Settings(StoreFault::Full) => "database or disk is full",
         StoreRefusal::Settings(StoreFault::Foreign) => "a stored name is no label",
     };
     report(rt, level, "store", path, &why);

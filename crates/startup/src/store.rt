@@ -1,23 +1,23 @@
 //! The store of a launcher: opened, served from, and settled once the launcher has let go of it.
 
-use crate::connections::{Media, Task, close_files, over_files};
+use crate::connections::{Media, MediaConnection, Task, connection_over, over_files};
 use crate::looking::{Found, look};
 use crate::medium::Medium;
 use crate::one_file::taken_for_store;
 use crate::plan::Plan;
 use crate::refusal::{StoreRefusal, refuse_store};
-use crate::reporting::Level;
+use crate::reporting::{Level, report};
 use files_and_process::own_files::make_private;
 use history_model::Setting;
 use outside::SettingStore;
-use override_store::opened;
-use sqlite::{Alter, Connection, Files, Options, Unknown};
+use override_store::{StoreFault, StoreNews, StorePlace, Telling, lasting};
+use sqlite::{Files, Options, Unknown};
 use sqlite_std_file::OpenError;
 use std::alloc::Global;
 use std::hash::{BuildHasher, RandomState};
 use std::io;
 
-/// How many pages of the store are kept in memory.
+/// As many pages of the store are kept in memory.
 const CACHE_PAGES: usize = 64;
 
 /// The log beside the store is moved into the store once it has so many pages, which is a megabyte.
@@ -29,10 +29,12 @@ pub trait StoreUser {
     fn use_store<T: SettingStore + Drop>(self, store: T, settings: Vec<Setting>) -> Result<u8, u8>;
 }
 
-/// Opens the store at the path, which is made, for this user alone, if it is not there, and has it used. Then what the log beside it
-/// holds is moved into the store's file, unless nothing was set; that this is refused is told, unless another launcher has the store by
-/// then. Status 5, with the user given back, if it is no store or can't be opened, as while another launcher has it open, if its
-/// tables or its settings are refused, or if its file is the lock of another place or one that the clearing of the spool may remove.
+/// Opens the store at the path, which is made, for this user alone, if it is not there, and has it used. A setting that its disk refuses
+/// shuts it, and the next one opens it anew. At the end it is opened once more, and what its files have otherwise than it was told is
+/// written again, which is told; then what the log beside it holds is moved into its file. That this is refused is told, unless another
+/// launcher has the store by then. Status 5, with the user given back, if it is no store or can't be opened, as while another launcher
+/// has it open, if its tables or its settings are refused, or if its file is the lock of another place or one that the clearing of the
+/// spool may remove.
 pub fn with_store<U: StoreUser>(
     rt: &HostRuntime,
     alloc: Global,
@@ -43,13 +45,26 @@ pub fn with_store<U: StoreUser>(
     if let Err(refusal) = look_at_own(rt, alloc, plan) {
         return Err((refuse_store(rt, level, path, refusal), user));
     }
-    match over_store(rt, path, Opening { alloc, user }) {
-        Ok(Ok(status)) => {
-            settle(rt, level, path);
-            Ok(status)
-        }
-        Ok(Err(status)) => Ok(status),
-        Err((refusal, Opening { alloc: _, user })) => {
+    let place = StoreFiles { rt, level, path };
+    match connection_at(rt, path) {
+        Ok(conn) => used_over(alloc, place, conn, user),
+        Err(refusal) => Err((refuse_store(rt, level, path, refusal), user)),
+    }
+}
+
+fn used_over<U: StoreUser>(
+    alloc: Global,
+    place: StoreFiles<'_>,
+    conn: MediaConnection,
+    user: U,
+) -> Result<u8, (u8, U)> {
+    let StoreFiles { rt, level, path } = place;
+    match lasting(alloc, StoreFiles { rt, level, path }, conn) {
+        Ok((store, settings)) => match user.use_store(store, settings) {
+            Ok(status) | Err(status) => Ok(status),
+        },
+        Err((fault, _)) => {
+            let refusal = StoreRefusal::Settings(fault);
             Err((refuse_store(rt, level, path, refusal), user))
         }
     }
@@ -70,24 +85,66 @@ fn private_file(rt: &HostRuntime, alloc: Global, plan: &Plan) -> io::Result<Opti
     taken_for_store(rt, alloc, plan)
 }
 
-/// Opens the settings of a database, and hands them to who uses them.
-struct Opening<U> {
-    alloc: Global,
-    user: U,
+/// Where a launcher's store stands among the files of the system.
+#[derive(Drop)]
+struct StoreFiles<'a> {
+    rt: &'a HostRuntime,
+    level: Level,
+    path: &'a str,
 }
 
-impl<U: StoreUser> Task for Opening<U> {
-    type Done = Result<u8, u8>;
-
-    fn over<S: Alter + Drop>(
-        self,
-        conn: Connection<S>,
-    ) -> Result<Result<u8, u8>, (StoreRefusal, Opening<U>)> {
-        let Opening { alloc, user } = self;
-        match opened(alloc, conn) {
-            Ok((store, settings)) => Ok(user.use_store(store, settings)),
-            Err((fault, _)) => Err((StoreRefusal::Settings(fault), Opening { alloc, user })),
+impl StorePlace<MediaConnection> for StoreFiles<'_> {
+    fn open(&self, _alloc: Global, telling: Telling) -> Result<MediaConnection, StoreFault> {
+        match private_connection_at(self.rt, self.path) {
+            Ok(conn) => Ok(conn),
+            Err(refusal) => Err(fault_of(self, telling, refusal)),
         }
+    }
+
+    fn close(&self, conn: MediaConnection) {
+        if let Err(error) = conn.close() {
+            report(self.rt, self.level, "store", self.path, &error);
+        }
+    }
+
+    fn tell(&self, news: StoreNews) {
+        let why = match news {
+            StoreNews::Refused(StoreFault::NoMemory) => "memory was refused",
+            StoreNews::Refused(StoreFault::Refused) => "disk I/O error",
+            StoreNews::Refused(StoreFault::Full) => "database or disk is full",
+            StoreNews::Refused(StoreFault::Foreign) => "a database, but no store of overrides",
+            StoreNews::TooMany => "16,384 labels have a setting, and no other may have one",
+            StoreNews::Mended =>
+                "its files had not the last settings of all labels: they are written again",
+        };
+        report(self.rt, self.level, "store", self.path, &why);
+    }
+}
+
+// Why the store was not opened, which is told as it is asked for.
+fn fault_of(place: &StoreFiles<'_>, telling: Telling, refusal: StoreRefusal) -> StoreFault {
+    let is_told = match telling {
+        Telling::Nothing => false,
+        Telling::All => true,
+        Telling::AllButBusy => !matches!(refusal, StoreRefusal::Files(OpenError::Busy)),
+    };
+    if is_told {
+        let _status = refuse_store(place.rt, place.level, place.path, refusal);
+    }
+    StoreFault::Refused
+}
+
+fn private_connection_at(rt: &HostRuntime, path: &str) -> Result<MediaConnection, StoreRefusal> {
+    match make_private(rt, path) {
+        Ok(()) => connection_at(rt, path),
+        Err(error) => Err(StoreRefusal::System("store", error)),
+    }
+}
+
+fn connection_at(rt: &HostRuntime, path: &str) -> Result<MediaConnection, StoreRefusal> {
+    match files_at(rt, path) {
+        Ok((files, options)) => connection_over(rt.alloc(), files, options),
+        Err(error) => Err(refused(error)),
     }
 }
 
@@ -123,15 +180,4 @@ fn files_at(rt: &HostRuntime, path: &str) -> Result<(Media, Options), OpenError>
         ..Options::new(state.hash_one(&0u8))
     };
     Ok((files, options))
-}
-
-fn settle(rt: &HostRuntime, level: Level, path: &str) {
-    let settled = match files_at(rt, path) {
-        Ok((files, options)) => close_files(rt.alloc(), files, options),
-        Err(OpenError::Busy) => return,
-        Err(error) => Err(refused(error)),
-    };
-    if let Err(refusal) = settled {
-        let _status = refuse_store(rt, level, path, refusal);
-    }
 }

@@ -1,0 +1,272 @@
+//! A store that is opened anew: its database is made to have what it has to hold.
+
+ghost use Rattle.std.specs.Prelude.{◌≡◌, ◌⊎◌, IfErr, IfOk, IsTrue, None};
+ghost use Rattle.sqlite_catalog.specs.Listing.{IsSound};
+ghost use Rattle.override_store.specs.StoreTables.{both_schema};
+ghost use Rattle.sqlite.specs.Held.{state};
+ghost use Rattle.sqlite.specs.State.{HasCleanDisk};
+ghost use Rattle.sqlite.specs.Tree.{Trees};
+ghost use Rattle.sqlite.specs.View.{IsClean};
+ghost use Rattle.override_store.specs.OverrideStores.{AreFit, HoldsAs};
+ghost use Rattle.override_store.specs.KnownSettings.{HoldsKnown};
+
+use crate::known::{Known, are_same, is_same, known_of};
+use crate::open::open_tables;
+use crate::place::{StoreNews, StorePlace, Telling};
+use crate::sameness::Same;
+use crate::{OverrideStore, StoreFault};
+use history_model::{MAX_WALL, is_label};
+use sqlite::{Alter, Connection};
+use sqlite_schema::schema::Schema;
+use sqlite_trees::store::Store;
+use std::alloc::Global;
+
+/// The store on a connection, and all that it holds. Refused as `opened` is.
+pub(crate) fn open_all<S: Alter + Drop>(
+    alloc: Global,
+    conn: Connection<S>,
+) -> Result<(OverrideStore<S>, Vec<Known>), (StoreFault, S)>
+    ensures holds { (HasCleanDisk (state S.Store conn) → IsTrue (state S.Store conn).is_open →
+        AreFit (state S.Store conn).committed.trees) →
+        IfOk result (λ r. HoldsKnown (state S.Store r.0) r.1.items) }
+    ensures crash { IfOk result (λ r. HasCleanDisk (state S.Store r.0) →
+        AreFit (state S.Store conn).committed.trees → (db : Trees) → (state S.Store r.0).may_leave db →
+        (state S.Store conn).may_leave db ⊎ HoldsAs (state S.Store conn).committed.trees db) }
+    ensures left { IfErr result (λ e. IsClean (S.Store.view e.1) →
+        AreFit (state S.Store conn).committed.trees → (db : Trees) → S.Store.recovers e.1 db →
+        (state S.Store conn).may_leave db ⊎ HoldsAs (state S.Store conn).committed.trees db) }
+{
+    let mut store = match OverrideStore::open_or_give(alloc, conn) {
+        Ok(store) => store,
+        Err(refused) => return Err(refused),
+    };
+    match store.known(alloc) {
+        Ok(known) => Ok((store, known)),
+        Err(fault) => Err((fault, store.close_on().into_store())),
+    }
+}
+
+// A refusal is told.
+fn open_at<S: Alter + Drop, P: StorePlace<Connection<S>>>(
+    alloc: Global,
+    place: &P,
+    pattern: &Schema,
+    telling: Telling,
+) -> Result<(OverrideStore<S>, Vec<Known>), StoreFault>
+    ensures { pattern.now ≡ both_schema → IfOk result (λ r. HoldsKnown (state S.Store r.0) r.1.items) }
+{
+    let conn = match place.open(alloc, telling) {
+        Ok(conn) => conn,
+        Err(fault) => return Err(fault),
+    };
+    let conn = match fit(conn, pattern) {
+        Ok(conn) => conn,
+        Err((fault, store)) => {
+            drop(store);
+            return Err(told(place, telling, fault));
+        }
+    };
+    match open_all(alloc, conn) {
+        Ok(both) => Ok(both),
+        Err((fault, store)) => {
+            drop(store);
+            Err(told(place, telling, fault))
+        }
+    }
+}
+
+// The connection with the tables of a store, and with nothing else.
+fn fit<S: Alter + Drop>(
+    conn: Connection<S>,
+    pattern: &Schema,
+) -> Result<Connection<S>, (StoreFault, S)>
+    ensures { pattern.now ≡ both_schema →
+        IfOk result (λ conn. HasCleanDisk (state S.Store conn) → IsTrue (state S.Store conn).is_open →
+        AreFit (state S.Store conn).committed.trees) }
+{
+    let mut conn = conn;
+    if is_empty(&conn) {
+        match open_tables(&mut conn) {
+            Ok(()) => {}
+            Err(fault) => return Err((fault, conn.into_store())),
+        }
+    }
+    if has_schema(&conn, pattern) {
+        Ok(conn)
+    } else {
+        Err((StoreFault::Foreign, conn.into_store()))
+    }
+}
+
+// Nothing is written to a database that has other tables.
+fn is_empty<S: Alter>(conn: &Connection<S>) -> bool {
+    let schema = conn.schema();
+    let has_no_table = schema.tables.is_empty();
+    let has_no_index = schema.indexes.is_empty();
+    let has_no_view = schema.views.is_empty();
+    has_no_table && has_no_index && has_no_view
+}
+
+// Whether the database has this schema, with no transaction open.
+fn has_schema<S: Alter>(conn: &Connection<S>, pattern: &Schema) -> bool
+    ensures { IsTrue result → IsTrue (state S.Store conn.now).is_open →
+        IsSound pattern.now (state S.Store conn.now).committed.trees }
+{
+    let is_settled = conn.is_autocommit();
+    is_settled && conn.schema().is_same(pattern)
+}
+
+/// The schema of a store.
+pub(crate) fn store_schema(alloc: Global) -> Result<Schema, StoreFault>
+    ensures { IfOk result (λ schema. schema ≡ both_schema) }
+{
+    let conn = match Connection::open_in_memory(alloc) {
+        Ok(conn) => conn,
+        Err(_) => return Err(StoreFault::NoMemory),
+    };
+    let conn = match OverrideStore::open_on(alloc, conn) {
+        Ok(store) => store.close_on(),
+        Err(fault) => return Err(fault),
+    };
+    let copy = conn.schema().copy(alloc);
+    drop(conn);
+    match copy {
+        Ok(schema) => Ok(schema),
+        Err(_) => Err(StoreFault::NoMemory),
+    }
+}
+
+fn told<C, P: StorePlace<C>>(place: &P, telling: Telling, fault: StoreFault) -> StoreFault
+    ensures { result ≡ fault }
+{
+    match telling {
+        Telling::Nothing => {}
+        Telling::All | Telling::AllButBusy => place.tell(StoreNews::Refused(fault)),
+    }
+    fault
+}
+
+// The store at its place, and what it has, if that is not what is known.
+fn look<S: Alter + Drop, P: StorePlace<Connection<S>>>(
+    alloc: Global,
+    place: &P,
+    pattern: &Schema,
+    known: &[Known],
+    telling: Telling,
+) -> Result<(OverrideStore<S>, Option<Vec<Known>>), StoreFault>
+    ensures { pattern.now ≡ both_schema →
+        IfOk result (λ r. r.1 ≡ None → HoldsKnown (state S.Store r.0) known.now) }
+{
+    let (store, found) = match open_at(alloc, place, pattern, telling) {
+        Ok(both) => both,
+        Err(fault) => return Err(fault),
+    };
+    if are_same(known, found.as_slice()) {
+        drop(found);
+        Ok((store, None))
+    } else {
+        Ok((store, Some(found)))
+    }
+}
+
+/// The store opened anew, which has what is known, and whether that had to be written back. Nothing is answered before it was read back.
+pub(crate) fn renewed<S: Alter + Drop, P: StorePlace<Connection<S>>>(
+    alloc: Global,
+    place: &P,
+    pattern: &Schema,
+    known: &[Known],
+    telling: Telling,
+) -> Result<(OverrideStore<S>, bool), StoreFault>
+    ensures { pattern.now ≡ both_schema → IfOk result (λ r. HoldsKnown (state S.Store r.0) known.now) }
+{
+    let (store, other) = match look(alloc, place, pattern, known, telling) {
+        Ok(both) => both,
+        Err(fault) => return Err(fault),
+    };
+    match other {
+        None => Ok((store, false)),
+        Some(found) => match mend(store, known, found) {
+            Ok(()) => look_again(alloc, place, pattern, known, telling),
+            Err(fault) => Err(told(place, telling, fault)),
+        },
+    }
+}
+
+// The store, once it was mended.
+fn look_again<S: Alter + Drop, P: StorePlace<Connection<S>>>(
+    alloc: Global,
+    place: &P,
+    pattern: &Schema,
+    known: &[Known],
+    telling: Telling,
+) -> Result<(OverrideStore<S>, bool), StoreFault>
+    ensures { pattern.now ≡ both_schema → IfOk result (λ r. HoldsKnown (state S.Store r.0) known.now) }
+{
+    let (store, other) = match look(alloc, place, pattern, known, telling) {
+        Ok(both) => both,
+        Err(fault) => return Err(fault),
+    };
+    match other {
+        None => Ok((store, true)),
+        Some(found) => {
+            drop(store);
+            drop(found);
+            Err(told(place, telling, StoreFault::Refused))
+        }
+    }
+}
+
+// Makes a store that has what was found have what is known, and lets it go.
+fn mend<S: Alter + Drop>(
+    store: OverrideStore<S>,
+    known: &[Known],
+    found: Vec<Known>,
+) -> Result<(), StoreFault> {
+    let mut store = store;
+    let mended = match forget_others(&mut store, known, found.as_slice()) {
+        Ok(()) => write_back(&mut store, known, found.as_slice()),
+        Err(fault) => Err(fault),
+    };
+    drop(store);
+    drop(found);
+    mended
+}
+
+// Takes out what was found of labels that are not known.
+fn forget_others<S: Alter>(
+    store: &mut OverrideStore<S>,
+    known: &[Known],
+    found: &[Known],
+) -> Result<(), StoreFault> {
+    for one in found {
+        if known_of(known, one.label()).is_none() {
+            store.forget(one.label())?;
+        }
+    }
+    Ok(())
+}
+
+// Writes what is known and was not found so.
+fn write_back<S: Alter>(
+    store: &mut OverrideStore<S>,
+    known: &[Known],
+    found: &[Known],
+) -> Result<(), StoreFault> {
+    for one in known {
+        let is_there = match known_of(found, one.label()) {
+            Some(it) => is_same(it, one),
+            None => false,
+        };
+        if !is_there {
+            put_back(store, one)?;
+        }
+    }
+    Ok(())
+}
+
+fn put_back<S: Alter>(store: &mut OverrideStore<S>, one: &Known) -> Result<(), StoreFault> {
+    if !is_label(one.label()) || one.changed > MAX_WALL {
+        return Err(StoreFault::Refused);
+    }
+    store.set(one.label(), one.setting.disabled, one.changed)
+}
