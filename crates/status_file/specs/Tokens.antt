@@ -268,7 +268,9 @@ conditions_tokens k =
     ∷ key (codes "run_at_load") ∷ boolean k.run_at_load
     ∷ key (codes "successful_exit") ∷ flag_token k.successful_exit
     ∷ key (codes "crashed") ∷ flag_token k.crashed
-    ∷ key (codes "path_state") ∷ boolean k.has_path_state
+    ∷ key (codes "path_state") ∷ number (decimal k.path_state.count)
+    ∷ key (codes "first_condition") ∷ text_token k.path_state.first
+    ∷ key (codes "first_exists") ∷ flag_token k.first_exists
     ∷ key (codes "path_exists") ∷ flag_token k.path_exists ∷ []
 
 abbrev pub limits_tokens : JobKeys → List Token
@@ -279,8 +281,10 @@ limits_tokens k =
 
 abbrev pub others_tokens : JobKeys → List Token
 others_tokens k =
-    key (codes "watch_paths") ∷ boolean k.has_watch_paths
-    ∷ key (codes "queue_directories") ∷ boolean k.has_queue_directories
+    key (codes "watch_paths") ∷ number (decimal k.watch_paths.count)
+    ∷ key (codes "first_watched") ∷ text_token k.watch_paths.first
+    ∷ key (codes "queue_directories") ∷ number (decimal k.queue_directories.count)
+    ∷ key (codes "first_queue") ∷ text_token k.queue_directories.first
     ∷ key (codes "sockets") ∷ boolean k.has_sockets
     ∷ end_object ∷ []
 

@@ -49,6 +49,8 @@ pub fn add_launcher(text: &mut StatusText, alloc: Global, launcher: &LauncherSta
         text_piece(reason),
         Key("store"),
         text_piece(launcher.store),
+        Key("jobs"),
+        Count(launcher.jobs),
         Close,
         Close,
     ]);
@@ -406,16 +408,16 @@ fn put_wanted(line: &mut Line, demand: Option<DemandKind>, path: Option<&str>)
     ]);
 }
 
-fn put_keys(line: &mut Line, keys: JobKeys)
-    ensures { Puts (keys_tokens keys) line.old line.new }
+fn put_keys(line: &mut Line, keys: JobKeys<'_>)
+    ensures { Puts (keys_tokens keys.entry) line.old line.new }
 {
     put_conditions(line, keys);
     put_limits(line, keys);
     put_others(line, keys);
 }
 
-fn put_conditions(line: &mut Line, keys: JobKeys)
-    ensures { Puts (conditions_tokens keys) line.old line.new }
+fn put_conditions(line: &mut Line, keys: JobKeys<'_>)
+    ensures { Puts (conditions_tokens keys.entry) line.old line.new }
 {
     line.put(&[
         Key("keys"),
@@ -427,7 +429,11 @@ fn put_conditions(line: &mut Line, keys: JobKeys)
         Key("crashed"),
         flag_piece(keys.crashed),
         Key("path_state"),
-        Flag(keys.has_path_state),
+        Count(keys.path_state.count),
+        Key("first_condition"),
+        text_piece(keys.path_state.first),
+        Key("first_exists"),
+        flag_piece(keys.first_exists),
         Key("path_exists"),
         flag_piece(keys.path_exists),
     ]);
@@ -442,8 +448,8 @@ fn wide_piece_if(count: Option<u32>) -> Piece<'static>
     }
 }
 
-fn put_limits(line: &mut Line, keys: JobKeys)
-    ensures { Puts (limits_tokens keys) line.old line.new }
+fn put_limits(line: &mut Line, keys: JobKeys<'_>)
+    ensures { Puts (limits_tokens keys.entry) line.old line.new }
 {
     line.put(&[
         Key("start_interval"),
@@ -455,14 +461,18 @@ fn put_limits(line: &mut Line, keys: JobKeys)
     ]);
 }
 
-fn put_others(line: &mut Line, keys: JobKeys)
-    ensures { Puts (others_tokens keys) line.old line.new }
+fn put_others(line: &mut Line, keys: JobKeys<'_>)
+    ensures { Puts (others_tokens keys.entry) line.old line.new }
 {
     line.put(&[
         Key("watch_paths"),
-        Flag(keys.has_watch_paths),
+        Count(keys.watch_paths.count),
+        Key("first_watched"),
+        text_piece(keys.watch_paths.first),
         Key("queue_directories"),
-        Flag(keys.has_queue_directories),
+        Count(keys.queue_directories.count),
+        Key("first_queue"),
+        text_piece(keys.queue_directories.first),
         Key("sockets"),
         Flag(keys.has_sockets),
         Close,
