@@ -31,7 +31,7 @@ fn command_in(
 ) -> Result<ScopeCommand, AllocError> {
     let words = words_in(alloc, task, found);
     let from = match task {
-        Task::Check | Task::Status | Task::Why => number_of(found, "now"),
+        Task::Check | Task::Status | Task::Metrics | Task::Why => number_of(found, "now"),
         _ => number_of(found, "from"),
     };
     let journal = value_of(alloc, found, "journal");
@@ -71,7 +71,13 @@ fn words_in(alloc: Global, task: Task, found: &ArgMatches<'_>) -> Result<Paths, 
     let id = match task {
         Task::Check | Task::Next | Task::Plist | Task::Drift => "paths",
         Task::Cron => "lines",
-        Task::Status | Task::Why | Task::Log | Task::Runs | Task::Picture | Task::Show => "labels",
+        Task::Status
+        | Task::Metrics
+        | Task::Why
+        | Task::Log
+        | Task::Runs
+        | Task::Picture
+        | Task::Show => "labels",
     };
     match values_of(alloc, found, id)? {
         Some(words) => Ok(words),

@@ -12,6 +12,8 @@ pub enum Task {
     Next,
     /// Show how each job of a launcher stands, a line a job.
     Status,
+    /// Write the same as samples that a monitor reads.
+    Metrics,
     /// Say of each job why it runs or not at the journal's end, and what will make it run.
     Why,
     /// Tell the journal's events.
@@ -35,6 +37,7 @@ pub(crate) const TASKS: &[(&str, Task)] = &[
     ("check", Task::Check),
     ("next", Task::Next),
     ("status", Task::Status),
+    ("metrics", Task::Metrics),
     ("why", Task::Why),
     ("log", Task::Log),
     ("runs", Task::Runs),

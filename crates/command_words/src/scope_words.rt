@@ -111,6 +111,8 @@ const NOW: Argument = Argument {
 
 const STATUS: &[Argument] = &[STATUS_FILE, LABELS, UTC, NOW];
 
+const METRICS: &[Argument] = &[STATUS_FILE, LABELS, NOW];
+
 const WHY: &[Argument] = &[
     STATUS_FILE,
     JOURNAL,
@@ -219,6 +221,12 @@ const SUBCOMMANDS: &[Subcommand] = &[
         about: "Show how each job of a launcher stands, a line a job",
         after: SEE_EXIT,
         arguments: STATUS,
+    },
+    Subcommand {
+        name: "metrics",
+        about: "Write how each job of a launcher stands, as text for Prometheus",
+        after: SEE_EXIT,
+        arguments: METRICS,
     },
     Subcommand {
         name: "why",

@@ -8,8 +8,8 @@ use history_model::Text;
 use launchctl_words::{ScopeCommand, Task};
 use run_times::telling::{put_made, tell_of};
 use status_page::{
-    Look, PACKAGES, Standing, has_colour, named_path, read_standing, table_text, tell_trouble,
-    width_of,
+    Look, PACKAGES, Standing, has_colour, named_path, read_standing, samples_text, table_text,
+    tell_trouble, width_of,
 };
 use std::alloc::Global;
 use std::io;
@@ -17,11 +17,11 @@ use std::io;
 /// The status if a job fails.
 pub(crate) const FAILS: u8 = DIFFERS;
 
-/// The path of the file that is asked of, if one is. Of `status` it is that of the words, else that of `JOBD_STATUS_FILE`, else the package's;
+/// The path of the file that is asked of, if one is. Of `status` and `metrics` it is that of the words, else that of `JOBD_STATUS_FILE`, else the package's;
 /// of `why` that of the words, else that of `JOBD_STATUS_FILE`, if neither a journal nor a moment of one is named.
 pub(crate) fn file_asked(host: &HostRuntime, of: &ScopeCommand) -> io::Result<Option<String>> {
     let is_why = match of.task {
-        Task::Status => false,
+        Task::Status | Task::Metrics => false,
         Task::Why => true,
         _ => return Ok(None),
     };
@@ -80,6 +80,10 @@ fn tell(
                 host,
                 standing_text(alloc, standing, labels, of.is_utc, second),
             )?;
+            0
+        }
+        Task::Metrics => {
+            put_made(host, samples_text(alloc, standing, labels, second))?;
             0
         }
         _ => {

@@ -194,12 +194,13 @@ name_tokens label state =
     ∷ key (codes "label") ∷ string label
     ∷ key (codes "state") ∷ string (state_text state) ∷ []
 
-abbrev pub counts_tokens : Option ℕ → ℕ → ℕ → ℕ → ℕ → List Token
-counts_tokens pid run starts failures connections =
+abbrev pub counts_tokens : Option ℕ → ℕ → ℕ → ℕ → ℕ → ℕ → List Token
+counts_tokens pid run starts failures refusals connections =
     key (codes "pid") ∷ count_token pid
     ∷ key (codes "run") ∷ number (decimal run)
     ∷ key (codes "starts") ∷ number (decimal starts)
     ∷ key (codes "failures") ∷ number (decimal failures)
+    ∷ key (codes "refusals") ∷ number (decimal refusals)
     ∷ key (codes "connections") ∷ number (decimal connections) ∷ []
 
 abbrev pub disabled_tokens : Option DisabledBy → List Token
@@ -208,7 +209,7 @@ disabled_tokens by = key (codes "disabled") ∷ disabled_token by ∷ []
 abbrev pub front_tokens : JobStatus → List Token
 front_tokens j =
     name_tokens j.label.now (state_by_reasons j.facts.reasons)
-    ++ (counts_tokens (child_pid j.facts.reasons.child) j.note.run j.note.starts j.note.failures
+    ++ (counts_tokens (child_pid j.facts.reasons.child) j.note.run j.note.starts j.note.failures j.note.refusals
     j.facts.reasons.wants.connections
     ++ disabled_tokens j.disabled)
 

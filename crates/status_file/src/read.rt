@@ -190,6 +190,7 @@ fn note_in<'a>(fields: &mut Fields<'a>) -> JobNote<'a> {
         run: fields.count("run"),
         starts: fields.count("starts"),
         failures: fields.count("failures"),
+        refusals: fields.count("refusals"),
         started: reading_if(fields, "started"),
         term: reading_if(fields, "term"),
         kill: reading_if(fields, "kill"),

@@ -77,6 +77,8 @@ pub struct JobNote<'a> {
     pub starts: u64,
     /// How many starts were refused, and how many runs did not end with code 0, together.
     pub failures: u64,
+    /// How many starts were refused.
+    pub refusals: u64,
     /// When its last start was ordered, also if it was refused.
     pub started: Option<Reading>,
     /// When the first TERM, and when the last KILL, was ordered for its last run.

@@ -99,6 +99,7 @@ fn put_front(line: &mut Line, job: &JobStatus<'_>)
         job.note.run,
         job.note.starts,
         job.note.failures,
+        job.note.refusals,
         job.facts.reasons.wants.connections,
     );
     put_disabled(line, job.disabled);
@@ -124,9 +125,10 @@ fn put_counts(
     run: u64,
     starts: u64,
     failures: u64,
+    refusals: u64,
     connections: usize,
 )
-    ensures { Puts (counts_tokens pid run starts failures connections) line.old line.new }
+    ensures { Puts (counts_tokens pid run starts failures refusals connections) line.old line.new }
 {
     line.put(&[
         Key("pid"),
@@ -137,6 +139,8 @@ fn put_counts(
         Count(starts),
         Key("failures"),
         Count(failures),
+        Key("refusals"),
+        Count(refusals),
         Key("connections"),
         Count(connections as u64),
     ]);

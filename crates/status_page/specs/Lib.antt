@@ -1,3 +1,4 @@
 pub mod Clocks
 pub mod Failing
 pub mod Rows
+pub mod Samples

@@ -8,6 +8,7 @@ mod failing;
 mod head;
 mod life;
 mod rows;
+mod samples;
 mod standing;
 mod table;
 mod width;
@@ -19,6 +20,7 @@ pub use failing::{Failing, Fault, LastEnd, add_failing, fault_of, is_crash, last
 pub use head::add_head;
 pub use life::Life;
 pub use rows::{Next, Row, ShownState, row_of};
+pub use samples::{journal_flag, sample_of, samples_text};
 pub use standing::{PACKAGES, Standing, Trouble, named_path, read_standing, tell_trouble};
 pub use table::{Look, is_asked, reading_of, table_text, told_as_of};
 pub use width::{has_colour, width_of};

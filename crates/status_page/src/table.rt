@@ -108,8 +108,8 @@ fn rows_of<'a>(
     Ok(rows)
 }
 
-// The row of a line, if its job is asked for. A calendar that finds no memory counts as none.
-fn row_in<'a>(
+/// The row of a line, if its job is asked for. A calendar that finds no memory counts as none.
+pub(crate) fn row_in<'a>(
     alloc: Global,
     line: &'a StatusLine,
     labels: &[Text],
