@@ -5,6 +5,7 @@
 import json
 import os
 import stat
+import subprocess
 import time
 
 from edge_scenes import BOUND, check, end_process, make, shell_job, text_at, wait_for
@@ -187,4 +188,75 @@ def status_files_that_are_refused(stage):
     launcher.shut_down()
 
 
-SCENES = [what_a_status_file_holds, a_status_file_rests, a_killed_launcher_leaves_a_whole_file, status_files_that_are_refused]
+# The families of a job's samples, by name: their kind, what they tell, and the value by the job's part of the file.
+FAMILIES = {
+    "jobd_job_running": ("gauge", "Whether a run of the job lives.", lambda job: int(job["pid"] is not None)),
+    "jobd_job_starts_total": ("counter", "Starts that were ordered since the load, refused ones too.", lambda job: job["starts"]),
+    "jobd_job_failures_total": ("counter", "Runs since the load that did not end with code 0.", lambda job: job["failures"] - job["refusals"]),
+    "jobd_job_refused_total": ("counter", "Starts since the load that the system refused.", lambda job: job["refusals"]),
+    "jobd_job_last_end_timestamp_seconds": (
+        "gauge", "When the last run of the job ended.", lambda job: job["last_end"] and job["last_end"]["ended"]["wall"]),
+}
+NEXT = "jobd_job_next_start_timestamp_seconds"
+NEXT_HEAD = f"# HELP {NEXT} When the job starts next by the clocks alone.\n# TYPE {NEXT} gauge\n"
+
+
+def samples(stage, path, now):
+    """What `jobscope metrics` writes, as of this second."""
+    command = [*stage.given.jobscope, "metrics", "--status-file", path, "--now", str(now)]
+    ran = subprocess.run(command, capture_output=True, timeout=BOUND)
+    check(ran.returncode == 0 and not ran.stderr, f"metrics ends with {ran.returncode}: {ran.stderr!r}")
+    return ran.stdout.decode()
+
+
+def wanted_samples(path, is_up):
+    """All that is wanted before the next starts."""
+    first, jobs = told(path)
+    text = ""
+    for name, help_text, value in (
+        ("jobd_up", "Whether the launcher lives.", int(is_up)),
+        ("jobd_journal_open", "Whether the journal of the launcher is open.", 1),
+        ("jobd_status_timestamp_seconds", "When the launcher told how it stands.", first["at"]["wall"]),
+    ):
+        text += f"# HELP {name} {help_text}\n# TYPE {name} gauge\n{name} {value}\n"
+    for name, (kind, help_text, value_of) in FAMILIES.items():
+        text += f"# HELP {name} {help_text}\n# TYPE {name} {kind}\n"
+        for label, job in jobs.items():
+            value = value_of(job) if is_up or name != "jobd_job_running" else 0
+            if value is not None:
+                quoted = label.replace("\\", "\\\\").replace('"', '\\"')
+                text += f'{name}{{label="{quoted}"}} {value}\n'
+    return text
+
+
+def samples_of_a_status_file(stage):
+    """A job that runs, whose label has a quote and a backslash, one that failed, one that is refused, and one of the calendar; then the launcher is killed."""
+    launcher, path = serve(stage, journal="journal")
+    launcher.load(shell_job('a "b" \\c', "exec sleep 600", KeepAlive=True))
+    launcher.load(shell_job("failed", "exit 3", RunAtLoad=True))
+    launcher.load({"Label": "refused", "ProgramArguments": ["/nonexistent/prog"], "RunAtLoad": True, "ThrottleInterval": 3600})
+    launcher.load(shell_job("hourly", "exit 0", StartCalendarInterval={"Minute": 0}))
+    job_where(path, 'a "b" \\c', lambda job: job["pid"])
+    job_where(path, "failed", lambda job: job["last_end"])
+    job_where(path, "refused", lambda job: job["refused"] and job["refusals"] == job["failures"] == 1)
+    job_where(path, "hourly", lambda job: True)
+
+    now = int(time.time())
+    text = samples(stage, path, now)
+    front, head, coming = text.partition(NEXT_HEAD)
+    check(head and front == wanted_samples(path, True), f"the samples are {text!r}, wanted {wanted_samples(path, True)!r}")
+    coming = dict(line.rsplit(" ", 1) for line in coming.splitlines())
+    hourly, refused = (int(coming.pop(f'{NEXT}{{label="{label}"}}', 0)) for label in ("hourly", "refused"))
+    check(hourly == (now // 3600 + 1) * 3600, f"the next hour is {hourly} at {now}")
+    check(abs(refused - told(path)[1]["refused"]["started"]["wall"] - 3600) <= 1, f"the refused one starts at {refused}")
+    check(not coming, f"others start: {coming}")
+
+    end_process(launcher.pid)
+    launcher.ends()
+    pid = told(path)[1]['a "b" \\c']["pid"]
+    text = samples(stage, path, int(time.time()))
+    check(text == wanted_samples(path, False) + NEXT_HEAD, f"of a killed launcher the samples are {text!r}")
+    end_process(pid)
+
+
+SCENES = [what_a_status_file_holds, a_status_file_rests, a_killed_launcher_leaves_a_whole_file, status_files_that_are_refused, samples_of_a_status_file]
