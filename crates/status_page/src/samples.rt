@@ -118,7 +118,7 @@ fn samples_of<'a>(
     Ok(samples)
 }
 
-// The sample of a line. A calendar that finds no memory counts as none.
+// The sample of a line, if its job is asked for.
 fn sample_in<'a>(
     alloc: Global,
     line: &'a StatusLine,
@@ -127,11 +127,13 @@ fn sample_in<'a>(
     may_live: bool,
     at: Reading,
     second: u64,
-) -> Option<JobSample<'a>>
+) -> Result<Option<JobSample<'a>>, AllocError>
     requires up { at.up ≤ MAX_UP }
     requires wall { at.wall ≤ MAX_WALL }
 {
-    let job = line.job().ok()?;
     let row = row_in(alloc, line, labels, zone, may_live, at, second)?;
-    Some(sample_of(&row, &job.note))
+    Ok(match (row, line.job()) {
+        (Some(row), Ok(job)) => Some(sample_of(&row, &job.note)),
+        _ => None,
+    })
 }

@@ -130,7 +130,7 @@ fn standing_of(
 ) -> Result<Standing, Trouble> {
     let found = match lines.first() {
         Some(first) => match first.launcher() {
-            Ok(launcher) if launcher.jobs == lines.len() as u64 - 1 => {
+            Ok(launcher) if launcher.jobs.saturating_add(1) == lines.len() as u64 => {
                 Ok(life_of(host, alloc, &launcher))
             }
             Ok(_) => Err(Trouble::NotWhole),
@@ -189,7 +189,10 @@ fn line_of(alloc: Global, line: &[u8], is_first: bool) -> Result<StatusLine, Sta
 
 fn fault_in(alloc: Global, line: &StatusLine, is_first: bool) -> Option<StatusFault> {
     if is_first {
-        return line.launcher().err();
+        return match line.launcher() {
+            Ok(_) => None,
+            Err(fault) => Some(fault),
+        };
     }
     match line.job() {
         Ok(_) => match line.calendar(alloc) {

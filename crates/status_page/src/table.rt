@@ -1,6 +1,6 @@
 //! The table of `status`: a head, and a line for each job.
 
-ghost use Rattle.std.specs.Prelude.{◌≡◌, ◌≤◌, ◌++◌, ◌∷◌, ℕ, List, []};
+ghost use Rattle.std.specs.Prelude.{◌≤◌, ◌++◌, ◌∷◌, ℕ, List, []};
 ghost use Rattle.history_model.specs.declared.TheConstants.{MAX_UP, MAX_WALL};
 ghost use Rattle.run_times.specs.Written.{Adds};
 ghost use Rattle.status_page.specs.Rows.{state_word, TellsRows};
@@ -100,15 +100,14 @@ fn rows_of<'a>(
     let may_live = standing.life.may_live();
     let mut rows = Vec::new(alloc);
     for line in standing.jobs() {
-        let row = row_in(alloc, line, labels, zone, may_live, at, second);
-        if let Some(row) = row {
+        if let Some(row) = row_in(alloc, line, labels, zone, may_live, at, second)? {
             rows.push(row)?;
         }
     }
     Ok(rows)
 }
 
-/// The row of a line, if its job is asked for. A calendar that finds no memory counts as none.
+/// The row of a line, if its job is asked for.
 pub(crate) fn row_in<'a>(
     alloc: Global,
     line: &'a StatusLine,
@@ -117,18 +116,22 @@ pub(crate) fn row_in<'a>(
     may_live: bool,
     at: Reading,
     second: u64,
-) -> Option<Row<'a>>
+) -> Result<Option<Row<'a>>, AllocError>
     requires up { at.up ≤ MAX_UP }
     requires wall { at.wall ≤ MAX_WALL }
 {
-    let job = line.job().ok()?;
+    let Ok(job) = line.job() else {
+        return Ok(None);
+    };
     if !is_asked(labels, job.label) {
-        return None;
+        return Ok(None);
     }
-    let entries = line.calendar(alloc).ok()?;
+    let Ok(entries) = line.calendar(alloc) else {
+        return Err(AllocError);
+    };
     let row = row_of(&job, entries.as_slice(), zone, may_live, at, second);
     drop(entries);
-    Some(row)
+    Ok(Some(row))
 }
 
 /// Whether the label is one of those that are named, or none is.
