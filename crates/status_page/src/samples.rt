@@ -110,7 +110,7 @@ fn samples_of<'a>(
             standing.life.may_live(),
             at,
             second,
-        );
+        )?;
         if let Some(sample) = sample {
             samples.push(sample)?;
         }

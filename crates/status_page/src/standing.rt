@@ -171,7 +171,10 @@ fn add_line(
     lines: &mut Vec<StatusLine>,
 ) -> Result<(), Trouble> {
     match line_of(alloc, line, number == 1) {
-        Ok(line) => Ok(lines.push(line)?),
+        Ok(line) => match lines.push(line) {
+            Ok(()) => Ok(()),
+            Err(_) => Err(Trouble::NoMemory),
+        },
         Err(fault) => Err(Trouble::Line(number, fault)),
     }
 }
