@@ -9,8 +9,10 @@ ThrottleInterval 0, are loaded by one `jobctl load` of their folder. Then: all s
 wake-ups while nothing happens for IDLE seconds (10), memory, `list` of all and `print` of one (over an open connection, and as a
 program), and all stopped by `shutdown`. A second launcher loads JOBS jobs that don't start and unloads them, and does the same
 with FEW (300) that start. A third serves a Unix socket by /bin/cat: CALLS connections (200) one after another, then eight at a
-time, then REPLIES (10) whose reply is a file of 20 MB. Times are wall times in milliseconds as median, least and greatest;
-compare figures of one run only. Two figures have an aim, and behind them stands whether it was kept. The figures of the programs
+time, then REPLIES (10) whose reply is a file of 20 MB. A fourth keeps its status file (JOBD_STATUS_FILE) over JOBS jobs that don't start:
+the processor time of a round that answers a `start` and writes the file, and `jobscope why` of one job and `status` of all by it, if there is a
+jobscope beside jobd. Times are wall times in milliseconds as median, least and greatest;
+compare figures of one run only. Four figures have an aim, and behind them stands whether it was kept. The figures of the programs
 of build/ are added to history.csv, but not those of programs that were named.
 """
 import json
@@ -38,6 +40,9 @@ REPLIES = int(os.environ.get("REPLIES", "10"))
 # The most milliseconds for JOBS loads of jobs that don't start, and the fewest megabytes a second of a reply.
 LOAD_AIM = JOBS
 REPLY_AIM = 200
+# The most milliseconds for a writing of the status file of JOBS jobs, and for `jobscope why` of one by it.
+STANDING_AIM = 5
+WHY_AIM = 10
 REPLY = 20_000_000
 
 
@@ -82,18 +87,22 @@ def timed(call, times):
 class Launcher:
     def __init__(self, jobd, jobctl, prepare=lambda folder: None):
         self.jobctl = jobctl
+        self.jobscope = os.path.join(os.path.dirname(jobd), "jobscope")
         self.folder = tempfile.mkdtemp(prefix="live.")
         os.mkdir(self.path("spool"), 0o700)
         os.mkdir(self.path("jobs"))
         prepare(self.folder)
         self.process = subprocess.Popen(
             [jobd, "serve", "--socket", self.path("socket"), "--store", self.path("store"), "--spool", self.path("spool")],
-            stdin=subprocess.DEVNULL, stdout=subprocess.PIPE, text=True)
+            stdin=subprocess.DEVNULL, stdout=subprocess.PIPE, text=True, env=self.surroundings())
         if self.process.stdout.readline() != "jobd: ready\n":
             raise SystemExit("live.py: the launcher did not start")
 
     def path(self, name):
         return os.path.join(self.folder, name)
+
+    def surroundings(self):
+        return {key: value for key, value in os.environ.items() if key != "JOBD_STATUS_FILE"}
 
     def define(self, label, **keys):
         path = self.path(f"jobs/{label}.json")
@@ -293,8 +302,48 @@ def calls(launcher):
     launcher.stop()
 
 
+class StandingLauncher(Launcher):
+    """One that keeps its status file."""
+
+    def surroundings(self):
+        return {**super().surroundings(), "JOBD_STATUS_FILE": self.path("status.jsonl")}
+
+
+def written(launcher, request):
+    """The milliseconds of processor time until the file is written anew behind the request."""
+    caller, replies = launcher.connect()
+    line, path = json.dumps(request).encode() + b"\n", launcher.path("status.jsonl")
+    time.sleep(1.2)
+    before, run = os.stat(path).st_ino, launcher.run_time()
+    caller.sendall(line)
+    replies.readline()
+    while os.stat(path).st_ino == before:
+        time.sleep(0.001)
+    caller.close()
+    return launcher.run_time() - run
+
+
+def standing(launcher):
+    for number in range(JOBS):
+        launcher.define(f"job{number:04d}", ProgramArguments=["/bin/true"], WatchPaths=[launcher.path("watched")])
+    hand_in(launcher, "load")
+    took = [written(launcher, {"req": "disable", "job": "job0000"}) for _ in range(10)]
+    figure = spread(f"processor time of a round that writes the status file of {JOBS} jobs", took)
+    figure.aim, figure.is_kept = f"at most {STANDING_AIM} ms", statistics.median(took) <= STANDING_AIM
+    yield figure
+    if os.path.exists(launcher.jobscope):
+        for words, aim in ((("why", "job0500"), WHY_AIM), (("status",), None)):
+            command = [launcher.jobscope, *words, "--status-file", launcher.path("status.jsonl")]
+            took = timed(lambda: subprocess.run(command, capture_output=True, check=True), 20)
+            figure = spread(f"`jobscope {words[0]}` by it", took)
+            if aim:
+                figure.aim, figure.is_kept = f"at most {aim} ms", statistics.median(took) <= aim
+            yield figure
+    launcher.stop()
+
+
 def figures_of(part, jobd, jobctl):
-    launcher = Launcher(os.path.abspath(jobd), os.path.abspath(jobctl))
+    launcher = (StandingLauncher if part is standing else Launcher)(os.path.abspath(jobd), os.path.abspath(jobctl))
     try:
         return list(part(launcher))
     finally:
@@ -306,7 +355,7 @@ def main():
     pairs = list(zip(words[::2], words[1::2]))
     names = sys.argv[1::2] or ["build/jobd"]
     print("| The live launcher | " + " | ".join(names) + " | aim |\n|---|" + "---|" * (len(names) + 1))
-    for part in (many, loads, calls):
+    for part in (many, loads, calls, standing):
         for row in zip(*(figures_of(part, *pair) for pair in pairs)):
             print(f"| {row[0].what} | " + " | ".join(figure.text() for figure in row) + f" | {row[0].aim} |", flush=True)
             if not sys.argv[1:]:

@@ -34,13 +34,15 @@ function __jobscope_files
     __fish_complete_suffix .plist
 end
 
-set -l subcommands check next why log runs picture show drift cron plist help
+set -l subcommands check next status metrics why log runs picture show drift cron plist help
 set -l none "not __fish_seen_subcommand_from $subcommands"
 
 complete -c jobscope -f
 complete -c jobscope -s h -l help -d 'Print help'
 complete -c jobscope -n $none -a check -d 'Say whether definitions would load, and what may be wrong with them'
 complete -c jobscope -n $none -a next -d 'Show the coming starts of calendars and intervals'
+complete -c jobscope -n $none -a status -d 'Show how each job of a launcher stands'
+complete -c jobscope -n $none -a metrics -d 'Write the same for Prometheus'
 complete -c jobscope -n $none -a why -d 'Say why each job runs or not'
 complete -c jobscope -n $none -a log -d "Tell a journal's events to people"
 complete -c jobscope -n $none -a runs -d "Count each job's runs"
@@ -60,13 +62,15 @@ complete -c jobscope -n '__fish_seen_subcommand_from check next' -l zone -x -d '
 complete -c jobscope -n '__fish_seen_subcommand_from check next' -l zone-file -r -F -d 'The zone as a zone file'
 complete -c jobscope -n '__fish_seen_subcommand_from check next' -l utc -d 'UTC in place of the zone of this machine'
 complete -c jobscope -n '__fish_seen_subcommand_from check' -l now -x -d 'From this second of Unix time on'
-complete -c jobscope -n '__fish_seen_subcommand_from why' -l now -x -d 'Take this second of Unix time for now'
+complete -c jobscope -n '__fish_seen_subcommand_from status metrics why' -l now -x -d 'Take this second of Unix time for now'
+complete -c jobscope -n '__fish_seen_subcommand_from status metrics why' -l status-file -r -F -d "The launcher's status file"
+complete -c jobscope -n '__fish_seen_subcommand_from why' -l failing -d 'Only those that fail'
 complete -c jobscope -n '__fish_seen_subcommand_from why' -l at -x -d 'As of this moment, as 03:00'
 complete -c jobscope -n '__fish_seen_subcommand_from next' -s n -x -d 'How many starts'
 complete -c jobscope -n '__fish_seen_subcommand_from next' -l from -x -d 'After this second of Unix time'
 complete -c jobscope -n '__fish_seen_subcommand_from why log runs picture show drift' -l journal -r -F -d 'The journal'
-complete -c jobscope -n '__fish_seen_subcommand_from why log runs picture show' -a '(__jobscope_labels)'
-complete -c jobscope -n '__fish_seen_subcommand_from why log picture show' -l utc -d 'Show times in UTC'
+complete -c jobscope -n '__fish_seen_subcommand_from status metrics why log runs picture show' -a '(__jobscope_labels)'
+complete -c jobscope -n '__fish_seen_subcommand_from status why log picture show' -l utc -d 'Show times in UTC'
 complete -c jobscope -n '__fish_seen_subcommand_from picture' -l html -d 'Write a page that stands alone'
 complete -c jobscope -n '__fish_seen_subcommand_from log' -s f -d 'Go on as the journal grows'
 complete -c jobscope -n '__fish_seen_subcommand_from log' -l since -x -d 'From this second of Unix time on'

@@ -31,15 +31,17 @@ fn command_in(
 ) -> Result<ScopeCommand, AllocError> {
     let words = words_in(alloc, task, found);
     let from = match task {
-        Task::Check | Task::Why => number_of(found, "now"),
+        Task::Check | Task::Status | Task::Metrics | Task::Why => number_of(found, "now"),
         _ => number_of(found, "from"),
     };
     let journal = value_of(alloc, found, "journal");
+    let status_file = value_of(alloc, found, "status-file");
     let into = value_of(alloc, found, "into");
-    match (words, journal, into) {
-        (Ok(words), Ok(journal), Ok(into)) => Ok(ScopeCommand {
+    match (words, journal, status_file, into) {
+        (Ok(words), Ok(journal), Ok(status_file), Ok(into)) => Ok(ScopeCommand {
             task,
             is_strict: is_set(found, "strict"),
+            is_failing: is_set(found, "failing"),
             follows: is_set(found, "follow"),
             is_page: is_set(found, "html"),
             has_user: is_set(found, "system"),
@@ -50,12 +52,14 @@ fn command_in(
             since: number_of(found, "since"),
             zone,
             journal,
+            status_file,
             into,
             words,
         }),
-        (words, journal, into) => {
+        (words, journal, status_file, into) => {
             drop(words);
             drop(journal);
+            drop(status_file);
             drop(into);
             drop(zone);
             Err(AllocError)
@@ -67,7 +71,13 @@ fn words_in(alloc: Global, task: Task, found: &ArgMatches<'_>) -> Result<Paths, 
     let id = match task {
         Task::Check | Task::Next | Task::Plist | Task::Drift => "paths",
         Task::Cron => "lines",
-        Task::Why | Task::Log | Task::Runs | Task::Picture | Task::Show => "labels",
+        Task::Status
+        | Task::Metrics
+        | Task::Why
+        | Task::Log
+        | Task::Runs
+        | Task::Picture
+        | Task::Show => "labels",
     };
     match values_of(alloc, found, id)? {
         Some(words) => Ok(words),

@@ -10,6 +10,10 @@ pub enum Task {
     Check,
     /// Show the coming starts of the definitions.
     Next,
+    /// Show how each job of a launcher stands, a line a job.
+    Status,
+    /// Write the same as samples that a monitor reads.
+    Metrics,
     /// Say of each job why it runs or not at the journal's end, and what will make it run.
     Why,
     /// Tell the journal's events.
@@ -32,6 +36,8 @@ pub enum Task {
 pub(crate) const TASKS: &[(&str, Task)] = &[
     ("check", Task::Check),
     ("next", Task::Next),
+    ("status", Task::Status),
+    ("metrics", Task::Metrics),
     ("why", Task::Why),
     ("log", Task::Log),
     ("runs", Task::Runs),
@@ -57,6 +63,8 @@ pub struct ScopeCommand {
     pub task: Task,
     /// A warning fails too.
     pub is_strict: bool,
+    /// Failing jobs alone are told.
+    pub is_failing: bool,
     /// Events are told as they come.
     pub follows: bool,
     /// The picture is a page that stands alone.
@@ -77,6 +85,8 @@ pub struct ScopeCommand {
     pub zone: ZoneWords,
     /// The journal's path.
     pub journal: Option<Text>,
+    /// The path of a launcher's status file.
+    pub status_file: Option<Text>,
     /// The folder in which each definition becomes a file.
     pub into: Option<Text>,
     /// The paths of definitions, the labels of the jobs that are shown (of none, all are), or the lines of a crontab.

@@ -4,7 +4,7 @@ use crate::forms::{Argument, Form, Subcommand, with_subcommands};
 use std::alloc::{AllocError, Global};
 
 const EXIT_HELP: &str =
-    "Exit status: 0 done; 1 no memory, or a definition, a line or a list is refused, or has a warning with check --strict; 2 drift found a difference; 64 these words are no command; 65 a file can't be read, used or written, or nothing has a label that was named; 71 the clock can't be read; 74 standard output can't be written; 141 its reader has gone.";
+    "Exit status: 0 done; 1 no memory, or a definition, a line or a list is refused, or has a warning with check --strict; 2 drift found a difference, or why --failing a job; 64 these words are no command; 65 a file can't be read, used or written, or nothing has a label that was named; 71 the clock can't be read; 74 standard output can't be written; 141 its reader has gone.";
 
 const SEE_EXIT: &str = "jobscope --help has the exit statuses.";
 
@@ -95,22 +95,42 @@ const NEXT: &[Argument] = &[
     PATHS,
 ];
 
+const STATUS_FILE: Argument = Argument {
+    id: "status-file",
+    form: Form::Value { required: false },
+    value: "PATH",
+    help: "The launcher's file on how it stands; where absent, that of JOBD_STATUS_FILE",
+};
+
+const NOW: Argument = Argument {
+    id: "now",
+    form: Form::Value { required: false },
+    value: "SECOND",
+    help: "Take this second of Unix time for now, and not the clock's",
+};
+
+const STATUS: &[Argument] = &[STATUS_FILE, LABELS, UTC, NOW];
+
+const METRICS: &[Argument] = &[STATUS_FILE, LABELS, NOW];
+
 const WHY: &[Argument] = &[
+    STATUS_FILE,
     JOURNAL,
     LABELS,
     UTC,
+    Argument {
+        id: "failing",
+        form: Form::Switch,
+        value: "",
+        help: "Show only those that fail, a line a job; the exit status is 2 if there is one",
+    },
     Argument {
         id: "at",
         form: Form::Value { required: false },
         value: "MOMENT",
         help: "Say it as of this moment: HH:MM or HH:MM:SS of the journal's last day, or a second of Unix time; as of its end where absent",
     },
-    Argument {
-        id: "now",
-        form: Form::Value { required: false },
-        value: "SECOND",
-        help: "Take this second of Unix time for now, and not the clock's",
-    },
+    NOW,
 ];
 
 const RUNS: &[Argument] = &[JOURNAL, LABELS];
@@ -195,6 +215,18 @@ const SUBCOMMANDS: &[Subcommand] = &[
         about: "Show the coming starts of calendars and intervals, in the order of time",
         after: SEE_EXIT,
         arguments: NEXT,
+    },
+    Subcommand {
+        name: "status",
+        about: "Show how each job of a launcher stands, a line a job",
+        after: SEE_EXIT,
+        arguments: STATUS,
+    },
+    Subcommand {
+        name: "metrics",
+        about: "Write how each job of a launcher stands, as text for Prometheus",
+        after: SEE_EXIT,
+        arguments: METRICS,
     },
     Subcommand {
         name: "why",

@@ -7,7 +7,7 @@ use crate::own_process::OwnProcess;
 use history_model::{JobNo, Reading, Refusal, Text};
 use job_table::JobTable;
 use status_file::{
-    JournalStatus, LauncherStatus, RunNotes, StatusText, VERSION, add_jobs, add_launcher,
+    JournalStatus, LauncherStatus, RunNotes, StatusText, VERSION, add_jobs, add_launcher, job_count,
 };
 use std::alloc::Global;
 
@@ -95,6 +95,7 @@ impl Keeper {
             at,
             journal,
             store,
+            jobs: job_count(table),
         };
         add_launcher(&mut self.text, self.alloc, &launcher);
         add_jobs(

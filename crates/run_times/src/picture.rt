@@ -18,3 +18,4 @@ pub use gathering::{Gathered, Gathering};
 pub use html::{Beside, Coming};
 pub use piece::picture_piece;
 pub use svg::PLACES;
+pub use words::{columns_of, columns_of_char};

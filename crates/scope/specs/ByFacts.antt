@@ -1,15 +1,11 @@
 -- What the texts say of a job by its facts, as plain values.
-use Rattle.std.specs.Option.{option_map}
-use Rattle.std.specs.Prelude.{◌≡◌, ◌⊎◌, ℕ, ◌+◌, ◌*◌, ◌^◌, ◌&&◌, ◌||◌, not, nat_lt, ◌<◌, Bool, true, false, nat_le, Option, Some, None, is_none, is_some, if◌then◌else◌}
+use Rattle.std.specs.Prelude.{◌≡◌, ℕ, ◌+◌, ◌*◌, ◌<◌, Bool, true, false, nat_le, is_none, is_some, if◌then◌else◌}
 use Rattle.history_model.specs.declared.TheConstants.{SECOND}
 use Rattle.history_model.specs.declared.Ask.TheVariants.{Start, Kickstart}
 use Rattle.history_model.specs.declared.Reading.{Reading}
 use Rattle.history_model.specs.declared.reasons.Reasons.{Reasons}
 use Rattle.history_model.specs.Items.{Item, Asked, History}
-use Rattle.history_model.specs.Clock.{definition_of}
-use Rattle.history_model.specs.Runs.{runs, is_removed}
 use Rattle.history_model.specs.Demands.{fires}
-use Rattle.history_model.specs.Due.{has_ever_spawned}
 use Rattle.history_model.specs.Reasons.{reasons_of}
 use Rattle.scope.specs.declared.texts.by_facts.OrderWhen.{OrderWhen}
 use Rattle.scope.specs.declared.texts.by_facts.OrderWhen.TheVariants.{Never, AtOnce, At}
@@ -24,13 +20,6 @@ abbrev pub ComesSo : (ℕ → Bool) → ℕ → OrderWhen → Type 0
 ComesSo may now Never = (up : ℕ) → may up ≡ false
 ComesSo may now AtOnce = may now ≡ true
 ComesSo may now (At at) = (now < at) × ((up : ℕ) → may up ≡ nat_le at up)
-
--- a start can come of the load: it is not being removed, it was not launched if that is to be once, and
--- its runs are not used up
-abbrev pub can_start_again : History → Bool
-can_start_again t =
-    not (is_removed t || ((definition_of t).launch_only_once && has_ever_spawned t)
-    || not (nat_lt (runs t) (2 ^ 63)))
 
 -- the question that the word of `jobctl` asks
 abbrev pub item_asked : StartWord → Item

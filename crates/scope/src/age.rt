@@ -1,13 +1,10 @@
 //! As of which moment a journal is told, and how old that is.
 
-ghost use Rattle.std.specs.Prelude.{◌≡◌, ◌≤◌};
-ghost use Rattle.history_model.specs.declared.TheConstants.{MAX_UP, MAX_WALL};
-ghost use Rattle.scope.specs.Ages.{gone_on};
-
 use crate::writer::Writer;
-use history_model::{MAX_UP, MAX_WALL, Reading, SECOND};
+use history_model::{Reading, SECOND};
 use run_times::Filling::{Moment, Number, Time};
 use run_times::Page;
+use status_page::{gone_on, within_limits};
 
 /// As of which moment a journal is told.
 #[derive(Clone, Copy)]
@@ -35,30 +32,6 @@ pub(crate) fn clock_as_of(as_of: AsOf, last: Reading) -> Reading {
     match as_of {
         AsOf::Seen(second, _) => gone_on(within_limits(last), second),
         as_of => reading_as_of(as_of, last),
-    }
-}
-
-/// The reading, no later than one may be.
-pub(crate) fn within_limits(at: Reading) -> Reading
-    ensures up { result.up ≤ MAX_UP }
-    ensures wall { result.wall ≤ MAX_WALL }
-{
-    Reading {
-        up: at.up.min(MAX_UP),
-        wall: at.wall.min(MAX_WALL),
-    }
-}
-
-/// The reading at this second of `wall`, if both clocks went on alike from the last reading on; that one, if the second is not behind it.
-pub(crate) fn gone_on(last: Reading, second: u64) -> Reading
-    requires up { last.up ≤ MAX_UP }
-    requires wall { last.wall ≤ MAX_WALL }
-    ensures { result ≡ gone_on last second }
-{
-    let seconds = second.min(MAX_WALL).saturating_sub(last.wall);
-    Reading {
-        up: last.up + SECOND * seconds,
-        wall: last.wall + seconds,
     }
 }
 

@@ -3,6 +3,7 @@
 
 mod age;
 mod at;
+mod by_file;
 mod charted;
 mod clock;
 mod drift;

@@ -1,12 +1,12 @@
 //! The coming starts that stand on a page.
 
 use crate::journal::reader::OpenJournal;
-use crate::texts::by_facts::can_start_again;
 use definition_files::calendar_after;
 use history_model::Reading;
 use job_table::JobTable;
 use run_times::coming_second;
 use run_times::picture::{Chart, Coming};
+use status_page::can_start_again;
 use std::alloc::{AllocError, Global};
 
 /// The next start by the calendar and the next by the interval of each job of the chart that is loaded and can start again, in the order

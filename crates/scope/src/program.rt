@@ -1,5 +1,6 @@
 //! One run of the program: which subcommand runs, and what ends it.
 
+use crate::by_file::{file_asked, tell_by_file};
 use crate::clock::now;
 use crate::ended::{check_ended, cron_ended, next_ended, plist_ended};
 use crate::report::report;
@@ -58,7 +59,14 @@ fn run<W: Wait>(
         Task::Check | Task::Next => by_zone(host, alloc, command),
         Task::Cron => by_lines(host, alloc, command),
         Task::Plist => of_lists(host, alloc, command),
-        _ => report(host, waits, alloc, command),
+        _ => match file_asked(host, command)? {
+            Some(path) => {
+                let told = tell_by_file(host, alloc, command, path.as_str());
+                drop(path);
+                told
+            }
+            None => report(host, waits, alloc, command),
+        },
     }
 }
 

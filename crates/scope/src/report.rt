@@ -3,6 +3,7 @@
 
 use crate::age::AsOf;
 use crate::at::read_up_to;
+use crate::by_file::FAILS;
 use crate::charted::{HeardMarks, chart_of};
 use crate::clock::now;
 use crate::drift::drift_of;
@@ -13,6 +14,7 @@ use crate::journal::source::{INPUT, journal_path, read_journal, tell_bad};
 use crate::listener::{JournalListener, zone_shown};
 use crate::log::follow;
 use crate::page::coming_of;
+use crate::texts::failing::failing_text;
 use crate::texts::log::is_named;
 use crate::texts::runs::runs_table;
 use crate::texts::show::show_text;
@@ -27,13 +29,11 @@ use launchctl_words::{ScopeCommand, Task};
 use run_times::picture::{Beside, Chart, blocks_text, picture_piece};
 use run_times::telling::{put_made, put_outcome, tell_of};
 use run_times::{Ink, Piece};
+use status_page::width_of;
 use std::alloc::Global;
+use std::io;
 use std::io::IsTerminal;
 use std::sync::Wait;
-use std::{env, io};
-
-/// How wide a terminal is if `COLUMNS` does not say it.
-const COLUMNS: u16 = 80;
 
 /// Writes what is told of the jobs of the journal, or of those that are named; of a log the events from the command's second on, each in a
 /// line. If the command follows, it goes on as the journal's file grows; only this may wait. 65 if the journal can't be read, if a line is no
@@ -144,6 +144,9 @@ fn write_report(
     let zone = zone_shown(of, &listener.utc, &journal.zone);
     let labels = of.words.as_slice();
     let written = match of.task {
+        Task::Why if of.is_failing => {
+            return put_failing(host, alloc, name, journal, zone, labels, as_of);
+        }
         Task::Why => put_made(host, why_text(alloc, journal, zone, labels, as_of)),
         Task::Runs => put_runs(host, alloc, name, journal, labels),
         Task::Picture => paint(host, alloc, journal, zone, &listener.heard, of),
@@ -163,6 +166,22 @@ fn write_report(
         (Ok(()), _) => Ok(0),
         (Err(error), _) => Err(error),
     }
+}
+
+// The jobs that fail. The exit status is 2 if there is one.
+fn put_failing(
+    host: &HostRuntime,
+    alloc: Global,
+    name: &str,
+    journal: &OpenJournal,
+    zone: &Zone,
+    labels: &[Text],
+    as_of: AsOf,
+) -> io::Result<u8> {
+    let (text, count) = failing_text(alloc, journal, zone, labels, as_of)?;
+    put_made(host, Ok(text))?;
+    let unknown = tell_unknown(host, alloc, name, journal, labels)?;
+    Ok(unknown.max(if count > 0 { FAILS } else { 0 }))
 }
 
 fn put_runs(
@@ -268,19 +287,15 @@ fn paint(
     let painted = if of.is_page {
         paint_page(host, alloc, journal, zone, &chart, labels)
     } else if host.stdout().is_terminal() {
-        put_made(host, blocks_text(alloc, zone, &chart, columns(host)))
+        put_made(
+            host,
+            blocks_text(alloc, zone, &chart, width_of(host, alloc)),
+        )
     } else {
         put_pieces(host, alloc, zone, &chart, None)
     };
     drop(chart);
     painted
-}
-
-fn columns(host: &HostRuntime) -> u16 {
-    match env::var(host, "COLUMNS") {
-        Ok(text) => text.as_str().parse::<u16>().unwrap_or(COLUMNS),
-        Err(_) => COLUMNS,
-    }
 }
 
 fn paint_page(

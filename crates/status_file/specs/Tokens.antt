@@ -194,12 +194,13 @@ name_tokens label state =
     ∷ key (codes "label") ∷ string label
     ∷ key (codes "state") ∷ string (state_text state) ∷ []
 
-abbrev pub counts_tokens : Option ℕ → ℕ → ℕ → ℕ → ℕ → List Token
-counts_tokens pid run starts failures connections =
+abbrev pub counts_tokens : Option ℕ → ℕ → ℕ → ℕ → ℕ → ℕ → List Token
+counts_tokens pid run starts failures refusals connections =
     key (codes "pid") ∷ count_token pid
     ∷ key (codes "run") ∷ number (decimal run)
     ∷ key (codes "starts") ∷ number (decimal starts)
     ∷ key (codes "failures") ∷ number (decimal failures)
+    ∷ key (codes "refusals") ∷ number (decimal refusals)
     ∷ key (codes "connections") ∷ number (decimal connections) ∷ []
 
 abbrev pub disabled_tokens : Option DisabledBy → List Token
@@ -208,7 +209,7 @@ disabled_tokens by = key (codes "disabled") ∷ disabled_token by ∷ []
 abbrev pub front_tokens : JobStatus → List Token
 front_tokens j =
     name_tokens j.label.now (state_by_reasons j.facts.reasons)
-    ++ (counts_tokens (child_pid j.facts.reasons.child) j.note.run j.note.starts j.note.failures
+    ++ (counts_tokens (child_pid j.facts.reasons.child) j.note.run j.note.starts j.note.failures j.note.refusals
     j.facts.reasons.wants.connections
     ++ disabled_tokens j.disabled)
 
@@ -268,7 +269,9 @@ conditions_tokens k =
     ∷ key (codes "run_at_load") ∷ boolean k.run_at_load
     ∷ key (codes "successful_exit") ∷ flag_token k.successful_exit
     ∷ key (codes "crashed") ∷ flag_token k.crashed
-    ∷ key (codes "path_state") ∷ boolean k.has_path_state
+    ∷ key (codes "path_state") ∷ number (decimal k.path_state.count)
+    ∷ key (codes "first_condition") ∷ text_token k.path_state.first
+    ∷ key (codes "first_exists") ∷ flag_token k.first_exists
     ∷ key (codes "path_exists") ∷ flag_token k.path_exists ∷ []
 
 abbrev pub limits_tokens : JobKeys → List Token
@@ -279,8 +282,10 @@ limits_tokens k =
 
 abbrev pub others_tokens : JobKeys → List Token
 others_tokens k =
-    key (codes "watch_paths") ∷ boolean k.has_watch_paths
-    ∷ key (codes "queue_directories") ∷ boolean k.has_queue_directories
+    key (codes "watch_paths") ∷ number (decimal k.watch_paths.count)
+    ∷ key (codes "first_watched") ∷ text_token k.watch_paths.first
+    ∷ key (codes "queue_directories") ∷ number (decimal k.queue_directories.count)
+    ∷ key (codes "first_queue") ∷ text_token k.queue_directories.first
     ∷ key (codes "sockets") ∷ boolean k.has_sockets
     ∷ end_object ∷ []
 

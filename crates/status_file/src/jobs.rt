@@ -23,6 +23,25 @@ const DISABLED: &str = "\tdisabled = true\n}\n";
 /// As many numbers are asked for. A table gives a job the least number that is free, and a job that is gone has its own until the next event.
 pub(crate) const NUMBERS: JobNo = 2048;
 
+/// How many jobs are loaded: `add_jobs` adds so many lines. It takes no memory.
+pub fn job_count(table: &JobTable) -> u64 {
+    let mut count: u64 = 0;
+    for job in 0..NUMBERS {
+        if is_loaded(table, job) {
+            count = count.saturating_add(1);
+        }
+    }
+    count
+}
+
+// Whether the number is that of a loaded job, and of none that is just gone.
+fn is_loaded(table: &JobTable, job: JobNo) -> bool {
+    match job_of(table, job) {
+        Some((label, _)) => table.moments(label).is_some(),
+        None => false,
+    }
+}
+
 /// The label and the definition of the job with this number, also of one that is just gone; None for a number that no job has. It takes no memory.
 pub(crate) fn job_of(table: &JobTable, job: JobNo) -> Option<(&str, &Def)> {
     let step = table.last_step();

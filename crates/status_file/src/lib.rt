@@ -11,19 +11,21 @@ mod fields;
 mod jobs;
 mod line;
 mod names;
+mod process;
 mod read;
 mod run_notes;
 mod status;
 mod write;
 
 pub use facts::{JobFacts, facts_of};
-pub use jobs::add_jobs;
+pub use jobs::{add_jobs, job_count};
 pub use line::StatusText;
 pub use names::state_name;
+pub use process::{ProcessStat, process_in};
 pub use read::{StatusFault, StatusLine, read_line};
 pub use run_notes::RunNotes;
 pub use status::{
-    DisabledBy, JobKeys, JobNote, JobStatus, JournalStatus, LauncherStatus, RefusedStart, RunEnd,
-    state_of,
+    DisabledBy, JobKeys, JobNote, JobStatus, JournalStatus, KeyPaths, LauncherStatus, RefusedStart,
+    RunEnd, state_of,
 };
 pub use write::add_launcher;

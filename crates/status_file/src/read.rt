@@ -4,7 +4,8 @@ use crate::facts::JobFacts;
 use crate::fields::Fields;
 use crate::names::{DEMANDS, demand_name, disabled_name, order_name};
 use crate::status::{
-    DisabledBy, JobKeys, JobNote, JobStatus, JournalStatus, LauncherStatus, RefusedStart, RunEnd,
+    DisabledBy, JobKeys, JobNote, JobStatus, JournalStatus, KeyPaths, LauncherStatus, RefusedStart,
+    RunEnd,
 };
 use history_model::{Act, DemandKind, Ended, Entry, Reading, Reasons, StandingChild, Wants};
 use job_table::Moments;
@@ -59,6 +60,7 @@ impl StatusLine {
             at: reading_in(&mut fields, "at"),
             journal: journal_in(&mut fields),
             store: fields.text_if("store"),
+            jobs: fields.count("jobs"),
         };
         match fields.fault {
             Some(fault) => Err(fault),
@@ -188,6 +190,7 @@ fn note_in<'a>(fields: &mut Fields<'a>) -> JobNote<'a> {
         run: fields.count("run"),
         starts: fields.count("starts"),
         failures: fields.count("failures"),
+        refusals: fields.count("refusals"),
         started: reading_if(fields, "started"),
         term: reading_if(fields, "term"),
         kill: reading_if(fields, "kill"),
@@ -233,7 +236,14 @@ fn refused_in<'a>(fields: &mut Fields<'a>) -> Option<RefusedStart<'a>> {
     Some(told)
 }
 
-fn keys_in(fields: &mut Fields<'_>) -> JobKeys {
+fn paths_in<'a>(fields: &mut Fields<'a>, count: &'static str, first: &'static str) -> KeyPaths<'a> {
+    KeyPaths {
+        count: fields.count(count),
+        first: fields.text_if(first),
+    }
+}
+
+fn keys_in<'a>(fields: &mut Fields<'a>) -> JobKeys<'a> {
     let mut keys = fields.inside("keys");
     let interval = keys.count_if("start_interval");
     let start_interval = match interval {
@@ -244,13 +254,14 @@ fn keys_in(fields: &mut Fields<'_>) -> JobKeys {
         run_at_load: keys.flag("run_at_load"),
         successful_exit: keys.flag_if("successful_exit"),
         crashed: keys.flag_if("crashed"),
-        has_path_state: keys.flag("path_state"),
+        path_state: paths_in(&mut keys, "path_state", "first_condition"),
+        first_exists: keys.flag_if("first_exists"),
         path_exists: keys.flag_if("path_exists"),
         start_interval,
         throttle_interval: keys.short("throttle_interval"),
         exit_time_out: keys.short("exit_time_out"),
-        has_watch_paths: keys.flag("watch_paths"),
-        has_queue_directories: keys.flag("queue_directories"),
+        watch_paths: paths_in(&mut keys, "watch_paths", "first_watched"),
+        queue_directories: paths_in(&mut keys, "queue_directories", "first_queue"),
         has_sockets: keys.flag("sockets"),
     };
     if interval.is_some() && start_interval.is_none() {

@@ -14,6 +14,7 @@ struct Counted {
     run: u64,
     starts: u64,
     failures: u64,
+    refusals: u64,
     started: Option<Reading>,
     term: Option<Reading>,
     kill: Option<Reading>,
@@ -29,6 +30,7 @@ impl Counted {
             run: 0,
             starts: 0,
             failures: 0,
+            refusals: 0,
             started: None,
             term: None,
             kill: None,
@@ -156,6 +158,7 @@ impl RunNotes {
         counted.kill = None;
         if is_refused {
             counted.failures = counted.failures.saturating_add(1);
+            counted.refusals = counted.refusals.saturating_add(1);
             counted.refused = Some((run, at));
             if note.label.is_none() {
                 note.label = Text::copy_of(alloc, label).ok();
@@ -229,6 +232,7 @@ impl RunNotes {
             run: counted.run,
             starts: counted.starts,
             failures: counted.failures,
+            refusals: counted.refusals,
             started: counted.started,
             term: counted.term,
             kill: counted.kill,

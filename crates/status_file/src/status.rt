@@ -4,8 +4,8 @@ ghost use Rattle.std.specs.Prelude.{◌≡◌};
 ghost use Rattle.status_file.specs.States.{state_by_reasons};
 
 use crate::facts::JobFacts;
-use history_model::definition::Def;
-use history_model::{Act, Ended, JobState, Reading, Reasons};
+use history_model::definition::{Def, PathState};
+use history_model::{Act, Ended, JobState, Reading, Reasons, Text};
 
 /// How the journal of a launcher stands.
 #[derive(Clone, Copy)]
@@ -34,6 +34,8 @@ pub struct LauncherStatus<'a> {
     pub journal: JournalStatus<'a>,
     /// What the store refused last, if it refused something.
     pub store: Option<&'a str>,
+    /// How many jobs are loaded: so many lines follow this one.
+    pub jobs: u64,
 }
 
 /// How a run ended, and at which readings it began and ended.
@@ -75,6 +77,8 @@ pub struct JobNote<'a> {
     pub starts: u64,
     /// How many starts were refused, and how many runs did not end with code 0, together.
     pub failures: u64,
+    /// How many starts were refused.
+    pub refusals: u64,
     /// When its last start was ordered, also if it was refused.
     pub started: Option<Reading>,
     /// When the first TERM, and when the last KILL, was ordered for its last run.
@@ -85,27 +89,39 @@ pub struct JobNote<'a> {
     pub refused: Option<RefusedStart<'a>>,
 }
 
+/// Paths that a definition has under a key, as far as they are told.
+#[derive(Clone, Copy)]
+pub struct KeyPaths<'a> {
+    pub count: u64,
+    /// The first of them, as the definition has it. None if there is none.
+    pub first: Option<&'a str>,
+}
+
 /// What a definition says, as far as it makes a difference to what is told of its job.
 #[derive(Clone, Copy)]
-pub struct JobKeys {
+pub struct JobKeys<'a> {
     pub run_at_load: bool,
     pub successful_exit: Option<bool>,
     pub crashed: Option<bool>,
-    pub has_path_state: bool,
+    /// The paths of the conditions of `PathState`.
+    pub path_state: KeyPaths<'a>,
+    /// Whether the first of them wants its path to be there. None if there is none.
+    pub first_exists: Option<bool>,
     /// Whether the condition of `PathState` that holds wants its path to be there. None if none holds.
     pub path_exists: Option<bool>,
     /// In seconds, and so are the next two.
     pub start_interval: Option<u32>,
     pub throttle_interval: u32,
     pub exit_time_out: u32,
-    pub has_watch_paths: bool,
-    pub has_queue_directories: bool,
+    pub watch_paths: KeyPaths<'a>,
+    pub queue_directories: KeyPaths<'a>,
     pub has_sockets: bool,
 }
 
-impl JobKeys {
+impl<'a> JobKeys<'a> {
     /// Those of a definition. The path is the one that holds its job wanted.
-    pub fn of(def: &Def, path: Option<&str>) -> JobKeys {
+    pub fn of(def: &'a Def, path: Option<&str>) -> JobKeys<'a> {
+        let (path_state, first_exists) = conditions_of(def.path_state());
         let path_exists = match path {
             Some(path) => wish_of(def, path),
             None => None,
@@ -114,16 +130,39 @@ impl JobKeys {
             run_at_load: def.run_at_load(),
             successful_exit: def.successful_exit(),
             crashed: def.crashed(),
-            has_path_state: !def.path_state().is_empty(),
+            path_state,
+            first_exists,
             path_exists,
             start_interval: def.start_interval(),
             throttle_interval: def.throttle_interval(),
             exit_time_out: def.exit_time_out(),
-            has_watch_paths: !def.watch_paths().is_empty(),
-            has_queue_directories: !def.queue_directories().is_empty(),
+            watch_paths: paths_of(def.watch_paths()),
+            queue_directories: paths_of(def.queue_directories()),
             has_sockets: def.has_sockets(),
         }
     }
+}
+
+// The paths of a key.
+fn paths_of(paths: &[Text]) -> KeyPaths<'_> {
+    let first = match paths.first() {
+        Some(first) => Some(first.as_str()),
+        None => None,
+    };
+    KeyPaths {
+        count: paths.len() as u64,
+        first,
+    }
+}
+
+// Those of the conditions of `PathState`, and whether the first wants its path to be there.
+fn conditions_of(conditions: &[PathState]) -> (KeyPaths<'_>, Option<bool>) {
+    let (first, exists) = match conditions.first() {
+        Some(first) => (Some(first.path.as_str()), Some(first.present)),
+        None => (None, None),
+    };
+    let count = conditions.len() as u64;
+    (KeyPaths { count, first }, exists)
 }
 
 // What the first condition of `PathState` on this path wants.
@@ -143,7 +182,7 @@ pub struct JobStatus<'a> {
     /// What the launcher's table tells of it.
     pub facts: JobFacts<'a>,
     pub note: JobNote<'a>,
-    pub keys: JobKeys,
+    pub keys: JobKeys<'a>,
     /// By what its label is disabled now, if it is.
     pub disabled: Option<DisabledBy>,
 }

@@ -49,6 +49,8 @@ pub fn add_launcher(text: &mut StatusText, alloc: Global, launcher: &LauncherSta
         text_piece(reason),
         Key("store"),
         text_piece(launcher.store),
+        Key("jobs"),
+        Count(launcher.jobs),
         Close,
         Close,
     ]);
@@ -97,6 +99,7 @@ fn put_front(line: &mut Line, job: &JobStatus<'_>)
         job.note.run,
         job.note.starts,
         job.note.failures,
+        job.note.refusals,
         job.facts.reasons.wants.connections,
     );
     put_disabled(line, job.disabled);
@@ -122,9 +125,10 @@ fn put_counts(
     run: u64,
     starts: u64,
     failures: u64,
+    refusals: u64,
     connections: usize,
 )
-    ensures { Puts (counts_tokens pid run starts failures connections) line.old line.new }
+    ensures { Puts (counts_tokens pid run starts failures refusals connections) line.old line.new }
 {
     line.put(&[
         Key("pid"),
@@ -135,6 +139,8 @@ fn put_counts(
         Count(starts),
         Key("failures"),
         Count(failures),
+        Key("refusals"),
+        Count(refusals),
         Key("connections"),
         Count(connections as u64),
     ]);
@@ -406,16 +412,16 @@ fn put_wanted(line: &mut Line, demand: Option<DemandKind>, path: Option<&str>)
     ]);
 }
 
-fn put_keys(line: &mut Line, keys: JobKeys)
-    ensures { Puts (keys_tokens keys) line.old line.new }
+fn put_keys(line: &mut Line, keys: JobKeys<'_>)
+    ensures { Puts (keys_tokens keys.entry) line.old line.new }
 {
     put_conditions(line, keys);
     put_limits(line, keys);
     put_others(line, keys);
 }
 
-fn put_conditions(line: &mut Line, keys: JobKeys)
-    ensures { Puts (conditions_tokens keys) line.old line.new }
+fn put_conditions(line: &mut Line, keys: JobKeys<'_>)
+    ensures { Puts (conditions_tokens keys.entry) line.old line.new }
 {
     line.put(&[
         Key("keys"),
@@ -427,7 +433,11 @@ fn put_conditions(line: &mut Line, keys: JobKeys)
         Key("crashed"),
         flag_piece(keys.crashed),
         Key("path_state"),
-        Flag(keys.has_path_state),
+        Count(keys.path_state.count),
+        Key("first_condition"),
+        text_piece(keys.path_state.first),
+        Key("first_exists"),
+        flag_piece(keys.first_exists),
         Key("path_exists"),
         flag_piece(keys.path_exists),
     ]);
@@ -442,8 +452,8 @@ fn wide_piece_if(count: Option<u32>) -> Piece<'static>
     }
 }
 
-fn put_limits(line: &mut Line, keys: JobKeys)
-    ensures { Puts (limits_tokens keys) line.old line.new }
+fn put_limits(line: &mut Line, keys: JobKeys<'_>)
+    ensures { Puts (limits_tokens keys.entry) line.old line.new }
 {
     line.put(&[
         Key("start_interval"),
@@ -455,14 +465,18 @@ fn put_limits(line: &mut Line, keys: JobKeys)
     ]);
 }
 
-fn put_others(line: &mut Line, keys: JobKeys)
-    ensures { Puts (others_tokens keys) line.old line.new }
+fn put_others(line: &mut Line, keys: JobKeys<'_>)
+    ensures { Puts (others_tokens keys.entry) line.old line.new }
 {
     line.put(&[
         Key("watch_paths"),
-        Flag(keys.has_watch_paths),
+        Count(keys.watch_paths.count),
+        Key("first_watched"),
+        text_piece(keys.watch_paths.first),
         Key("queue_directories"),
-        Flag(keys.has_queue_directories),
+        Count(keys.queue_directories.count),
+        Key("first_queue"),
+        text_piece(keys.queue_directories.first),
         Key("sockets"),
         Flag(keys.has_sockets),
         Close,

@@ -48,7 +48,7 @@ class Case:
 
 def came(stage, folder, case):
     """What the program ends with and writes, in the folder of the case."""
-    around = {key: value for key, value in os.environ.items() if key not in ("JOBD_JOURNAL", "COLUMNS", "HOME")}
+    around = {key: value for key, value in os.environ.items() if key not in ("JOBD_JOURNAL", "JOBD_STATUS_FILE", "COLUMNS", "NO_COLOR", "HOME")}
     around.update(line.split("=", 1) for line in case.lines("environment"))
     command = [*stage.given.jobscope, *case.lines("words")]
     try:
@@ -70,8 +70,13 @@ def told(case, got):
 def play_cases(stage, name):
     """Each case of this folder comes out as wanted; those that do not are told."""
     folder = os.path.join(HERE, "scope", name)
-    cases = [Case(text) for text in text_at(os.path.join(folder, "cases")).split("=== ")[1:]]
-    check(cases, f"no case in {folder}")
+    play(stage, folder, text_at(os.path.join(folder, "cases")))
+
+
+def play(stage, folder, text):
+    """Each case of the text comes out as wanted in the folder; those that do not are told."""
+    cases = [Case(text) for text in text.split("=== ")[1:]]
+    check(cases, f"no case for {folder}")
     others = [(case, got) for case in cases if (got := came(stage, folder, case)) != case.wanted()]
     check(not others, f"{len(others)} of {len(cases)} are not as wanted:\n" + "\n".join(told(*other) for other in others))
 
@@ -359,6 +364,25 @@ def jobscope_pictures(stage):
         check(not faults, f"{name}: {'; '.join(faults)}")
 
 
+# The launcher's files whose launcher lives when they are read: the process that plays.
+LIVING = ("living.jsonl", "cut.jsonl", "torn.jsonl", "lacking.jsonl", "waits.jsonl", "well.jsonl")
+
+
+def jobscope_status(stage):
+    """`jobscope status` and `why` over files of launchers, of which some are gone, and some lacking."""
+    source, folder = os.path.join(HERE, "scope", "status"), stage.at("status")
+    os.mkdir(folder)
+    began = text_at("/proc/self/stat").rpartition(")")[2].split()[19]
+    for name in os.listdir(source):
+        text = text_at(os.path.join(source, name))
+        if name in LIVING:
+            text = text.replace('"pid":4711,"began":123456', f'"pid":{os.getpid()},"began":{began}', 1)
+        with open(os.path.join(folder, name), "w") as file:
+            file.write(text)
+    cases = text_at(os.path.join(source, "cases"))
+    play(stage, folder, cases.replace("lives (process 4711)", f"lives (process {os.getpid()})"))
+
+
 def jobscope_next(stage):
     """`jobscope next` over definitions."""
     play_cases(stage, "next")
@@ -512,6 +536,7 @@ SCENES = [
     jobscope_pictures,
     jobscope_plist,
     jobscope_plist_files,
+    jobscope_status,
     jobscope_well,
     times_as_the_c_library_shows_them,
     zones_that_are_none,

@@ -5,6 +5,7 @@
 import json
 import os
 import stat
+import subprocess
 import time
 
 from edge_scenes import BOUND, check, end_process, make, shell_job, text_at, wait_for
@@ -29,6 +30,7 @@ def told(path):
     jobs = [line["job"] for line in rest]
     labels = [job["label"] for job in jobs]
     check(labels == sorted(labels, key=str.encode), f"the labels are not in order: {labels}")
+    check(first["launcher"]["jobs"] == len(jobs), f"it counts {first['launcher']['jobs']} jobs: {labels}")
     return first["launcher"], dict(zip(labels, jobs))
 
 
@@ -53,6 +55,7 @@ def what_a_status_file_holds(stage):
     first, jobs = wait_for(lambda: told(path), "no file is written at the start")
     check(not jobs, f"jobs before any was loaded: {jobs}")
     check(first["pid"] == launcher.pid and first["began"] == began(launcher.pid), f"another process: {first}")
+    check(first["jobs"] == 0, f"its count of jobs: {first}")
     check(first["journal"] == "open" and first["journal_reason"] is None and first["store"] is None, f"its journal and store: {first}")
     header = json.loads(first["header"])
     check(header["overrides"] == {} and header["zone"] == "UTC0", f"its header: {header}")
@@ -97,7 +100,9 @@ def what_a_status_file_holds(stage):
     flag = stage.at("flag")
     launcher.load(shell_job("kept", "exec sleep 600", KeepAlive={"PathState": {flag: True}}))
     job = job_where(path, "kept", lambda job: True)
-    check(job["path"] is None and job["keys"]["path_state"] and job["keys"]["path_exists"] is None, f"its path: {job}")
+    keys = job["keys"]
+    check(job["path"] is None and keys["path_state"] == 1 and keys["path_exists"] is None, f"its path: {job}")
+    check(keys["first_condition"] == flag and keys["first_exists"] is True and keys["watch_paths"] == 0, f"its condition: {job}")
     make(flag)
     job = job_where(path, "kept", lambda job: job["path"])
     check(job["path"] == flag and job["keys"]["path_exists"] is True and job["reasons"]["wants"]["path_state"], f"its path: {job}")
@@ -187,4 +192,157 @@ def status_files_that_are_refused(stage):
     launcher.shut_down()
 
 
-SCENES = [what_a_status_file_holds, a_status_file_rests, a_killed_launcher_leaves_a_whole_file, status_files_that_are_refused]
+# The families of a job's samples, by name: their kind, what they tell, and the value by the job's part of the file.
+FAMILIES = {
+    "jobd_job_running": ("gauge", "Whether a run of the job lives.", lambda job: int(job["pid"] is not None)),
+    "jobd_job_starts_total": ("counter", "Starts that were ordered since the load, refused ones too.", lambda job: job["starts"]),
+    "jobd_job_failures_total": ("counter", "Runs since the load that did not end with code 0.", lambda job: job["failures"] - job["refusals"]),
+    "jobd_job_refused_total": ("counter", "Starts since the load that the system refused.", lambda job: job["refusals"]),
+    "jobd_job_last_end_timestamp_seconds": (
+        "gauge", "When the last run of the job ended.", lambda job: job["last_end"] and job["last_end"]["ended"]["wall"]),
+}
+NEXT = "jobd_job_next_start_timestamp_seconds"
+NEXT_HEAD = f"# HELP {NEXT} When the job starts next by the clocks alone.\n# TYPE {NEXT} gauge\n"
+
+
+def samples(stage, path, now):
+    """What `jobscope metrics` writes, as of this second."""
+    command = [*stage.given.jobscope, "metrics", "--status-file", path, "--now", str(now)]
+    ran = subprocess.run(command, capture_output=True, timeout=BOUND)
+    check(ran.returncode == 0 and not ran.stderr, f"metrics ends with {ran.returncode}: {ran.stderr!r}")
+    return ran.stdout.decode()
+
+
+def wanted_samples(path, is_up):
+    """All that is wanted before the next starts."""
+    first, jobs = told(path)
+    text = ""
+    for name, help_text, value in (
+        ("jobd_up", "Whether the launcher lives.", int(is_up)),
+        ("jobd_journal_open", "Whether the journal of the launcher is open.", 1),
+        ("jobd_status_timestamp_seconds", "When the launcher told how it stands.", first["at"]["wall"]),
+    ):
+        text += f"# HELP {name} {help_text}\n# TYPE {name} gauge\n{name} {value}\n"
+    for name, (kind, help_text, value_of) in FAMILIES.items():
+        text += f"# HELP {name} {help_text}\n# TYPE {name} {kind}\n"
+        for label, job in jobs.items():
+            value = value_of(job) if is_up or name != "jobd_job_running" else 0
+            if value is not None:
+                quoted = label.replace("\\", "\\\\").replace('"', '\\"')
+                text += f'{name}{{label="{quoted}"}} {value}\n'
+    return text
+
+
+def samples_of_a_status_file(stage):
+    """A job that runs, whose label has a quote and a backslash, one that failed, one that is refused, and one of the calendar; then the launcher is killed."""
+    launcher, path = serve(stage, journal="journal")
+    launcher.load(shell_job('a "b" \\c', "exec sleep 600", KeepAlive=True))
+    launcher.load(shell_job("failed", "exit 3", RunAtLoad=True))
+    launcher.load({"Label": "refused", "ProgramArguments": ["/nonexistent/prog"], "RunAtLoad": True, "ThrottleInterval": 3600})
+    launcher.load(shell_job("hourly", "exit 0", StartCalendarInterval={"Minute": 0}))
+    job_where(path, 'a "b" \\c', lambda job: job["pid"])
+    job_where(path, "failed", lambda job: job["last_end"])
+    job_where(path, "refused", lambda job: job["refused"] and job["refusals"] == job["failures"] == 1)
+    job_where(path, "hourly", lambda job: True)
+
+    now = int(time.time())
+    text = samples(stage, path, now)
+    front, head, coming = text.partition(NEXT_HEAD)
+    check(head and front == wanted_samples(path, True), f"the samples are {text!r}, wanted {wanted_samples(path, True)!r}")
+    coming = dict(line.rsplit(" ", 1) for line in coming.splitlines())
+    hourly, refused = (int(coming.pop(f'{NEXT}{{label="{label}"}}', 0)) for label in ("hourly", "refused"))
+    check(hourly == (now // 3600 + 1) * 3600, f"the next hour is {hourly} at {now}")
+    check(abs(refused - told(path)[1]["refused"]["started"]["wall"] - 3600) <= 1, f"the refused one starts at {refused}")
+    check(not coming, f"others start: {coming}")
+
+    end_process(launcher.pid)
+    launcher.ends()
+    pid = told(path)[1]['a "b" \\c']["pid"]
+    text = samples(stage, path, int(time.time()))
+    check(text == wanted_samples(path, False) + NEXT_HEAD, f"of a killed launcher the samples are {text!r}")
+    end_process(pid)
+
+
+def asked(stage, path, *words):
+    """What `jobscope` writes by the file, and its status."""
+    around = {key: value for key, value in os.environ.items() if key not in ("JOBD_JOURNAL", "COLUMNS")}
+    command = [*stage.given.jobscope, *words]
+    ran = subprocess.run(command, env={**around, "JOBD_STATUS_FILE": path, "COLUMNS": "200"}, capture_output=True, text=True, timeout=BOUND)
+    return ran.returncode, ran.stdout, ran.stderr
+
+
+def comes_to_say(stage, path, label, *parts):
+    """`why` of the label comes to say each of these."""
+    def found():
+        status, text, _ = asked(stage, path, "why", label)
+        return status == 0 and all(part in text for part in parts)
+    wait_for(found, lambda: f"of {label} it does not come to say {parts}: {asked(stage, path, 'why', label)}")
+
+
+def cells(stage, path):
+    """The rows of the table by their labels, each as its cells."""
+    status, text, _ = asked(stage, path, "status")
+    check(status == 0, f"status ended with {status}")
+    lines = text.splitlines()
+    at = next(place for place, line in enumerate(lines) if line.startswith("LABEL"))
+    return {line.split()[0]: line.split() for line in lines[at + 1:]}
+
+
+def why_and_status_of_now(stage):
+    """A job of each kind, asked of while its launcher lives, and once that was killed."""
+    launcher, path = serve(stage, journal="journal")
+    flag = stage.at("flag")
+    for definition in (
+        shell_job("runs", "exec sleep 600", KeepAlive=True),
+        {"Label": "refused", "ProgramArguments": ["/nonexistent/prog"], "RunAtLoad": True, "ThrottleInterval": 600},
+        shell_job("throttled", "exit 3", KeepAlive=True, ThrottleInterval=600),
+        shell_job("waits", "exec sleep 600", KeepAlive={"PathState": {flag: True}}),
+        shell_job("crashed", "kill -SEGV $$", RunAtLoad=True),
+        shell_job("stopped", "exec sleep 600", RunAtLoad=True),
+        shell_job("spent", "exit 0", RunAtLoad=True, LaunchOnlyOnce=True),
+        shell_job("disabled", "exec sleep 600", RunAtLoad=True),
+    ):
+        launcher.load(definition)
+    comes_to_say(stage, path, "runs", "runs is running.", "It is wanted: KeepAlive is true.")
+    comes_to_say(stage, path, "refused", "was refused, at ", f": {MISSING}.", "It is wanted: it starts at its load (RunAtLoad is true).")
+    comes_to_say(stage, path, "throttled", "It is throttled until ", "ThrottleInterval is 600.", "It ended last with code 3", "It starts at ")
+    comes_to_say(stage, path, "waits", f"once {flag} exists (KeepAlive PathState)")
+    comes_to_say(stage, path, "crashed", "It ended last by signal 11 (a crash)", "Nothing wants it.")
+    comes_to_say(stage, path, "spent", "LaunchOnlyOnce is true, and a start went well.")
+    launcher.ask({"req": "disable", "job": "disabled"})
+    comes_to_say(stage, path, "disabled", "disabled is running.", "It is disabled: `jobctl enable disabled`.")
+    job_where(path, "stopped", lambda job: job["state"] == "running")
+    launcher.ask({"req": "stop", "job": "stopped"})
+    comes_to_say(stage, path, "stopped", "It ended last by signal 15, ", "Nothing wants it.")
+
+    rows = cells(stage, path)
+    check(rows["runs"][1:3] == ["running", str(told(path)[1]["runs"]["pid"])] and rows["runs"][-1] == "-", f"of runs: {rows['runs']}")
+    check(rows["waits"][1:3] == ["idle", "-"] and rows["waits"][-2:] == ["a", "path"], f"of waits: {rows['waits']}")
+    check(rows["spent"][-2:] == ["a", "load"] and rows["crashed"][4:6] == ["signal", "11"], f"{rows['spent']}, {rows['crashed']}")
+    check(len(rows) == 8, f"it has {len(rows)} rows")
+    status, text, _ = asked(stage, path, "why", "--failing")
+    failing = [line.partition(":")[0] for line in text.splitlines() if ": its last " in line or ": it is wanted" in line]
+    check(status == 2 and failing == ["crashed", "refused", "throttled"], f"failing are {failing}, with status {status}: {text}")
+    status, text, error = asked(stage, path, "why", "run")
+    check(status == 65 and "nothing here names run; near it: runs" in error, f"of a label that is not there: {status}, {error!r}")
+
+    pids = [job["pid"] for job in told(path)[1].values() if job["pid"]]
+    end_process(launcher.pid)
+    launcher.ends()
+    status, text, _ = asked(stage, path, "why", "runs")
+    check(status == 0 and "is gone" in text and "runs is run by no launcher" in text, f"of a killed launcher: {text}")
+    rows = cells(stage, path)
+    check({row[1] for row in rows.values()} == {"unknown"} and {row[2] for row in rows.values()} == {"-"}, f"rows of a killed launcher: {rows}")
+    check(asked(stage, path, "why", "--failing", "runs")[0] == 2, "a job of a killed launcher does not fail")
+    for pid in pids:
+        end_process(pid)
+
+
+SCENES = [
+    what_a_status_file_holds,
+    a_status_file_rests,
+    a_killed_launcher_leaves_a_whole_file,
+    status_files_that_are_refused,
+    why_and_status_of_now,
+    samples_of_a_status_file,
+]

@@ -5,12 +5,12 @@ use plain_text::plain_char;
 use unicode_width::UnicodeWidthChar;
 
 /// How many columns the character takes as it is written; one that can't be shown takes one.
-fn columns_of_char(c: char) -> usize {
+pub fn columns_of_char(c: char) -> usize {
     UnicodeWidthChar::width(plain_char(c)).unwrap_or(1)
 }
 
 /// How many columns the text takes.
-pub(crate) fn columns_of(text: &str) -> usize {
+pub fn columns_of(text: &str) -> usize {
     let mut columns: usize = 0;
     for c in text.chars() {
         columns = columns.saturating_add(columns_of_char(c));

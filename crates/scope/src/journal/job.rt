@@ -1,11 +1,12 @@
 //! What is kept of one job: of its present load, and over all its loads.
 
 use crate::journal::news::What;
-use crate::journal::run::{JobRun, RunEnd, is_crash};
+use crate::journal::run::{JobRun, RunEnd};
 use crate::journal::waiting::Wait;
 use history_model::{Answer, DemandKind, Ended, JobItem, Reading, SECOND};
 use job_defs::Def;
 use pace::Signal;
+use status_page::is_crash;
 
 /// After so many ends with code 0, each within a second of its begin, it is asked whether the program puts itself in the background.
 const QUICK_ENDS: u64 = 3;

@@ -1,8 +1,6 @@
 //! One run of a job, from its order to its end.
-ghost use Rattle.std.specs.Prelude.{◌≡◌};
-ghost use Rattle.history_model.specs.Levels.{is_crash_end};
 
-use history_model::{DemandKind, Ended, Reading};
+use history_model::{DemandKind, Reading};
 
 /// How a run stands, or how it ended.
 #[derive(Clone, Copy)]
@@ -38,18 +36,6 @@ pub(crate) struct JobRun {
     pub(crate) is_ordered_to_end: bool,
     /// Whether its end was a crash.
     pub(crate) is_crash: bool,
-}
-
-/// Whether an end is a crash: by one of the signals 3 to 8, 11 and 31, or by an unknown one if neither TERM nor KILL was ordered.
-pub(crate) fn is_crash(how: Ended, is_ordered_to_end: bool) -> bool
-    ensures { result ≡ is_crash_end is_ordered_to_end how }
-{
-    match how {
-        Ended::Code(_) => false,
-        Ended::Signal(3..=8 | 11 | 31) => true,
-        Ended::Signal(0) => !is_ordered_to_end,
-        Ended::Signal(_) => false,
-    }
 }
 
 impl JobRun {

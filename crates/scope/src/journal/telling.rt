@@ -1,10 +1,10 @@
 //! What keeps a job from a start, and what wants it, as a list in the order in which it is told.
 ghost use Rattle.std.specs.Prelude.{◌≡◌, ◌++◌, OnOk, IfOk};
-ghost use Rattle.history_model.specs.Reasons.{some_want};
 ghost use Rattle.scope.specs.Causes.{AreCauses};
 ghost use Rattle.scope.specs.CauseLists.{when, causes_holding, causes_wanting};
 
 use history_model::{Act, Reasons, StandingChild, Wants};
+use status_page::is_wanted;
 use std::alloc::{AllocError, Global};
 
 /// One thing that keeps a job from a start, or one that wants it.
@@ -32,19 +32,6 @@ pub enum JobCause {
     Crashed,
     PathState,
     QueueDirectories,
-}
-
-/// Whether something wants the job.
-pub(crate) fn is_wanted(wants: &Wants) -> bool
-    ensures { result ≡ some_want wants.now }
-{
-    wants.demand
-        || wants.connections > 0
-        || wants.keep_alive
-        || wants.successful_exit
-        || wants.crashed
-        || wants.path_state
-        || wants.queue_directories
 }
 
 fn add_if(causes: &mut Vec<JobCause>, holds: bool, cause: JobCause) -> Result<(), AllocError>

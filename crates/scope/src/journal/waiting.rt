@@ -6,10 +6,10 @@ ghost use Rattle.history_model.specs.Machine.{State, past_of};
 ghost use Rattle.loaded_jobs.specs.StandsFor.{KeepsState};
 ghost use Rattle.scope.specs.Waits.{WaitsFor};
 
-use crate::journal::telling::is_wanted;
 use history_model::Reasons;
 use job_table::JobTable;
 use run_times::needs_event;
+use status_page::is_wanted;
 
 /// What a job that has no run waits for.
 #[derive(Clone, Copy)]

@@ -6,7 +6,7 @@ ghost use Rattle.history_model.specs.NextMomentByFacts.{has_come};
 ghost use Rattle.history_model.specs.Items.{History};
 ghost use Rattle.history_model.specs.Reasons.{reasons_of};
 ghost use Rattle.job_core.specs.JobMoments.{AreMoments, may_kill_when, may_term_when};
-ghost use Rattle.scope.specs.ByFacts.{can_start_again, ComesSo, AsksBy, ThrottlesBy};
+ghost use Rattle.scope.specs.ByFacts.{ComesSo, AsksBy, ThrottlesBy};
 
 use history_model::{Reading, Reasons, SECOND};
 use job_table::Moments;
@@ -45,13 +45,6 @@ fn order_when(from: Option<u64>, up: u64) -> OrderWhen
         Some(at) if at <= up => OrderWhen::AtOnce,
         Some(at) => OrderWhen::At(at),
     }
-}
-
-/// Whether a start can ever come of the load: it is not being removed, and its launches are not used up.
-pub(crate) fn can_start_again(reasons: &Reasons) -> bool
-    ensures { (past : History) → reasons.now ≡ reasons_of past → result ≡ can_start_again past }
-{
-    !(reasons.is_removing || reasons.is_launch_spent || reasons.are_runs_spent)
 }
 
 /// By which word of `jobctl` a client can ask for a start.

@@ -5,12 +5,12 @@ ghost use Rattle.run_times.specs.Written.{Adds, Grows};
 ghost use Rattle.scope.specs.Fronts.{front_of, TellsCauses, TellsEach};
 
 use crate::journal::telling::{JobCause, causes};
-use crate::texts::by_facts::can_start_again;
 use crate::texts::causes::{path_said, queue_said, sentences_of};
 use crate::texts::coming::{asked_said, conditions_said, queued_said, unmet_said, watched_said};
 use crate::texts::fronts::put_front;
 use crate::texts::told::{Sentence, ToldJob};
 use run_times::Page;
+use status_page::can_start_again;
 
 /// Adds a line for each cause of the job, in order: for each thing that the table's reasons say, and for nothing else. It says whether the only
 /// one is that nothing wants the job.
@@ -71,7 +71,7 @@ fn add_ways(page: &mut Page<'_>, told: &ToldJob<'_>)
     add_sentences(page, &unmet_said(told));
     add_sentence(page, &watched_said(told.keys.watch_paths));
     add_sentence(page, &queued_said(told.keys.queue_directories));
-    add_sentence(page, &conditions_said(told.keys.path_state));
+    add_sentence(page, &conditions_said(&told.keys));
     add_sentences(page, &asked_said(told));
 }
 

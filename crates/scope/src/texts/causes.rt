@@ -164,17 +164,12 @@ fn crash_words(crashed: Option<bool>) -> &'static str {
 /// The end of the line of `PathState`.
 pub(crate) fn path_said<'a>(told: &ToldJob<'a>) -> Sentences<'a> {
     let path = told.facts.path.unwrap_or("a path");
-    for condition in told.keys.path_state {
-        if condition.path.as_str() == path {
-            let form = if condition.present {
-                "$ was last seen there."
-            } else {
-                "$ was last seen not there."
-            };
-            return alone(form, Text(path), NONE);
-        }
-    }
-    alone("$ was last seen as it says.", Text(path), NONE)
+    let form = match told.keys.path_exists {
+        Some(true) => "$ was last seen there.",
+        Some(false) => "$ was last seen not there.",
+        None => "$ was last seen as it says.",
+    };
+    alone(form, Text(path), NONE)
 }
 
 /// That of `QueueDirectories`. A path of `PathState` is named in place of a folder.

@@ -5,13 +5,11 @@ use crate::texts::told::{
     CalendarNext, MOST_SENTENCES, NONE, SILENCE, Sentence, Sentences, ToldJob, said_if,
 };
 use calendar_due::{Calendar, Zone};
-use history_model::{Entry, MAX_WALL, Text};
-use job_defs::PathState;
+use history_model::{Entry, MAX_WALL};
 use run_times::Filling;
 use run_times::Filling::{Coming, Minute, Number};
-
-/// How far is looked ahead, in seconds: 400 days.
-pub(crate) const FARTHEST: u64 = 34_560_000;
+use status_file::{JobKeys, KeyPaths};
+use status_page::FARTHEST;
 
 /// Why its conditions do not want it, and when the clocks will.
 pub(crate) fn unmet_said(told: &ToldJob<'_>) -> Sentences<'static> {
@@ -26,7 +24,7 @@ pub(crate) fn unmet_said(told: &ToldJob<'_>) -> Sentences<'static> {
 }
 
 /// By which of the paths that are watched.
-pub(crate) fn watched_said<'a>(paths: &'a [Text]) -> Sentence<'a> {
+pub(crate) fn watched_said<'a>(paths: KeyPaths<'a>) -> Sentence<'a> {
     paths_said(
         paths,
         " once $ changes (WatchPaths),",
@@ -35,7 +33,7 @@ pub(crate) fn watched_said<'a>(paths: &'a [Text]) -> Sentence<'a> {
 }
 
 /// By which of its folders.
-pub(crate) fn queued_said<'a>(folders: &'a [Text]) -> Sentence<'a> {
+pub(crate) fn queued_said<'a>(folders: KeyPaths<'a>) -> Sentence<'a> {
     paths_said(
         folders,
         " once $ has an entry (QueueDirectories),",
@@ -61,28 +59,23 @@ pub(crate) fn asked_said(told: &ToldJob<'_>) -> Sentences<'static> {
 }
 
 // By which path it comes to be wanted: the form for one path alone, or that for the first of several.
-fn paths_said<'a>(paths: &'a [Text], one: &'static str, first: &'static str) -> Sentence<'a> {
-    match paths {
-        [] => SILENCE,
-        [path] => (one, [Filling::Text(path.as_str()), NONE, NONE, NONE]),
-        [path, ..] => (
-            first,
-            [
-                Filling::Text(path.as_str()),
-                Number(paths.len() as u64),
-                NONE,
-                NONE,
-            ],
-        ),
-    }
+fn paths_said<'a>(paths: KeyPaths<'a>, one: &'static str, several: &'static str) -> Sentence<'a> {
+    let Some(first) = paths.first else {
+        return SILENCE;
+    };
+    let form = if paths.count == 1 { one } else { several };
+    (
+        form,
+        [Filling::Text(first), Number(paths.count), NONE, NONE],
+    )
 }
 
 /// By which condition of `PathState`.
-pub(crate) fn conditions_said<'a>(conditions: &'a [PathState]) -> Sentence<'a> {
-    let Some(first) = conditions.first() else {
+pub(crate) fn conditions_said<'a>(keys: &JobKeys<'a>) -> Sentence<'a> {
+    let (Some(first), Some(exists)) = (keys.path_state.first, keys.first_exists) else {
         return SILENCE;
     };
-    let form = match (first.present, conditions.len()) {
+    let form = match (exists, keys.path_state.count) {
         (true, 1) => " once $ exists (KeepAlive PathState),",
         (false, 1) => " once $ is not there (KeepAlive PathState),",
         (true, _) =>
@@ -91,21 +84,22 @@ pub(crate) fn conditions_said<'a>(conditions: &'a [PathState]) -> Sentence<'a> {
             " once $ is not there, or another of the $ paths of KeepAlive PathState is as it says,"
         }
     };
-    let count = Number(conditions.len() as u64);
-    (
-        form,
-        [Filling::Text(first.path.as_str()), count, NONE, NONE],
-    )
+    let count = Number(keys.path_state.count);
+    (form, [Filling::Text(first), count, NONE, NONE])
 }
 
 // Whether something but a client can want it.
 fn has_way(told: &ToldJob<'_>) -> bool {
     let keys = &told.keys;
-    keys.has_calendar
+    let has_calendar = match told.calendar {
+        CalendarNext::Absent => false,
+        CalendarNext::Far | CalendarNext::At(_) => true,
+    };
+    has_calendar
         || told.facts.moments.interval.is_some()
-        || !keys.watch_paths.is_empty()
-        || !keys.queue_directories.is_empty()
-        || !keys.path_state.is_empty()
+        || keys.watch_paths.count > 0
+        || keys.queue_directories.count > 0
+        || keys.path_state.count > 0
         || keys.has_sockets
 }
 

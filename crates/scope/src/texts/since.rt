@@ -1,60 +1,19 @@
-//! What came due since a journal's last event by the clocks alone, and when they start a job.
+//! What came due by the clocks alone since a journal's last event or since a launcher wrote its file, and when they start a job.
 
 ghost use Rattle.std.specs.Prelude.{◌≡◌, ◌≤◌, ℕ, Bool};
 ghost use Rattle.history_model.specs.declared.TheConstants.{MAX_UP, MAX_WALL};
 ghost use Rattle.history_model.specs.Items.{History};
 ghost use Rattle.history_model.specs.NextMomentByFacts.{has_come};
-ghost use Rattle.history_model.specs.NextRun.{looked_ahead};
-ghost use Rattle.calendar_due.specs.ZoneRules.{minute_at};
 ghost use Rattle.job_core.specs.JobMoments.{AreMoments, may_kill_when, may_term_when};
-ghost use Rattle.run_times.specs.Told.{IsTold};
-ghost use Rattle.scope.specs.declared.texts.coming.TheConstants.{FARTHEST};
-ghost use Rattle.scope.specs.Ages.{ComesSince, StartsSo, reasons_then};
+ghost use Rattle.scope.specs.Ages.{ComesSince, reasons_then};
 
-use crate::texts::coming::FARTHEST;
 use calendar_due::Zone;
 use history_model::{Entry, Reading, Reasons};
 use job_table::Moments;
 use run_times::Filling::{Text, Time};
-use run_times::{Page, coming_second, next_run};
+use run_times::{Page, coming_second};
 use status_file::JobFacts;
-
-/// When the clocks alone start a job, by seconds of `wall`.
-#[derive(Clone, Copy)]
-pub(crate) enum StartWhen {
-    Never,
-    /// The start has been due since this second.
-    Since(u64),
-    /// It comes at this second.
-    At(u64),
-}
-
-/// When the clocks alone start the job, told at this second of `wall`, if both go on alike from its last reading on.
-pub(crate) fn start_when(
-    reasons: &Reasons,
-    spawns_from: Option<u64>,
-    entries: &[Entry],
-    zone: &Zone,
-    last: Reading,
-    now: u64,
-) -> StartWhen
-    requires up { last.up ≤ MAX_UP }
-    requires wall { last.wall ≤ MAX_WALL }
-    ensures { (past : History) → IsTold reasons.now spawns_from entries.now last past →
-        StartsSo (minute_at zone.now) past (looked_ahead last FARTHEST) last now result }
-{
-    match next_run(reasons, spawns_from, entries, zone, last, FARTHEST) {
-        Some(seconds) => {
-            let at = last.wall.saturating_add(seconds);
-            if at <= now {
-                StartWhen::Since(at)
-            } else {
-                StartWhen::At(at)
-            }
-        }
-        None => StartWhen::Never,
-    }
-}
+use status_page::{StartWhen, start_when};
 
 /// When KILL came due for the run that lives: after this `up` of the last reading, and up to now.
 pub(crate) fn kill_since(moments: &Moments, last: u64, now: u64) -> Option<u64>

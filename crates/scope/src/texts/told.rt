@@ -1,10 +1,9 @@
 //! What is told of one job, and the sentences that tell it.
 
 use crate::journal::job::{JobRequest, Record};
-use history_model::{Reading, Text};
-use job_defs::{Def, PathState};
+use history_model::Reading;
 use run_times::Filling;
-use status_file::JobFacts;
+use status_file::{JobFacts, JobKeys};
 
 /// A sentence: its form, and what stands in the holes. An empty form says nothing.
 pub(crate) type Sentence<'a> = (&'static str, [Filling<'a>; 4]);
@@ -46,7 +45,7 @@ pub(crate) struct ToldJob<'a> {
     /// What was asked of it last, or of all jobs.
     pub(crate) asked: Option<(JobRequest, Reading)>,
     pub(crate) job: &'a Record,
-    pub(crate) keys: Keys<'a>,
+    pub(crate) keys: JobKeys<'a>,
     /// The next minute of its calendar.
     pub(crate) calendar: CalendarNext,
 }
@@ -60,39 +59,4 @@ pub(crate) enum CalendarNext {
     Far,
     /// The minute that begins at this second of `wall`.
     At(u64),
-}
-
-/// What its definition says.
-#[derive(Clone, Copy)]
-pub(crate) struct Keys<'a> {
-    pub(crate) run_at_load: bool,
-    pub(crate) successful_exit: Option<bool>,
-    pub(crate) crashed: Option<bool>,
-    pub(crate) path_state: &'a [PathState],
-    pub(crate) start_interval: Option<u32>,
-    pub(crate) has_calendar: bool,
-    /// Both in seconds.
-    pub(crate) throttle_interval: u32,
-    pub(crate) exit_time_out: u32,
-    pub(crate) watch_paths: &'a [Text],
-    pub(crate) queue_directories: &'a [Text],
-    pub(crate) has_sockets: bool,
-}
-
-impl Keys<'_> {
-    pub(crate) fn of(def: &Def) -> Keys<'_> {
-        Keys {
-            run_at_load: def.run_at_load(),
-            successful_exit: def.successful_exit(),
-            crashed: def.crashed(),
-            path_state: def.path_state(),
-            start_interval: def.start_interval(),
-            has_calendar: !def.calendar().is_empty(),
-            throttle_interval: def.throttle_interval(),
-            exit_time_out: def.exit_time_out(),
-            watch_paths: def.watch_paths(),
-            queue_directories: def.queue_directories(),
-            has_sockets: def.has_sockets(),
-        }
-    }
 }

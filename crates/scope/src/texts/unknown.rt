@@ -2,6 +2,7 @@
 
 use crate::journal::reader::OpenJournal;
 use run_times::Ink;
+use status_page::Standing;
 use std::alloc::{AllocError, Global};
 use strsim::levenshtein;
 
@@ -11,7 +12,7 @@ const MOST_NAMED: usize = 3;
 /// How many characters a label may be apart at most, to be near.
 const FARTHEST: usize = 8;
 
-/// The labels that are nearest so far, and how far they are.
+/// The labels that are nearest to one, of those that were compared with it.
 #[derive(Drop)]
 struct Near<'a> {
     distance: usize,
@@ -24,11 +25,38 @@ pub(crate) fn unknown_text(
     journal: &OpenJournal,
     label: &str,
 ) -> Result<String, AllocError> {
-    let mut near = Near {
-        distance: (label.len() / 3).saturating_add(1).min(FARTHEST),
-        labels: Vec::new(alloc),
-    };
+    let mut near = Near::to(alloc, label);
     let found = find(alloc, journal, label, &mut near);
+    unknown_beside(alloc, label, near, found)
+}
+
+/// The same of a launcher's file.
+pub(crate) fn unknown_in(
+    alloc: Global,
+    standing: &Standing,
+    label: &str,
+) -> Result<String, AllocError> {
+    let mut near = Near::to(alloc, label);
+    let found = find_in(alloc, standing, label, &mut near);
+    unknown_beside(alloc, label, near, found)
+}
+
+impl<'a> Near<'a> {
+    // None was compared with the label.
+    fn to(alloc: Global, label: &str) -> Near<'a> {
+        Near {
+            distance: (label.len() / 3).saturating_add(1).min(FARTHEST),
+            labels: Vec::new(alloc),
+        }
+    }
+}
+
+fn unknown_beside(
+    alloc: Global,
+    label: &str,
+    near: Near<'_>,
+    found: Result<(), AllocError>,
+) -> Result<String, AllocError> {
     let mut ink = Ink::new(alloc);
     if found.is_err() {
         ink.refuse();
@@ -57,6 +85,20 @@ fn find<'a>(
     for (other, _) in &journal.past.labels.items {
         if journal.past.jobs.get(other.as_str()).is_none() {
             compare(alloc, label, other.as_str(), near)?;
+        }
+    }
+    Ok(())
+}
+
+fn find_in<'a>(
+    alloc: Global,
+    standing: &'a Standing,
+    label: &str,
+    near: &mut Near<'a>,
+) -> Result<(), AllocError> {
+    for line in standing.jobs() {
+        if let Ok(job) = line.job() {
+            compare(alloc, label, job.label, near)?;
         }
     }
     Ok(())

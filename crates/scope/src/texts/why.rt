@@ -1,20 +1,22 @@
 //! Why each job stands as it does, at the journal's end or at a moment before.
 
-use crate::age::{AsOf, add_head, clock_as_of, reading_as_of, within_limits};
+use crate::age::{AsOf, add_head, clock_as_of, reading_as_of};
 use crate::journal::job::{KeptJob, Record};
 use crate::journal::labels::{DisabledBy, KnownLabel};
 use crate::journal::reader::OpenJournal;
+use crate::journal::run::JobRun;
 use crate::texts::cause_lines::add_causes;
 use crate::texts::causes::throttle_end;
 use crate::texts::coming::calendar_next;
 use crate::texts::since::{add_coming, reasons_then};
-use crate::texts::told::{Keys, ToldJob};
+use crate::texts::told::ToldJob;
 use crate::texts::words::{asked_name, end_words, refusal_words};
 use calendar_due::Zone;
 use history_model::{Reading, Reasons, Refusal};
 use run_times::Filling::{Number, Span, Text, Time};
 use run_times::{Page, coming_second};
-use status_file::JobFacts;
+use status_file::{JobFacts, JobKeys};
+use status_page::within_limits;
 use std::alloc::{AllocError, Global};
 
 /// For each loaded job, or for those named: its state, a line for each thing that keeps it from a start or wants it, how it ended
@@ -120,19 +122,14 @@ fn add_job(page: &mut Page<'_>, journal: &OpenJournal, label: &str, job: &KeptJo
         facts: facts_then(&facts, page.now.up),
         asked: journal.past.asked_of(&job.record),
         job: &job.record,
-        keys: Keys::of(def),
+        keys: JobKeys::of(def, facts.path),
         calendar: calendar_next(entries, &journal.zone, page.now.wall),
     };
-    page.add(
-        "\n$ $.\n",
-        &[Text(label), Text(state_words(&facts.reasons))],
-    );
-    let is_idle = add_causes(page, &told);
+    let is_idle = add_stand(page, label, &facts, &told);
     add_past(page, &job.record);
     add_background(page, &job.record);
     add_inert(page, def.not_acted_on());
     add_label(page, label, journal.past.labels.of(label));
-    // Of a job that nothing wants, and that nothing else keeps from a start, the ways by which it comes to start were told.
     let last = within_limits(journal.table.reading());
     let end = throttle_shown(&told, &facts, last);
     add_coming(
@@ -147,15 +144,34 @@ fn add_job(page: &mut Page<'_>, journal: &OpenJournal, label: &str, job: &KeptJo
     );
 }
 
-// The second at which the throttle ends, as the clock counts it, and the one that is told for it.
-fn throttle_shown(told: &ToldJob<'_>, facts: &JobFacts<'_>, last: Reading) -> Option<(u64, u64)> {
+/// Adds how the job stands, and a line for each thing that keeps it from a start or wants it. It says whether the only one is that nothing wants
+/// the job: then the ways by which it comes to start were told.
+pub(crate) fn add_stand(
+    page: &mut Page<'_>,
+    label: &str,
+    facts: &JobFacts<'_>,
+    told: &ToldJob<'_>,
+) -> bool {
+    page.add(
+        "\n$ $.\n",
+        &[Text(label), Text(state_words(&facts.reasons))],
+    );
+    add_causes(page, told)
+}
+
+/// The second at which the throttle ends, as the clock counts it, and the one that is told for it.
+pub(crate) fn throttle_shown(
+    told: &ToldJob<'_>,
+    facts: &JobFacts<'_>,
+    last: Reading,
+) -> Option<(u64, u64)> {
     let up = facts.reasons.throttled_until?;
     let shown = throttle_end(told.job, told.keys.throttle_interval, up, last);
     Some((coming_second(last, up), shown))
 }
 
-// The facts, but that a throttle which is over by then is left out.
-fn facts_then<'a>(facts: &JobFacts<'a>, up: u64) -> JobFacts<'a> {
+/// The facts, but that a throttle which is over by then is left out.
+pub(crate) fn facts_then<'a>(facts: &JobFacts<'a>, up: u64) -> JobFacts<'a> {
     let mut then = *facts;
     then.reasons = reasons_then(&facts.reasons, up);
     then
@@ -173,28 +189,40 @@ fn state_words(reasons: &Reasons) -> &'static str {
 
 // How the last run ended, how many there were, and that the last start was refused.
 fn add_past(page: &mut Page<'_>, job: &Record) {
-    if let Some(last) = &job.last {
-        let (words, number) = end_words(last.end);
-        let crash = if last.is_crash { " (a crash)" } else { "" };
-        let starts = if job.starts == 1 { "start" } else { "starts" };
-        let holes = [
-            Text(words),
-            Number(u64::from(number)),
-            Text(crash),
-            Time(last.ended.wall),
-            Span(last.lived(page.now)),
-            Number(job.starts),
-            Text(starts),
-            Number(job.ends),
-        ];
-        let form = "  It ended last $$$, at $, after $; $ $ since its load, $ ended.\n";
-        page.add(form, &holes);
-    }
+    add_last_end(page, job, job.ends, "ended");
     if let Some(run) = &job.refused {
-        let form =
-            "  Its last start (run $) was refused, at $. The system's reason stood on the launcher's standard error (journalctl -u jobd).\n";
-        page.add(form, &[Number(run.run), Time(run.ended.wall)]);
+        add_refused(page, run);
     }
+}
+
+/// Adds how the last run ended, if one did, and of how many starts so many came to what the word says.
+pub(crate) fn add_last_end(page: &mut Page<'_>, job: &Record, count: u64, word: &'static str) {
+    let Some(last) = &job.last else {
+        return;
+    };
+    let (words, number) = end_words(last.end);
+    let crash = if last.is_crash { " (a crash)" } else { "" };
+    let starts = if job.starts == 1 { "start" } else { "starts" };
+    let holes = [
+        Text(words),
+        Number(u64::from(number)),
+        Text(crash),
+        Time(last.ended.wall),
+        Span(last.lived(page.now)),
+        Number(job.starts),
+        Text(starts),
+        Number(count),
+        Text(word),
+    ];
+    let form = "  It ended last $$$, at $, after $; $ $ since its load, $ $.\n";
+    page.add(form, &holes);
+}
+
+/// Adds that the last start was refused, where the system's reason is not kept.
+pub(crate) fn add_refused(page: &mut Page<'_>, run: &JobRun) {
+    let form =
+        "  Its last start (run $) was refused, at $. The system's reason stood on the launcher's standard error (journalctl -u jobd).\n";
+    page.add(form, &[Number(run.run), Time(run.ended.wall)]);
 }
 
 // The conditions of `KeepAlive` among the keys that nothing acts on.

@@ -1,6 +1,6 @@
 -- The start is the next run, by the second at which that comes.
 use Rattle.std.proofs.Common.{arith}
-use Rattle.scope.proofs.texts.since.start_when.Goals as goal
+use Rattle.status_page.proofs.clocks.start_when.Goals as goal
 
 pub returns-then-at-now : goal.returns-then-at-now
 returns-then-at-now c = λ past told.

@@ -1,0 +1,7 @@
+use Rattle.run_times.proofs.GrowingLemmas.{adds_on}
+use Rattle.job_metrics.specs.Samples.{head_text, samples_text}
+use Rattle.job_metrics.proofs.put_family.Goals as goal
+
+pub returns : goal.returns
+returns c =
+    adds_on (head_text c.args.family) (samples_text c.args.family c.args.jobs.now) c.args.ink.now c.put_head.new.ink c.put_samples.new.ink c.put_head.ensures c.put_samples.ensures

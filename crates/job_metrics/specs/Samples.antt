@@ -1,0 +1,106 @@
+-- The text of samples that Prometheus reads (Exposition formats, text-based format 0.0.4): names, kinds, labels and values.
+use Rattle.std.specs.Prelude.{ℕ, Bool, List, [], ◌∷◌, ◌++◌, ◌||◌, ◌==◌, if◌then◌else◌, Option, Some, None, true, false, codes, chars, encode_utf8}
+use Rattle.std.specs.Fmt.{decimal}
+use Rattle.std.specs.List.{flat_map}
+use Rattle.plain_text.specs.Plain.{plain_char}
+use Rattle.job_metrics.specs.declared.Family.{Family}
+use Rattle.job_metrics.specs.declared.Family.TheVariants.{Up, JournalOpen, Told, Running, Starts, Failures, Refusals, LastEnd, NextStart}
+use Rattle.job_metrics.specs.declared.JobSample.{JobSample}
+use Rattle.job_metrics.specs.declared.LauncherSample.{LauncherSample}
+
+abbrev pub family_name : Family → List ℕ
+family_name Up = codes "jobd_up"
+family_name JournalOpen = codes "jobd_journal_open"
+family_name Told = codes "jobd_status_timestamp_seconds"
+family_name Running = codes "jobd_job_running"
+family_name Starts = codes "jobd_job_starts_total"
+family_name Failures = codes "jobd_job_failures_total"
+family_name Refusals = codes "jobd_job_refused_total"
+family_name LastEnd = codes "jobd_job_last_end_timestamp_seconds"
+family_name NextStart = codes "jobd_job_next_start_timestamp_seconds"
+
+abbrev pub family_kind : Family → List ℕ
+family_kind Starts = codes "counter"
+family_kind Failures = codes "counter"
+family_kind Refusals = codes "counter"
+family_kind _ = codes "gauge"
+
+abbrev pub family_help : Family → List ℕ
+family_help Up = codes "Whether the launcher lives."
+family_help JournalOpen = codes "Whether the journal of the launcher is open."
+family_help Told = codes "When the launcher told how it stands."
+family_help Running = codes "Whether a run of the job lives."
+family_help Starts = codes "Starts that were ordered since the load, refused ones too."
+family_help Failures = codes "Runs since the load that did not end with code 0."
+family_help Refusals = codes "Starts since the load that the system refused."
+family_help LastEnd = codes "When the last run of the job ended."
+family_help NextStart = codes "When the job starts next by the clocks alone."
+
+-- the two lines that tell what a family is
+abbrev pub head_text : Family → List ℕ
+head_text family =
+    codes "# HELP " ++ family_name family ++ codes " " ++ family_help family
+    ++ codes "\n# TYPE " ++ family_name family ++ codes " " ++ family_kind family ++ codes "\n"
+
+-- 1 for what is so, 0 for what is not
+abbrev pub flag_value : Option Bool → Option ℕ
+flag_value (Some true) = Some 1
+flag_value (Some false) = Some 0
+flag_value None = None
+
+-- what a family tells of a job
+abbrev pub job_value : Family → JobSample → Option ℕ
+job_value Running job = flag_value (Some job.is_running)
+job_value Starts job = Some job.starts
+job_value Failures job = Some job.failures
+job_value Refusals job = Some job.refusals
+job_value LastEnd job = job.last_end
+job_value NextStart job = job.next_start
+job_value _ job = None
+
+-- a character of a label, as it stands between quotes
+abbrev pub label_char : ℕ → List ℕ
+label_char c = if c == 0x5C || c == 0x22 then 0x5C ∷ encode_utf8 (plain_char c) else encode_utf8 (plain_char c)
+
+abbrev pub label_text : List ℕ → List ℕ
+label_text cs = flat_map label_char cs
+
+abbrev pub value_text : Family → List ℕ → Option ℕ → List ℕ
+value_text family label (Some value) =
+    family_name family ++ codes "{label=\"" ++ label_text (chars label) ++ codes "\"} " ++ decimal value ++ codes "\n"
+value_text family label None = []
+
+-- the line that a family has for a job
+abbrev pub sample_text : Family → JobSample → List ℕ
+sample_text family job = value_text family job.label.now (job_value family job)
+
+abbrev pub samples_text : Family → List JobSample → List ℕ
+samples_text family jobs = flat_map (sample_text family) jobs
+
+-- a family with a sample for each job
+abbrev pub family_text : List JobSample → Family → List ℕ
+family_text jobs family = head_text family ++ samples_text family jobs
+
+abbrev pub families_text : List JobSample → List Family → List ℕ
+families_text jobs families = flat_map (family_text jobs) families
+
+-- the line of a family that is not of jobs
+abbrev pub bare_sample : Family → ℕ → List ℕ
+bare_sample family value = family_name family ++ codes " " ++ decimal value ++ codes "\n"
+
+-- a family with the one sample of the launcher
+abbrev pub launcher_text : Family → Option ℕ → List ℕ
+launcher_text family (Some value) = head_text family ++ bare_sample family value
+launcher_text family None = []
+
+abbrev pub launcher_samples : LauncherSample → List ℕ
+launcher_samples launcher =
+    launcher_text Up (flag_value (Some launcher.is_up))
+    ++ launcher_text JournalOpen (flag_value launcher.journal_is_open)
+    ++ launcher_text Told (Some launcher.told)
+
+-- all samples: those of the launcher, then those of jobs, a family behind the other
+abbrev pub metrics_text : LauncherSample → List JobSample → List ℕ
+metrics_text launcher jobs =
+    launcher_samples launcher
+    ++ families_text jobs (Running ∷ Starts ∷ Failures ∷ Refusals ∷ LastEnd ∷ NextStart ∷ [])

@@ -1,0 +1,245 @@
+//! How a launcher and its jobs stand, as the text that Prometheus reads (its text-based format 0.0.4): for each family what it is, and a line a sample.
+#![tactic(auto)]
+
+ghost use Rattle.std.specs.Prelude.{◌≡◌, ◌++◌, [], false, IfOk, IsOk, string_bytes, chars};
+ghost use Rattle.run_times.specs.Written.{Adds};
+ghost use Rattle.job_metrics.specs.Samples.{family_name, family_kind, family_help, head_text, flag_value, job_value, label_char, label_text, sample_text, samples_text, bare_sample, family_text, families_text, launcher_text, launcher_samples, metrics_text};
+
+use plain_text::plain_char;
+use run_times::{Ink, Piece};
+use std::alloc::{AllocError, Global};
+
+/// What a monitor asks of a launcher.
+#[derive(Clone, Copy)]
+pub struct LauncherSample {
+    /// Whether its process lives.
+    pub is_up: bool,
+    /// Whether its journal is open. None if it writes none.
+    pub journal_is_open: Option<bool>,
+    /// As of when this was told, in seconds of Unix time.
+    pub told: u64,
+}
+
+/// What a monitor asks of a job.
+#[derive(Clone, Copy)]
+pub struct JobSample<'a> {
+    pub label: &'a str,
+    /// Whether a run of it lives.
+    pub is_running: bool,
+    /// How many starts were ordered since its load, refused ones too.
+    pub starts: u64,
+    /// How many of its runs did not end with code 0.
+    pub failures: u64,
+    /// How many of its starts the system refused.
+    pub refusals: u64,
+    /// When its last run ended, in seconds of Unix time. None if none has.
+    pub last_end: Option<u64>,
+    /// When it starts next by the clocks alone. None if it does not.
+    pub next_start: Option<u64>,
+}
+
+/// What the samples of one name tell.
+#[derive(Clone, Copy)]
+pub enum Family {
+    Up,
+    JournalOpen,
+    Told,
+    Running,
+    Starts,
+    Failures,
+    Refusals,
+    LastEnd,
+    NextStart,
+}
+
+/// The families that have a sample for each job, in the order of the text.
+const OF_JOBS: [Family; 6] = [
+    Family::Running,
+    Family::Starts,
+    Family::Failures,
+    Family::Refusals,
+    Family::LastEnd,
+    Family::NextStart,
+];
+
+fn family_name(family: Family) -> &'static str
+    ensures { result.now ≡ family_name family }
+{
+    match family {
+        Family::Up => "jobd_up",
+        Family::JournalOpen => "jobd_journal_open",
+        Family::Told => "jobd_status_timestamp_seconds",
+        Family::Running => "jobd_job_running",
+        Family::Starts => "jobd_job_starts_total",
+        Family::Failures => "jobd_job_failures_total",
+        Family::Refusals => "jobd_job_refused_total",
+        Family::LastEnd => "jobd_job_last_end_timestamp_seconds",
+        Family::NextStart => "jobd_job_next_start_timestamp_seconds",
+    }
+}
+
+fn family_kind(family: Family) -> &'static str
+    ensures { result.now ≡ family_kind family }
+{
+    match family {
+        Family::Starts | Family::Failures | Family::Refusals => "counter",
+        _ => "gauge",
+    }
+}
+
+fn family_help(family: Family) -> &'static str
+    ensures { result.now ≡ family_help family }
+{
+    match family {
+        Family::Up => "Whether the launcher lives.",
+        Family::JournalOpen => "Whether the journal of the launcher is open.",
+        Family::Told => "When the launcher told how it stands.",
+        Family::Running => "Whether a run of the job lives.",
+        Family::Starts => "Starts that were ordered since the load, refused ones too.",
+        Family::Failures => "Runs since the load that did not end with code 0.",
+        Family::Refusals => "Starts since the load that the system refused.",
+        Family::LastEnd => "When the last run of the job ended.",
+        Family::NextStart => "When the job starts next by the clocks alone.",
+    }
+}
+
+// What a family tells of a job. None if it has nothing to tell.
+fn job_value(family: Family, job: &JobSample<'_>) -> Option<u64>
+    ensures { result ≡ job_value family job.now }
+{
+    match family {
+        Family::Running => flag_value(Some(job.is_running)),
+        Family::Starts => Some(job.starts),
+        Family::Failures => Some(job.failures),
+        Family::Refusals => Some(job.refusals),
+        Family::LastEnd => job.last_end,
+        Family::NextStart => job.next_start,
+        _ => None,
+    }
+}
+
+fn put_head(ink: &mut Ink, family: Family)
+    ensures { Adds (head_text family) ink.old ink.new }
+{
+    let name = Piece::Text(family_name(family));
+    ink.put_all(&[
+        Piece::Text("# HELP "),
+        name,
+        Piece::Text(" "),
+        Piece::Text(family_help(family)),
+        Piece::Text("\n# TYPE "),
+        name,
+        Piece::Text(" "),
+        Piece::Text(family_kind(family)),
+        Piece::Text("\n"),
+    ]);
+}
+
+// A label between the quotes of a sample: a text of others, with its backslashes and quotes escaped.
+fn put_label(ink: &mut Ink, label: &str)
+    ensures { Adds (label_text (chars label.now)) ink.old ink.new }
+{
+    for c in label.chars() {
+        put_label_char(ink, c);
+    }
+}
+
+fn put_label_char(ink: &mut Ink, c: char)
+    ensures { Adds (label_char c) ink.old ink.new }
+{
+    let seen = plain_char(c);
+    if c == '\\' || c == '"' {
+        ink.put("\\");
+    }
+    ink.put_char(seen);
+}
+
+fn put_sample(ink: &mut Ink, family: Family, job: &JobSample<'_>)
+    ensures { Adds (sample_text family job.now) ink.old ink.new }
+{
+    if let Some(value) = job_value(family, job) {
+        ink.put_all(&[Piece::Text(family_name(family)), Piece::Text("{label=\"")]);
+        put_label(ink, job.label);
+        ink.put_all(&[Piece::Text("\"} "), Piece::Number(value), Piece::Text("\n")]);
+    }
+}
+
+fn put_family(ink: &mut Ink, family: Family, jobs: &[JobSample<'_>])
+    ensures { Adds (family_text jobs.now family) ink.old ink.new }
+{
+    put_head(ink, family);
+    put_samples(ink, family, jobs);
+}
+
+fn put_samples(ink: &mut Ink, family: Family, jobs: &[JobSample<'_>])
+    ensures { Adds (samples_text family jobs.now) ink.old ink.new }
+{
+    for job in jobs {
+        put_sample(ink, family, job);
+    }
+}
+
+fn put_families(ink: &mut Ink, families: &[Family], jobs: &[JobSample<'_>])
+    ensures { Adds (families_text jobs.now families.now) ink.old ink.new }
+{
+    for family in families {
+        put_family(ink, *family, jobs);
+    }
+}
+
+// A family with the one sample of the launcher; nothing, if there is none.
+fn put_single(ink: &mut Ink, family: Family, value: Option<u64>)
+    ensures { Adds (launcher_text family value) ink.old ink.new }
+{
+    if let Some(value) = value {
+        put_head(ink, family);
+        put_value(ink, family, value);
+    }
+}
+
+fn put_value(ink: &mut Ink, family: Family, value: u64)
+    ensures { Adds (bare_sample family value) ink.old ink.new }
+{
+    ink.put_all(&[
+        Piece::Text(family_name(family)),
+        Piece::Text(" "),
+        Piece::Number(value),
+        Piece::Text("\n"),
+    ]);
+}
+
+/// The text of all samples: of the launcher, then of each job by families.
+pub fn metrics(
+    alloc: Global,
+    launcher: &LauncherSample,
+    jobs: &[JobSample<'_>],
+) -> Result<String, AllocError>
+    ensures { IfOk result (λ text. string_bytes text ≡ metrics_text launcher.now jobs.now) }
+{
+    let mut ink = Ink::new(alloc);
+    put_launcher(&mut ink, launcher);
+    put_families(&mut ink, &OF_JOBS, jobs);
+    ink.into_text()
+}
+
+fn put_launcher(ink: &mut Ink, launcher: &LauncherSample)
+    ensures { Adds (launcher_samples launcher.now) ink.old ink.new }
+{
+    put_single(ink, Family::Up, flag_value(Some(launcher.is_up)));
+    put_single(
+        ink,
+        Family::JournalOpen,
+        flag_value(launcher.journal_is_open),
+    );
+    put_single(ink, Family::Told, Some(launcher.told));
+}
+
+fn flag_value(flag: Option<bool>) -> Option<u64>
+    ensures { result ≡ flag_value flag }
+{
+    match flag {
+        Some(true) => Some(1),
+        Some(false) => Some(0),
+        None => None,
+    }
+}

@@ -1,0 +1,125 @@
+//! What is told of a launcher by its own file on how it stands: the table of `status`, and why each job runs or not.
+
+use crate::clock::now;
+use crate::texts::standing::{failing_in, standing_text};
+use crate::texts::unknown::unknown_in;
+use exit_status::{BAD_CLOCK, BAD_FILE, DIFFERS};
+use history_model::Text;
+use launchctl_words::{ScopeCommand, Task};
+use run_times::telling::{put_made, tell_of};
+use status_page::{
+    Look, PACKAGES, Standing, has_colour, named_path, read_standing, samples_text, table_text,
+    tell_trouble, width_of,
+};
+use std::alloc::Global;
+use std::io;
+
+/// The status if a job fails.
+pub(crate) const FAILS: u8 = DIFFERS;
+
+/// The path of the file that is asked of, if one is. Of `status` and `metrics` it is that of the words, else that of `JOBD_STATUS_FILE`, else the package's;
+/// of `why` that of the words, else that of `JOBD_STATUS_FILE`, if neither a journal nor a moment of one is named.
+pub(crate) fn file_asked(host: &HostRuntime, of: &ScopeCommand) -> io::Result<Option<String>> {
+    let is_why = match of.task {
+        Task::Status | Task::Metrics => false,
+        Task::Why => true,
+        _ => return Ok(None),
+    };
+    if is_why && of.status_file.is_none() && (of.journal.is_some() || of.at.is_some()) {
+        return Ok(None);
+    }
+    match named_path(host, &of.status_file) {
+        Ok(None) if !is_why => Ok(Some(String::from_str(host.alloc(), PACKAGES)?)),
+        Ok(path) => Ok(path),
+        Err(error) => Err(io::Error::from(error)),
+    }
+}
+
+/// Writes what is asked of the file at the path. 65 if it can't be read, is not whole or is no status file, or if it has no job of a label that is
+/// named; 2 if failing jobs are asked for, and there is one; 71 if the clock can't be read.
+pub(crate) fn tell_by_file(
+    host: &HostRuntime,
+    alloc: Global,
+    of: &ScopeCommand,
+    path: &str,
+) -> io::Result<u8> {
+    let second = match of.from {
+        Some(second) => Some(second),
+        None => now(host),
+    };
+    let Some(second) = second else {
+        return Ok(BAD_CLOCK);
+    };
+    match read_standing(host, alloc, path) {
+        Ok(standing) => {
+            let told = tell(host, alloc, of, path, &standing, second);
+            drop(standing);
+            told
+        }
+        Err(trouble) => tell_trouble(host, path, trouble),
+    }
+}
+
+fn tell(
+    host: &HostRuntime,
+    alloc: Global,
+    of: &ScopeCommand,
+    path: &str,
+    standing: &Standing,
+    second: u64,
+) -> io::Result<u8> {
+    let labels = of.words.as_slice();
+    let status = match of.task {
+        Task::Why if of.is_failing => {
+            let (text, count) = failing_in(alloc, standing, labels, of.is_utc, second)?;
+            put_made(host, Ok(text))?;
+            if count > 0 { FAILS } else { 0 }
+        }
+        Task::Why => {
+            put_made(
+                host,
+                standing_text(alloc, standing, labels, of.is_utc, second),
+            )?;
+            0
+        }
+        Task::Metrics => {
+            put_made(host, samples_text(alloc, standing, labels, second))?;
+            0
+        }
+        _ => {
+            let look = Look {
+                second,
+                columns: width_of(host, alloc),
+                has_colour: has_colour(host),
+                is_utc: of.is_utc,
+            };
+            put_made(host, table_text(alloc, standing, labels, look))?;
+            0
+        }
+    };
+    match tell_unknown(host, alloc, path, standing, labels) {
+        Ok(unknown) => Ok(unknown.max(status)),
+        Err(error) => Err(error),
+    }
+}
+
+// Tells each of the labels that the file has no job of. It answers the exit status, which is 65 then.
+fn tell_unknown(
+    host: &HostRuntime,
+    alloc: Global,
+    path: &str,
+    standing: &Standing,
+    labels: &[Text],
+) -> io::Result<u8> {
+    let mut status = 0;
+    for label in labels {
+        let label = label.as_str();
+        if !standing.has(label) {
+            let told = unknown_in(alloc, standing, label)?;
+            tell_of(host, path, &told);
+            drop(told);
+            status = BAD_FILE;
+        }
+    }
+    Ok(status)
+}

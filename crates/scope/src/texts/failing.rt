@@ -1,0 +1,86 @@
+//! Which jobs of a journal fail.
+
+use crate::age::{AsOf, add_head, reading_as_of};
+use crate::journal::job::{KeptJob, Record};
+use crate::journal::reader::OpenJournal;
+use crate::journal::run::RunEnd;
+use crate::writer::Writer;
+use calendar_due::Zone;
+use history_model::{Ended, Text};
+use run_times::Page;
+use status_page::{Failing, LastEnd, add_failing, fault_of, is_asked};
+use std::alloc::{AllocError, Global};
+
+/// A line for each loaded job of the journal, or of those named, that fails, and how many there are.
+pub(crate) fn failing_text(
+    alloc: Global,
+    journal: &OpenJournal,
+    zone: &Zone,
+    labels: &[Text],
+    as_of: AsOf,
+) -> Result<(String, u64), AllocError> {
+    let last = journal.table.reading();
+    let mut page = Page::new(alloc, zone, reading_as_of(as_of, last));
+    add_head(&mut page, as_of, last);
+    let may_live = match as_of {
+        AsOf::Seen(_, Some(Writer::Nobody)) => false,
+        _ => true,
+    };
+    let mut count: u64 = 0;
+    for (label, job) in &journal.past.jobs {
+        let label = label.as_str();
+        if is_asked(labels, label) && add_if_failing(&mut page, journal, label, job, may_live) {
+            count = count.saturating_add(1);
+        }
+    }
+    match page.into_text() {
+        Ok(text) => Ok((text, count)),
+        Err(error) => Err(error),
+    }
+}
+
+fn add_if_failing(
+    page: &mut Page<'_>,
+    journal: &OpenJournal,
+    label: &str,
+    job: &KeptJob,
+    may_live: bool,
+) -> bool {
+    let Some(facts) = journal.facts(label) else {
+        return false;
+    };
+    let refused = job.record.refused_at();
+    let last = last_end_in(&job.record);
+    let Some(fault) = fault_of(may_live, &facts.reasons, refused.is_some(), last) else {
+        return false;
+    };
+    let ended = match &job.record.last {
+        Some(run) => Some(run.ended),
+        None => None,
+    };
+    add_failing(
+        page,
+        &Failing {
+            label,
+            fault,
+            refused,
+            reason: None,
+            ended,
+        },
+    );
+    true
+}
+
+// How its last run ended.
+fn last_end_in(record: &Record) -> Option<LastEnd> {
+    let run = record.last?;
+    let how = match run.end {
+        RunEnd::Code(code) => Ended::Code(code),
+        RunEnd::Signal(signal) => Ended::Signal(signal),
+        RunEnd::Awaited | RunEnd::Lives | RunEnd::Refused => return None,
+    };
+    Some(LastEnd {
+        how,
+        is_ordered: run.is_ordered_to_end,
+    })
+}

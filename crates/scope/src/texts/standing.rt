@@ -1,0 +1,242 @@
+//! Why each job stands as it does, by its launcher's file, and which of them fail.
+
+use crate::journal::job::Record;
+use crate::journal::run::{JobRun, RunEnd};
+use crate::texts::coming::calendar_next;
+use crate::texts::since::add_coming;
+use crate::texts::told::ToldJob;
+use crate::texts::why::{add_last_end, add_refused, add_stand, facts_then, throttle_shown};
+use history_model::{Ended, Entry, Reading, StandingChild};
+use run_times::Filling::{Number, Text, Time};
+use run_times::Page;
+use status_file::{DisabledBy, JobNote, JobStatus, RunEnd as EndOfRun, StatusLine};
+use status_page::{
+    Failing, Standing, add_failing, add_head, fault_of, gone_on, is_asked, is_crash, last_end_of,
+    reading_of, told_as_of, within_limits,
+};
+use std::alloc::{AllocError, Global};
+
+/// For each job of the file, or for those named: its state, a line for each thing that keeps it from a start or wants it, how it ended last, that its
+/// last start was refused, with the system's reason, and when it starts, told at a second. Moments are shown in the launcher's zone or in UTC.
+pub(crate) fn standing_text(
+    alloc: Global,
+    standing: &Standing,
+    labels: &[history_model::Text],
+    is_utc: bool,
+    second: u64,
+) -> Result<String, AllocError> {
+    let zone = standing.zone(alloc, is_utc)?;
+    let last = reading_of(standing);
+    let mut page = Page::new(alloc, &zone, told_as_of(standing, last, second));
+    add_head(&mut page, standing, second);
+    if standing.jobs().is_empty() {
+        page.ink.put("\nNo job is loaded.\n");
+    }
+    let clock = gone_on(last, second);
+    for line in standing.jobs() {
+        if let Ok(job) = line.job() {
+            if is_asked(labels, job.label) {
+                add_job(&mut page, standing, line, &job, clock);
+            }
+        }
+    }
+    let text = page.into_text();
+    drop(zone);
+    text
+}
+
+// What is told of a job. Of a launcher that is gone its causes are not: they were those of another moment.
+fn add_job(
+    page: &mut Page<'_>,
+    standing: &Standing,
+    line: &StatusLine,
+    job: &JobStatus<'_>,
+    clock: Reading,
+) {
+    let record = record_of(&job.note, job.facts.reasons.child);
+    if standing.life.may_live() {
+        match line.calendar(page.alloc) {
+            Ok(entries) => {
+                add_living(
+                    page,
+                    job,
+                    &record,
+                    entries.as_slice(),
+                    reading_of(standing),
+                    clock,
+                );
+                drop(entries);
+            }
+            Err(_) => page.ink.refuse(),
+        }
+    } else {
+        add_gone(page, job);
+        add_past(page, &job.note, &record);
+    }
+}
+
+fn add_living(
+    page: &mut Page<'_>,
+    job: &JobStatus<'_>,
+    record: &Record,
+    entries: &[Entry],
+    at: Reading,
+    clock: Reading,
+) {
+    let facts = &job.facts;
+    let told = ToldJob {
+        at: page.now,
+        facts: facts_then(facts, page.now.up),
+        asked: None,
+        job: record,
+        keys: job.keys,
+        calendar: calendar_next(entries, page.zone, page.now.wall),
+    };
+    let is_idle = add_stand(page, job.label, facts, &told);
+    add_past(page, &job.note, record);
+    add_disabled(page, job);
+    let last = within_limits(at);
+    let end = throttle_shown(&told, facts, last);
+    let zone = page.zone;
+    add_coming(page, facts, entries, zone, last, clock, is_idle, end);
+}
+
+// That a job's launcher is gone, and which process its run had.
+fn add_gone(page: &mut Page<'_>, job: &JobStatus<'_>) {
+    page.add(
+        "\n$ is run by no launcher: that of this file is gone.\n",
+        &[Text(job.label)],
+    );
+    if let Some(child) = job.facts.reasons.child {
+        let form =
+            "  Run $ lived (process $) when the file was written. Whether that process still does is not told here.\n";
+        page.add(form, &[Number(child.run), Number(u64::from(child.pid))]);
+    }
+}
+
+// How the last run ended, how many starts there were, and that the last one was refused, with what the system said.
+fn add_past(page: &mut Page<'_>, note: &JobNote<'_>, record: &Record) {
+    add_last_end(page, record, note.failures, "failed");
+    let Some(run) = &record.refused else {
+        return;
+    };
+    match &note.refused {
+        Some(start) if start.reason.is_some() => page.add(
+            "  Its last start (run $) was refused, at $: $.\n",
+            &[
+                Number(run.run),
+                Time(run.ended.wall),
+                Text(start.reason.unwrap_or("")),
+            ],
+        ),
+        _ => add_refused(page, run),
+    }
+}
+
+fn add_disabled(page: &mut Page<'_>, job: &JobStatus<'_>) {
+    let form = match job.disabled {
+        Some(DisabledBy::Override) => "  It is disabled: `jobctl enable $`.\n",
+        Some(DisabledBy::Definition) => {
+            "  It is disabled, since its definition has Disabled: `jobctl enable $` lets it be loaded.\n"
+        }
+        None => return,
+    };
+    page.add(form, &[Text(job.label)]);
+}
+
+// What a launcher heard of a job, as it is kept of a journal.
+fn record_of(note: &JobNote<'_>, child: Option<StandingChild>) -> Record {
+    let mut record = Record::new(0, note.since);
+    record.starts = note.starts;
+    record.ordered = note.started;
+    record.term = note.term;
+    record.kill = note.kill;
+    if let Some(child) = child {
+        record.current = Some(run_since(child.run, note.since, RunEnd::Lives));
+    }
+    if let Some(end) = note.last_end {
+        record.last = Some(run_ended(note, end));
+    }
+    if let Some(start) = &note.refused {
+        if start.run == note.run {
+            record.refused = Some(run_since(start.run, start.at, RunEnd::Refused));
+        }
+    }
+    record
+}
+
+fn run_since(run: u64, at: Reading, end: RunEnd) -> JobRun {
+    let mut told = JobRun::ordered(0, run, None, at);
+    told.end = end;
+    told
+}
+
+fn run_ended(note: &JobNote<'_>, end: EndOfRun) -> JobRun {
+    let how = match end.how {
+        Ended::Code(code) => RunEnd::Code(code),
+        Ended::Signal(signal) => RunEnd::Signal(signal),
+    };
+    let mut told = run_since(end.run, end.began, how);
+    told.ended = end.ended;
+    told.is_crash = match last_end_of(note) {
+        Some(last) => is_crash(last.how, last.is_ordered),
+        None => false,
+    };
+    told
+}
+
+/// A line for each job of the file, or of those named, that fails, and how many there are.
+pub(crate) fn failing_in(
+    alloc: Global,
+    standing: &Standing,
+    labels: &[history_model::Text],
+    is_utc: bool,
+    second: u64,
+) -> Result<(String, u64), AllocError> {
+    let zone = standing.zone(alloc, is_utc)?;
+    let last = reading_of(standing);
+    let mut page = Page::new(alloc, &zone, told_as_of(standing, last, second));
+    add_head(&mut page, standing, second);
+    let mut count: u64 = 0;
+    for line in standing.jobs() {
+        if let Ok(job) = line.job() {
+            if is_asked(labels, job.label) && add_if_failing(&mut page, standing, &job) {
+                count = count.saturating_add(1);
+            }
+        }
+    }
+    let text = page.into_text();
+    drop(zone);
+    match text {
+        Ok(text) => Ok((text, count)),
+        Err(error) => Err(error),
+    }
+}
+
+fn add_if_failing(page: &mut Page<'_>, standing: &Standing, job: &JobStatus<'_>) -> bool {
+    let note = &job.note;
+    let (refused, reason) = match &note.refused {
+        Some(start) if start.run == note.run => (Some(start.at), start.reason),
+        _ => (None, None),
+    };
+    let may_live = standing.life.may_live();
+    let reasons = &job.facts.reasons;
+    let Some(fault) = fault_of(may_live, reasons, refused.is_some(), last_end_of(note)) else {
+        return false;
+    };
+    let ended = match note.last_end {
+        Some(end) => Some(end.ended),
+        None => None,
+    };
+    add_failing(
+        page,
+        &Failing {
+            label: job.label,
+            fault,
+            refused,
+            reason,
+            ended,
+        },
+    );
+    true
+}

@@ -1,0 +1,4 @@
+pub mod Clocks
+pub mod Failing
+pub mod Rows
+pub mod Samples

@@ -1,0 +1,71 @@
+-- What the table of `status` says of a job.
+use Rattle.std.specs.Option.{option_map}
+use Rattle.std.specs.Prelude.{◌≡◌, ◌⊎◌, ℕ, Bool, true, false, List, [], ◌∷◌, ◌++◌, codes, Option, Some, None, is_some}
+use Rattle.history_model.specs.declared.Ended.{Ended}
+use Rattle.history_model.specs.declared.Entry.{Entry}
+use Rattle.history_model.specs.declared.Reading.{Reading}
+use Rattle.history_model.specs.declared.reasons.Reasons.{Reasons}
+use Rattle.history_model.specs.Calendar.{Zone}
+use Rattle.history_model.specs.Items.{History}
+use Rattle.history_model.specs.NextRun.{looked_ahead}
+use Rattle.history_model.specs.Texts.{state_text}
+use Rattle.run_times.specs.declared.ink.Ink.{Ink}
+use Rattle.run_times.specs.Told.{IsTold}
+use Rattle.run_times.specs.Written.{Adds}
+use Rattle.status_file.specs.declared.facts.JobFacts.{JobFacts}
+use Rattle.status_file.specs.declared.status.RunEnd.{RunEnd}
+use Rattle.status_file.specs.States.{state_by_reasons}
+use Rattle.status_page.specs.declared.clocks.StartWhen.{StartWhen}
+use Rattle.status_page.specs.declared.clocks.StartWhen.TheVariants as starts
+use Rattle.status_page.specs.declared.clocks.TheConstants.{FARTHEST}
+use Rattle.status_page.specs.declared.rows.Next.{Next}
+use Rattle.status_page.specs.declared.rows.Next.TheVariants.{Nothing, Clock, Event}
+use Rattle.status_page.specs.declared.rows.Row.{Row}
+use Rattle.status_page.specs.declared.rows.ShownState.{ShownState}
+use Rattle.status_page.specs.declared.rows.ShownState.TheVariants.{Is, Unknown}
+use Rattle.status_page.specs.Clocks.{StartsSo}
+
+-- the state of a job by its facts; of a launcher that is gone none is known
+abbrev pub state_shown : Bool → Reasons → ShownState
+state_shown true r = Is (state_by_reasons r)
+state_shown false r = Unknown
+
+-- the process of its run; of a launcher that is gone there is none
+abbrev pub process_shown : Bool → Reasons → Option ℕ
+process_shown true r = option_map (λ child. child.pid) r.child
+process_shown false r = None
+
+-- how its last run ended
+abbrev pub last_shown : Option RunEnd → Option Ended
+last_shown end = option_map (λ it. it.how) end
+
+-- when the clocks alone start it, for each past of which these are the facts
+abbrev pub StartsBy : Zone → JobFacts → List Entry → Reading → ℕ → StartWhen → Type 0
+StartsBy zone f entries at now when =
+    (past : History) → IsTold f.reasons f.spawns_from entries at past →
+    StartsSo zone past (looked_ahead at FARTHEST) at now when
+
+-- what comes next of it: nothing, if its launcher is gone or a run lives; a start by the clocks; or an
+-- event, if the clocks never start it
+abbrev pub TellsNext : Bool → Zone → JobFacts → List Entry → Reading → ℕ → Next → Type 0
+TellsNext lives zone f entries at now Nothing = (lives ≡ false) ⊎ (is_some f.reasons.child ≡ true)
+TellsNext lives zone f entries at now (Clock when) =
+    (lives ≡ true) × (is_some f.reasons.child ≡ false) × StartsBy zone f entries at now when
+TellsNext lives zone f entries at now (Event words) =
+    (lives ≡ true) × (is_some f.reasons.child ≡ false) × StartsBy zone f entries at now starts.Never
+
+-- the word of a state
+abbrev pub state_word : ShownState → List ℕ
+state_word (Is state) = state_text state
+state_word Unknown = codes "unknown"
+
+-- a line for each of the rows, in order: something of its label, the word of its state, and more
+abbrev pub AreRows : List Row → List ℕ → Type 0
+AreRows [] text = text ≡ []
+AreRows (row ∷ rows) text =
+    (front : List ℕ) × (more : List ℕ) × (others : List ℕ) × AreRows rows others
+    × (text ≡ front ++ (state_word row.state ++ (more ++ 10 ∷ others)))
+
+-- so behind what was written before
+abbrev pub TellsRows : List Row → Ink → Ink → Type 0
+TellsRows rows old new = (text : List ℕ) × AreRows rows text × Adds text old new

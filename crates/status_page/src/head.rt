@@ -1,0 +1,41 @@
+//! Who the launcher of a status file is, whether it lives, and how old the file is.
+
+use crate::life::Life;
+use crate::standing::Standing;
+use history_model::SECOND;
+use run_times::Filling::{Moment, Number, Text};
+use run_times::Page;
+use status_file::{JournalStatus, LauncherStatus};
+
+/// Adds what is told of the launcher, at a second: as of when the file is, how old that is, whether its process lives, and what it could not write.
+pub fn add_head(page: &mut Page<'_>, standing: &Standing, second: u64) {
+    let Some(launcher) = standing.launcher() else {
+        return;
+    };
+    page.add("As of $, ", &[Moment(launcher.at.wall)]);
+    if second < launcher.at.wall {
+        page.ink.put("which is behind what the clock shows now. ");
+    } else {
+        let age = (second - launcher.at.wall).saturating_mul(SECOND);
+        page.ink.put_span(age, false);
+        page.ink.put(" ago. ");
+    }
+    let form = match standing.life {
+        Life::Lives => "The launcher lives (process $): spans are up to now.\n",
+        Life::Gone =>
+            "The launcher (process $) is gone: it ended or was killed, and no job runs by its word.\n",
+        Life::Unknown =>
+            "Whether the launcher (process $) lives is not known: /proc does not show it.\n",
+    };
+    page.add(form, &[Number(u64::from(launcher.pid))]);
+    add_faults(page, &launcher);
+}
+
+fn add_faults(page: &mut Page<'_>, launcher: &LauncherStatus<'_>) {
+    if let JournalStatus::Closed(reason) = launcher.journal {
+        page.add("Its journal is closed: $.\n", &[Text(reason)]);
+    }
+    if let Some(refused) = launcher.store {
+        page.add("Its store refused something: $.\n", &[Text(refused)]);
+    }
+}

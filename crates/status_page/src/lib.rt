@@ -1,0 +1,26 @@
+//! How the jobs of a launcher stand by its status file (`status_file`): the file read whole, whether its launcher lives, a table with a line a job, and
+//! which jobs are told as failing. What follows from the facts of a job by the clocks alone stands here too, for the texts of `jobscope why`.
+#![tactic(auto)]
+
+mod cells;
+mod clocks;
+mod failing;
+mod head;
+mod life;
+mod rows;
+mod samples;
+mod standing;
+mod table;
+mod width;
+
+pub use clocks::{
+    FARTHEST, StartWhen, can_start_again, gone_on, is_wanted, start_when, within_limits,
+};
+pub use failing::{Failing, Fault, LastEnd, add_failing, fault_of, is_crash, last_end_of};
+pub use head::add_head;
+pub use life::Life;
+pub use rows::{Next, Row, ShownState, row_of};
+pub use samples::{journal_flag, sample_of, samples_text};
+pub use standing::{PACKAGES, Standing, Trouble, named_path, read_standing, tell_trouble};
+pub use table::{Look, is_asked, reading_of, table_text, told_as_of};
+pub use width::{has_colour, width_of};

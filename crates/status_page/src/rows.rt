@@ -1,0 +1,154 @@
+//! What the table says of each job, as plain data.
+
+ghost use Rattle.std.specs.Prelude.{◌≡◌, ◌≤◌};
+ghost use Rattle.history_model.specs.declared.TheConstants.{MAX_UP, MAX_WALL};
+ghost use Rattle.calendar_due.specs.ZoneRules.{minute_at};
+ghost use Rattle.status_page.specs.Rows.{last_shown, process_shown, state_shown, state_word, TellsNext};
+
+use crate::clocks::{StartWhen, can_start_again, start_when};
+use calendar_due::Zone;
+use history_model::{Ended, Entry, JobState, Reading, Reasons};
+use status_file::{JobKeys, JobStatus, RunEnd, state_name, state_of};
+
+/// How a job stands.
+#[derive(Clone, Copy)]
+pub enum ShownState {
+    Is(JobState),
+    /// Its launcher is gone.
+    Unknown,
+}
+
+/// What comes next of a job.
+#[derive(Clone, Copy)]
+pub enum Next {
+    /// It has a run, or its launcher is gone.
+    Nothing,
+    /// It starts by the clocks alone.
+    Clock(StartWhen),
+    /// The clocks never start it: it waits for this.
+    Event(&'static str),
+}
+
+/// What a line says of a job.
+#[derive(Clone, Copy)]
+pub struct Row<'a> {
+    pub label: &'a str,
+    pub state: ShownState,
+    pub process: Option<u32>,
+    /// Since which second it stands so.
+    pub since: u64,
+    pub last: Option<Ended>,
+    pub starts: u64,
+    pub failures: u64,
+    pub next: Next,
+}
+
+/// The row of a job of a launcher that may live or is gone, told at a second. `at` is the launcher's reading.
+pub fn row_of<'a>(
+    job: &JobStatus<'a>,
+    entries: &[Entry],
+    zone: &Zone,
+    may_live: bool,
+    at: Reading,
+    second: u64,
+) -> Row<'a>
+    requires up { at.up ≤ MAX_UP }
+    requires wall { at.wall ≤ MAX_WALL }
+    ensures label { result.label ≡ job.now.label }
+    ensures state { result.state ≡ state_shown may_live job.now.facts.reasons }
+    ensures process { result.process ≡ process_shown may_live job.now.facts.reasons }
+    ensures since { result.since ≡ job.now.note.since.wall }
+    ensures last { result.last ≡ last_shown job.now.note.last_end }
+    ensures starts { result.starts ≡ job.now.note.starts }
+    ensures failures { result.failures ≡ job.now.note.failures }
+    ensures next { TellsNext may_live (minute_at zone.now) job.now.facts entries.now at second result.next }
+{
+    let reasons = &job.facts.reasons;
+    Row {
+        label: job.label,
+        state: state_of_row(may_live, reasons),
+        process: process_of(may_live, reasons),
+        since: job.note.since.wall,
+        last: last_of(job.note.last_end),
+        starts: job.note.starts,
+        failures: job.note.failures,
+        next: next_of(job, entries, zone, may_live, at, second),
+    }
+}
+
+fn state_of_row(may_live: bool, reasons: &Reasons) -> ShownState
+    ensures { result ≡ state_shown may_live reasons.now }
+{
+    if may_live {
+        ShownState::Is(state_of(reasons))
+    } else {
+        ShownState::Unknown
+    }
+}
+
+fn process_of(may_live: bool, reasons: &Reasons) -> Option<u32>
+    ensures { result ≡ process_shown may_live reasons.now }
+{
+    match (may_live, reasons.child) {
+        (true, Some(child)) => Some(child.pid),
+        _ => None,
+    }
+}
+
+fn last_of(end: Option<RunEnd>) -> Option<Ended>
+    ensures { result ≡ last_shown end }
+{
+    match end {
+        Some(end) => Some(end.how),
+        None => None,
+    }
+}
+
+/// The word of a state.
+pub(crate) fn word_of(state: ShownState) -> &'static str
+    ensures { result.now ≡ state_word state }
+{
+    match state {
+        ShownState::Is(state) => state_name(state),
+        ShownState::Unknown => "unknown",
+    }
+}
+
+fn next_of(
+    job: &JobStatus<'_>,
+    entries: &[Entry],
+    zone: &Zone,
+    may_live: bool,
+    at: Reading,
+    second: u64,
+) -> Next
+    requires up { at.up ≤ MAX_UP }
+    requires wall { at.wall ≤ MAX_WALL }
+    ensures { TellsNext may_live (minute_at zone.now) job.now.facts entries.now at second result }
+{
+    let reasons = &job.facts.reasons;
+    if !may_live || reasons.child.is_some() {
+        return Next::Nothing;
+    }
+    match start_when(reasons, job.facts.spawns_from, entries, zone, at, second) {
+        StartWhen::Never => Next::Event(event_for(reasons, &job.keys)),
+        when => Next::Clock(when),
+    }
+}
+
+// What it waits for, in few letters: an event that ends what keeps it from a start, or one that makes it wanted.
+fn event_for(reasons: &Reasons, keys: &JobKeys<'_>) -> &'static str {
+    if !can_start_again(reasons) {
+        "a load"
+    } else if reasons.awaited.is_some() {
+        "an answer"
+    } else if keys.path_state.count > 0 || keys.watch_paths.count > 0 {
+        "a path"
+    } else if keys.queue_directories.count > 0 {
+        "a file"
+    } else if keys.has_sockets {
+        "a client"
+    } else {
+        "a request"
+    }
+}

@@ -1,0 +1,139 @@
+//! What a monitor is told of a launcher and its jobs: the facts of the rows of `status`, as samples.
+
+ghost use Rattle.std.specs.Prelude.{◌≡◌, ◌≤◌, ◌-◌, is_some};
+ghost use Rattle.history_model.specs.declared.TheConstants.{MAX_UP, MAX_WALL};
+ghost use Rattle.status_page.specs.Samples.{end_second, journal_flag, next_second};
+
+use crate::clocks::StartWhen;
+use crate::rows::{Next, Row};
+use crate::standing::Standing;
+use crate::table::{reading_of, row_in};
+use calendar_due::Zone;
+use history_model::{Reading, Text};
+use job_metrics::{JobSample, LauncherSample, metrics};
+use status_file::{JobNote, JournalStatus, RunEnd, StatusLine};
+use std::alloc::{AllocError, Global};
+
+/// The samples of a status file as of a second: of the named jobs, or of all if none is named.
+pub fn samples_text(
+    alloc: Global,
+    standing: &Standing,
+    labels: &[Text],
+    second: u64,
+) -> Result<String, AllocError> {
+    let zone = standing.zone(alloc, false)?;
+    let samples = samples_of(alloc, standing, labels, &zone, second);
+    drop(zone);
+    let samples = samples?;
+    let text = match standing.launcher() {
+        Some(launcher) => {
+            let sample = LauncherSample {
+                is_up: standing.life.may_live(),
+                journal_is_open: journal_flag(launcher.journal),
+                told: launcher.at.wall,
+            };
+            metrics(alloc, &sample, samples.as_slice())
+        }
+        None => Ok(String::new(alloc)),
+    };
+    drop(samples);
+    text
+}
+
+/// Whether a journal is open, if one is written.
+pub fn journal_flag(journal: JournalStatus<'_>) -> Option<bool>
+    ensures { result ≡ journal_flag journal }
+{
+    match journal {
+        JournalStatus::None => None,
+        JournalStatus::Open => Some(true),
+        JournalStatus::Closed(_) => Some(false),
+    }
+}
+
+/// The sample of a job, by its row and what was heard of its runs.
+pub fn sample_of<'a>(row: &Row<'a>, note: &JobNote<'_>) -> JobSample<'a>
+    ensures label { result.label ≡ row.now.label }
+    ensures running { result.is_running ≡ is_some row.now.process }
+    ensures starts { result.starts ≡ row.now.starts }
+    ensures failures { result.failures ≡ row.now.failures - note.now.refusals }
+    ensures refusals { result.refusals ≡ note.now.refusals }
+    ensures last_end { result.last_end ≡ end_second note.now.last_end }
+    ensures next { result.next_start ≡ next_second row.now.next }
+{
+    JobSample {
+        label: row.label,
+        is_running: row.process.is_some(),
+        starts: row.starts,
+        failures: row.failures.saturating_sub(note.refusals),
+        refusals: note.refusals,
+        last_end: end_second(note.last_end),
+        next_start: next_second(row.next),
+    }
+}
+
+fn end_second(end: Option<RunEnd>) -> Option<u64>
+    ensures { result ≡ end_second end }
+{
+    match end {
+        Some(end) => Some(end.ended.wall),
+        None => None,
+    }
+}
+
+// The second of a start by the clocks alone, also of one that has been due since.
+fn next_second(next: Next) -> Option<u64>
+    ensures { result ≡ next_second next }
+{
+    match next {
+        Next::Clock(StartWhen::Since(second)) => Some(second),
+        Next::Clock(StartWhen::At(second)) => Some(second),
+        _ => None,
+    }
+}
+
+fn samples_of<'a>(
+    alloc: Global,
+    standing: &'a Standing,
+    labels: &[Text],
+    zone: &Zone,
+    second: u64,
+) -> Result<Vec<JobSample<'a>>, AllocError> {
+    let at = reading_of(standing);
+    let mut samples = Vec::new(alloc);
+    for line in standing.jobs() {
+        let sample = sample_in(
+            alloc,
+            line,
+            labels,
+            zone,
+            standing.life.may_live(),
+            at,
+            second,
+        )?;
+        if let Some(sample) = sample {
+            samples.push(sample)?;
+        }
+    }
+    Ok(samples)
+}
+
+// The sample of a line, if its job is asked for.
+fn sample_in<'a>(
+    alloc: Global,
+    line: &'a StatusLine,
+    labels: &[Text],
+    zone: &Zone,
+    may_live: bool,
+    at: Reading,
+    second: u64,
+) -> Result<Option<JobSample<'a>>, AllocError>
+    requires up { at.up ≤ MAX_UP }
+    requires wall { at.wall ≤ MAX_WALL }
+{
+    let row = row_in(alloc, line, labels, zone, may_live, at, second)?;
+    Ok(match (row, line.job()) {
+        (Some(row), Ok(job)) => Some(sample_of(&row, &job.note)),
+        _ => None,
+    })
+}

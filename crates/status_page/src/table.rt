@@ -1,0 +1,347 @@
+//! The table of `status`: a head, and a line for each job.
+
+ghost use Rattle.std.specs.Prelude.{◌≤◌, ◌++◌, ◌∷◌, ℕ, List, []};
+ghost use Rattle.history_model.specs.declared.TheConstants.{MAX_UP, MAX_WALL};
+ghost use Rattle.run_times.specs.Written.{Adds};
+ghost use Rattle.status_page.specs.Rows.{state_word, TellsRows};
+
+use crate::cells::cut_in_the_middle;
+use crate::clocks::{StartWhen, gone_on, within_limits};
+use crate::head::add_head;
+use crate::rows::{Next, Row, ShownState, row_of, word_of};
+use crate::standing::Standing;
+use calendar_due::Zone;
+use history_model::{Ended, JobState, MAX_WALL, Reading, Text};
+use run_times::picture::columns_of;
+use run_times::{Ink, Page, time_text};
+use status_file::StatusLine;
+use std::alloc::{AllocError, Global};
+
+/// The columns behind the label, which have this width each: state, process, since when, last end, starts, failures, and what comes next.
+const WIDTHS: [usize; 7] = [8, 7, 11, 9, 6, 6, 11];
+
+const HEAD: &str = " STATE    PROCESS SINCE       LAST END  STARTS FAILED NEXT\n";
+
+/// What ends a colour.
+const PLAIN: &str = "\x1b[0m";
+
+/// A label has so many columns at least.
+const NARROWEST: usize = 12;
+
+/// How a table is shown: as of which second, in how many columns, whether in colour, and whether its moments are those of UTC.
+#[derive(Clone, Copy)]
+pub struct Look {
+    pub second: u64,
+    pub columns: u16,
+    pub has_colour: bool,
+    pub is_utc: bool,
+}
+
+/// The table as of a second: what is told of the launcher, a head, and a line for each of the named jobs that the file has, or for each of its
+/// jobs, in the file's order.
+pub fn table_text(
+    alloc: Global,
+    standing: &Standing,
+    labels: &[Text],
+    look: Look,
+) -> Result<String, AllocError> {
+    let zone = standing.zone(alloc, look.is_utc)?;
+    let at = reading_of(standing);
+    let rows = rows_of(alloc, standing, labels, &zone, at, look.second);
+    let text = match rows {
+        Ok(rows) => {
+            let mut page = Page::new(alloc, &zone, told_as_of(standing, at, look.second));
+            add_head(&mut page, standing, look.second);
+            add_rows(&mut page, rows.as_slice(), look);
+            drop(rows);
+            page.into_text()
+        }
+        Err(error) => Err(error),
+    };
+    drop(zone);
+    text
+}
+
+/// The launcher's reading, no later than one may be.
+pub fn reading_of(standing: &Standing) -> Reading
+    ensures up { result.up ≤ MAX_UP }
+    ensures wall { result.wall ≤ MAX_WALL }
+{
+    match standing.launcher() {
+        Some(launcher) => within_limits(launcher.at),
+        None => Reading { up: 0, wall: 0 },
+    }
+}
+
+/// The reading as of which the file is told at a second: its clocks went on while its launcher wrote nothing, and stood still with one that is gone.
+pub fn told_as_of(standing: &Standing, at: Reading, second: u64) -> Reading
+    requires up { at.up ≤ MAX_UP }
+    requires wall { at.wall ≤ MAX_WALL }
+{
+    if standing.life.may_live() {
+        gone_on(at, second)
+    } else {
+        at
+    }
+}
+
+// The rows of the jobs that are asked for, in the order of the file.
+fn rows_of<'a>(
+    alloc: Global,
+    standing: &'a Standing,
+    labels: &[Text],
+    zone: &Zone,
+    at: Reading,
+    second: u64,
+) -> Result<Vec<Row<'a>>, AllocError>
+    requires up { at.up ≤ MAX_UP }
+    requires wall { at.wall ≤ MAX_WALL }
+{
+    let may_live = standing.life.may_live();
+    let mut rows = Vec::new(alloc);
+    for line in standing.jobs() {
+        if let Some(row) = row_in(alloc, line, labels, zone, may_live, at, second)? {
+            rows.push(row)?;
+        }
+    }
+    Ok(rows)
+}
+
+/// The row of a line, if its job is asked for.
+pub(crate) fn row_in<'a>(
+    alloc: Global,
+    line: &'a StatusLine,
+    labels: &[Text],
+    zone: &Zone,
+    may_live: bool,
+    at: Reading,
+    second: u64,
+) -> Result<Option<Row<'a>>, AllocError>
+    requires up { at.up ≤ MAX_UP }
+    requires wall { at.wall ≤ MAX_WALL }
+{
+    let Ok(job) = line.job() else {
+        return Ok(None);
+    };
+    if !is_asked(labels, job.label) {
+        return Ok(None);
+    }
+    let Ok(entries) = line.calendar(alloc) else {
+        return Err(AllocError);
+    };
+    let row = row_of(&job, entries.as_slice(), zone, may_live, at, second);
+    drop(entries);
+    Ok(Some(row))
+}
+
+/// Whether the label is one of those that are named, or none is.
+pub fn is_asked(labels: &[Text], label: &str) -> bool {
+    let mut is_named = labels.is_empty();
+    for named in labels {
+        if named.as_str() == label {
+            is_named = true;
+        }
+    }
+    is_named
+}
+
+// How many columns the labels have: what is left of the width, and no more than the longest has.
+fn label_columns(rows: &[Row<'_>], columns: u16) -> usize {
+    let mut wide: usize = "LABEL".len();
+    for row in rows {
+        wide = columns_of(row.label).max(wide);
+    }
+    let mut others: usize = 0;
+    for width in WIDTHS {
+        others = others.saturating_add(width).saturating_add(1);
+    }
+    wide.min(usize::from(columns).saturating_sub(others).max(NARROWEST))
+}
+
+/// What the moments of a table are shown by: the zone, and the present moment.
+#[derive(Clone, Copy)]
+struct Around<'a> {
+    alloc: Global,
+    zone: &'a Zone,
+    now: &'a str,
+    has_colour: bool,
+}
+
+fn add_rows(page: &mut Page<'_>, rows: &[Row<'_>], look: Look) {
+    let columns = label_columns(rows, look.columns);
+    put_cell(&mut page.ink, "LABEL", columns);
+    page.ink.put(HEAD);
+    match time_text(page.alloc, page.zone, page.now.wall.min(MAX_WALL)) {
+        Ok(now) => {
+            let around = Around {
+                alloc: page.alloc,
+                zone: page.zone,
+                now: now.as_str(),
+                has_colour: look.has_colour,
+            };
+            add_lines(&mut page.ink, rows, columns, around);
+            drop(now);
+        }
+        Err(_) => page.ink.refuse(),
+    }
+}
+
+// A line for each of the rows, in order.
+fn add_lines(ink: &mut Ink, rows: &[Row<'_>], columns: usize, around: Around<'_>)
+    ensures { TellsRows rows.now ink.old ink.new }
+{
+    for row in rows {
+        add_line(ink, row, columns, around);
+    }
+}
+
+fn add_line(ink: &mut Ink, row: &Row<'_>, columns: usize, around: Around<'_>)
+    ensures { (front : List ℕ) × (more : List ℕ) × Adds (front ++ (state_word row.now.state ++ (more ++ 10 ∷ []))) ink.old ink.new }
+{
+    ink.put_made(front_text(row, columns, around));
+    ink.put(word_of(row.state));
+    ink.put_made(end_text(row, around));
+    ink.put("\n");
+}
+
+// The label, and the colour of the state.
+fn front_text(row: &Row<'_>, columns: usize, around: Around<'_>) -> Result<String, AllocError> {
+    let mut ink = Ink::new(around.alloc);
+    let (front, between, end) = cut_in_the_middle(row.label, columns);
+    ink.put_plain(front);
+    ink.put(between);
+    ink.put_plain(end);
+    let used = columns_of(front)
+        .saturating_add(columns_of(between))
+        .saturating_add(columns_of(end));
+    put_spaces(&mut ink, columns.saturating_sub(used).saturating_add(1));
+    ink.put(if around.has_colour {
+        colour_of(row)
+    } else {
+        ""
+    });
+    ink.into_text()
+}
+
+// What stands behind the state: the process, since when it stands so, the last end, the starts, the failures, and what comes next.
+fn end_text(row: &Row<'_>, around: Around<'_>) -> Result<String, AllocError> {
+    let mut ink = Ink::new(around.alloc);
+    ink.put(if around.has_colour { PLAIN } else { "" });
+    let used = word_of(row.state).len();
+    put_spaces(&mut ink, WIDTHS[0].saturating_sub(used));
+    let process = match row.process {
+        Some(process) => Some(u64::from(process)),
+        None => None,
+    };
+    put_count(&mut ink, process, WIDTHS[1]);
+    put_moment(&mut ink, around, row.since, WIDTHS[2]);
+    put_last(&mut ink, row.last, WIDTHS[3]);
+    put_count(&mut ink, Some(row.starts), WIDTHS[4]);
+    put_count(&mut ink, Some(row.failures), WIDTHS[5]);
+    put_next(&mut ink, around, row.next);
+    ink.into_text()
+}
+
+fn put_next(ink: &mut Ink, around: Around<'_>, next: Next) {
+    let what = match next {
+        Next::Clock(StartWhen::At(second)) => {
+            put_moment(ink, around, second, 0);
+            return;
+        }
+        Next::Clock(StartWhen::Since(_)) => "due",
+        Next::Event(what) => what,
+        Next::Nothing | Next::Clock(StartWhen::Never) => "-",
+    };
+    ink.put(" ");
+    ink.put(what);
+}
+
+fn put_count(ink: &mut Ink, count: Option<u64>, width: usize) {
+    ink.put(" ");
+    match count {
+        Some(count) => {
+            ink.put_number(count);
+            put_spaces(ink, width.saturating_sub(digits_of(count)));
+        }
+        None => put_cell(ink, "-", width),
+    }
+}
+
+fn put_last(ink: &mut Ink, last: Option<Ended>, width: usize) {
+    let (word, number) = match last {
+        Some(Ended::Code(code)) => (" code ", u64::from(code)),
+        Some(Ended::Signal(signal)) => (" signal ", u64::from(signal)),
+        None => {
+            put_count(ink, None, width);
+            return;
+        }
+    };
+    ink.put(word);
+    ink.put_number(number);
+    let used = word
+        .len()
+        .saturating_sub(1)
+        .saturating_add(digits_of(number));
+    put_spaces(ink, width.saturating_sub(used));
+}
+
+// The time of the day; of another day the month, the day, the hour and the minute. Both moments are as `time_text` has them.
+fn put_moment(ink: &mut Ink, around: Around<'_>, second: u64, width: usize) {
+    match time_text(around.alloc, around.zone, second.min(MAX_WALL)) {
+        Ok(text) => {
+            let moment = text.as_str();
+            let is_today = around.now.get(..10) == moment.get(..10);
+            let (day, until) = if is_today {
+                ("", 23)
+            } else {
+                (moment.get(5..10).unwrap_or(""), 20)
+            };
+            ink.put(" ");
+            ink.put(day);
+            ink.put(if is_today { "" } else { " " });
+            let used = if is_today { 0 } else { 6 };
+            put_cell(
+                ink,
+                moment.get(15..until).unwrap_or(""),
+                width.saturating_sub(used),
+            );
+            drop(text);
+        }
+        Err(_) => ink.refuse(),
+    }
+}
+
+// The text, and spaces up to the width.
+fn put_cell(ink: &mut Ink, text: &str, width: usize) {
+    ink.put(text);
+    put_spaces(ink, width.saturating_sub(columns_of(text)));
+}
+
+fn put_spaces(ink: &mut Ink, count: usize) {
+    for _ in 0..count {
+        ink.put(" ");
+    }
+}
+
+fn digits_of(number: u64) -> usize {
+    let mut digits: usize = 1;
+    let mut left = number / 10;
+    for _ in 0..20 {
+        if left > 0 {
+            digits = digits.saturating_add(1);
+            left = left / 10;
+        }
+    }
+    digits
+}
+
+// Green of what runs, yellow of what is on its way, red of what failed last; nothing of the others.
+fn colour_of(row: &Row<'_>) -> &'static str {
+    match (row.state, row.last) {
+        (ShownState::Is(JobState::Running), _) => "\x1b[32m",
+        (ShownState::Is(JobState::Idle), Some(Ended::Code(0)) | None) => "",
+        (ShownState::Is(JobState::Idle), Some(_)) => "\x1b[31m",
+        (ShownState::Is(_), _) => "\x1b[33m",
+        (ShownState::Unknown, _) => "\x1b[31m",
+    }
+}
