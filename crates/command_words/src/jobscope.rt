@@ -119,5 +119,5 @@ pub fn read_scope_words(alloc: Global, words: &[String]) -> Result<Meaning, Word
 
 /// The text for words that are no command of jobscope, or that ask for help.
 pub fn explain_scope(alloc: Global, words: &[String]) -> Result<Explanation, AllocError> {
-    explain_by(alloc, jobscope_words(alloc), words)
+    explain_by(alloc, "jobscope", jobscope_words(alloc), words)
 }
