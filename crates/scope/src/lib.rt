@@ -14,6 +14,7 @@ mod page;
 mod program;
 mod report;
 mod texts;
+mod window;
 mod writer;
 mod zone;
 

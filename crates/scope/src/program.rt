@@ -55,6 +55,7 @@ fn run<W: Wait>(
     command: &ScopeCommand,
 ) -> io::Result<u8> {
     match command.task {
+        Task::Next if command.words.as_slice().is_empty() => { report(host, waits, alloc, command) }
         Task::Check | Task::Next => by_zone(host, alloc, command),
         Task::Cron => by_lines(host, alloc, command),
         Task::Plist => of_lists(host, alloc, command),
