@@ -1,7 +1,8 @@
 -- From what each of clap's builders does to the words that a command has.
-use Rattle.std.proofs.Common.{◌≡◌, ◌∙◌, Bool, ◌&&◌, ◌||◌, refl, ap, ap₂, IfOk, Result, Ok, Err, true, false}
+use Rattle.std.proofs.Common.{◌≡◌, ◌∙◌, Bool, not, is_some, ◌&&◌, ◌||◌, refl, ap, ap₂, IfOk, Result, Ok, Err, true, false}
 use Rattle.clap.specs.Simple.{app_of_fields}
 use Rattle.clap.specs.Words.{App, AddsArg, AddsSubcommand, Rule, rule_of, with_rule, with_subcommand}
+use Rattle.clap.specs.Walk.{is_empty, is_simple_arg}
 use Rattle.clap.specs.declared.Arg.{Arg}
 use Rattle.clap.specs.declared.Command.{Command, out-Command}
 use Rattle.command_words.specs.Meaning.{needs_subcommand}
@@ -30,8 +31,14 @@ asks_for_one old new a is words = record { app = ap app_of_fields is ∙ ap need
 
 -- an argument whose value may begin with a hyphen is none of the simple ones
 pub hyphened : (x made : Arg) (r : Rule) → made ≡ record x { allow_hyphen_values = true } → rule_of x ≡ r → rule_of made ≡ record r { is_simple = false }
-hyphened x made r is rule = ap rule_of is ∙ ap (λ b. record (rule_of x) { is_simple = b }) (not_all _ _ _ _ _ _) ∙ ap (λ (of : Rule). record of { is_simple = false }) rule
+hyphened x made r is rule =
+    ap rule_of is ∙ ap (λ b. record (rule_of x) { is_simple = b }) never ∙ ap (λ (of : Rule). record of { is_simple = false }) rule
   where
+    never : is_simple_arg (record x { allow_hyphen_values = true }) ≡ false
+    never =
+        not_all (is_empty x.overrides.items) (is_empty x.default_vals_ifs.items) (is_empty x.groups.items) (not (is_some x.val_delim)) (not (is_some x.terminator))
+        (not x.allow_negative_numbers && (not x.require_equals && (not x.last && not x.global)))
+
     not_all : (a b c d e rest : Bool) → (a && (b && (c && (d && (e && (false && rest)))))) ≡ false
     not_all false b c d e rest = refl
     not_all true false c d e rest = refl

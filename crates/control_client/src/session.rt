@@ -96,7 +96,8 @@ impl Session {
             _ => file,
         };
         if status == NO_ANSWER && self.is_unnamed {
-            let _written = eprintln!(rt; "jobctl: {about} ({UNNAMED}): {fault}");
+            let unnamed = UNNAMED;
+            let _written = eprintln!(rt; "jobctl: {about} ({unnamed}): {fault}");
         } else {
             tell(rt, about, fault);
         }

@@ -35,9 +35,9 @@ module _ (zone : Zone) (wanted : CivilMinute) (after until : ℕ) where
 
 -- what a test of the shown minute says
 pub unshown : (b : Bool) (wanted shown minute : CivilMinute) → (IsTrue b ↔ IsOn wanted shown) → shown ≡ minute → b ≡ false → ¬ IsOn wanted minute
-unshown true wanted shown minute tells is no = cc
-unshown false wanted shown minute tells is no = λ on. absurd (tells.1 (subst (IsOn wanted) (sym is) on))
+unshown true wanted shown minute tells is e = cc
+unshown false wanted shown minute tells is e = λ on. absurd (tells.1 (subst (IsOn wanted) (sym is) on))
 
 pub is_shown : (b : Bool) (wanted shown minute : CivilMinute) → (IsTrue b ↔ IsOn wanted shown) → shown ≡ minute → b ≡ true → IsOn wanted minute
-is_shown true wanted shown minute tells is yes = subst (IsOn wanted) is (tells.0 tt)
-is_shown false wanted shown minute tells is yes = cc
+is_shown true wanted shown minute tells is e = subst (IsOn wanted) is (tells.0 tt)
+is_shown false wanted shown minute tells is e = cc

@@ -90,7 +90,7 @@ fn first_of(zone: &Zone, date: CivilMinute, time: Time, about: u64) -> Option<u6
 // The least such minute. The minutes are counted from 1970, and each is looked at in turn.
 fn first_shown(zone: &Zone, wanted: &CivilMinute, after: u64, until: u64) -> Option<u64>
     requires { until ≤ MAX_WALL }
-    ensures first { IsFirstShown (minute_at zone.now) wanted.now after until result }
+    ensures { IsFirstShown (minute_at zone.now) wanted.now after until result }
 {
     for k in after / 60..until / 60 {
         if is_on(wanted, &zone.civil_minute(60 * (k + 1))) {

@@ -10,7 +10,9 @@ use definition_files::{Asked, HostFiles};
 use exit_status::{BAD_CLOCK, BAD_FILE, USAGE};
 use files_and_process::path_files::files_at;
 use history_model::{MAX_WALL, Text};
-use launchctl_words::{Meaning, ScopeCommand, Task, WordFault, explain_scope, read_scope_words};
+use launchctl_words::{
+    Meaning, ScopeCommand, Task, WordFault, ZoneWords, explain_scope, read_scope_words,
+};
 use run_times::telling::{put, tell_end, want_memory};
 use std::alloc::Global;
 use std::io;
@@ -55,11 +57,42 @@ fn run<W: Wait>(
     command: &ScopeCommand,
 ) -> io::Result<u8> {
     match command.task {
-        Task::Next if command.words.as_slice().is_empty() => { report(host, waits, alloc, command) }
-        Task::Check | Task::Next => by_zone(host, alloc, command),
+        Task::Next => next(host, waits, alloc, command),
+        Task::Check => by_zone(host, alloc, command),
         Task::Cron => by_lines(host, alloc, command),
         Task::Plist => of_lists(host, alloc, command),
         _ => report(host, waits, alloc, command),
+    }
+}
+
+// The coming starts of definitions, or of a journal's jobs if no PATH stands.
+fn next<W: Wait>(
+    host: &HostRuntime,
+    waits: &W,
+    alloc: Global,
+    of: &ScopeCommand,
+) -> io::Result<u8> {
+    let is_journal = of.words.as_slice().is_empty();
+    let names_zone = match of.zone {
+        ZoneWords::Default => false,
+        _ => true,
+    };
+    let names_journal = of.is_all || !of.journals.as_slice().is_empty();
+    if is_journal && names_zone {
+        tell_wrong(host, "jobscope: next: --zone and --zone-file need a PATH\n");
+        return Ok(USAGE);
+    }
+    if !is_journal && names_journal {
+        tell_wrong(
+            host,
+            "jobscope: next: --journal and --all stand without a PATH\n",
+        );
+        return Ok(USAGE);
+    }
+    if is_journal {
+        report(host, waits, alloc, of)
+    } else {
+        by_zone(host, alloc, of)
     }
 }
 

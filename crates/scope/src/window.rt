@@ -63,7 +63,8 @@ fn moment_of(host: &HostRuntime, option: &str, text: &Option<Text>) -> Result<Op
     let text = text.as_str();
     let moment = read_moment(text);
     if moment.is_none() {
-        let _written = eprintln!(host; "jobscope: {option} {text:?}: wanted {WANTED}");
+        let wanted = WANTED;
+        let _written = eprintln!(host; "jobscope: {option} {text:?}: wanted {wanted}");
         return Err(USAGE);
     }
     Ok(moment)

@@ -157,6 +157,7 @@ EXPLAINED = [
     ("jobctl --help", True, False, "69 no answer"),
     ("jobctl --help", True, False, "74 the reply can't be printed"),
     ("jobctl --help", True, False, "that of JOBD_SOCKET"),
+    ("jobctl --help", True, False, "Why a job does not run: jobscope why LABEL. Manual pages: jobctl(1), jobscope(1), jobd.json(5), jobd(8).\n"),
     ("jobctl start --help", True, False, "jobctl --help has the exit statuses."),
     ("jobctl --help", True, False, "\nKivgrond 0.2.0\n"),
     ("jobctl start", False, False, "LABEL"),

@@ -158,7 +158,7 @@ pub(crate) fn journal_paths(host: &HostRuntime, of: &ScopeCommand) -> Result<Pat
         Err(VarError::OutOfMemory) => return Err(AllocError),
         Err(_) => {}
     }
-    if paths.is_empty() && host.stdin().is_terminal() && File::open(host, PACKAGED).is_ok() {
+    if paths.is_empty() && host.stdin().is_terminal() && open_journal(host, PACKAGED).is_ok() {
         tell_of(host, PACKAGED, &"read, since no journal is named");
         add_path(host, of, PACKAGED, &mut paths)?;
     }
