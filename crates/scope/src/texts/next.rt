@@ -176,13 +176,11 @@ fn add_start(page: &mut Page<'_>, start: &Start<'_>, now: u64) {
     page.add("$  $  in ", &[Moment(start.at), Text(start.label)]);
     let left = start.at.saturating_sub(now).saturating_mul(1000);
     page.ink.put_span(left, false);
-    let every = start.def.start_interval().unwrap_or(0);
-    let form = if start.is_interval {
-        " (each $ s)\n"
-    } else {
-        "\n"
-    };
-    page.add(form, &[Number(u64::from(every))]);
+    if start.is_interval {
+        let every = start.def.start_interval().unwrap_or(0);
+        page.add(" (each $ s)", &[Number(u64::from(every))]);
+    }
+    page.ink.put("\n");
 }
 
 // When the same clock starts the job after this start, if the interval begins then.
