@@ -29,20 +29,20 @@ pub asks_for_one : (old new : Command) (a : App) → out-Command new ≡ record 
     → HasWords (needs_subcommand a) new
 asks_for_one old new a is words = record { app = ap app_of_fields is ∙ ap needs_subcommand words.app; globals = rw is words.globals }
 
+not_all : (a b c d e rest : Bool) → (a && (b && (c && (d && (e && (false && rest)))))) ≡ false
+not_all false b c d e rest = refl
+not_all true false c d e rest = refl
+not_all true true false d e rest = refl
+not_all true true true false e rest = refl
+not_all true true true true false rest = refl
+not_all true true true true true rest = refl
+
+never_simple : (x : Arg) → is_simple_arg (record x { allow_hyphen_values = true }) ≡ false
+never_simple x =
+    not_all (is_empty x.overrides.items) (is_empty x.default_vals_ifs.items) (is_empty x.groups.items) (not (is_some x.val_delim)) (not (is_some x.terminator))
+    (not x.allow_negative_numbers && (not x.require_equals && (not x.last && not x.global)))
+
 -- an argument whose value may begin with a hyphen is none of the simple ones
 pub hyphened : (x made : Arg) (r : Rule) → made ≡ record x { allow_hyphen_values = true } → rule_of x ≡ r → rule_of made ≡ record r { is_simple = false }
 hyphened x made r is rule =
-    ap rule_of is ∙ ap (λ b. record (rule_of x) { is_simple = b }) never ∙ ap (λ (of : Rule). record of { is_simple = false }) rule
-  where
-    never : is_simple_arg (record x { allow_hyphen_values = true }) ≡ false
-    never =
-        not_all (is_empty x.overrides.items) (is_empty x.default_vals_ifs.items) (is_empty x.groups.items) (not (is_some x.val_delim)) (not (is_some x.terminator))
-        (not x.allow_negative_numbers && (not x.require_equals && (not x.last && not x.global)))
-
-    not_all : (a b c d e rest : Bool) → (a && (b && (c && (d && (e && (false && rest)))))) ≡ false
-    not_all false b c d e rest = refl
-    not_all true false c d e rest = refl
-    not_all true true false d e rest = refl
-    not_all true true true false e rest = refl
-    not_all true true true true false rest = refl
-    not_all true true true true true rest = refl
+    ap rule_of is ∙ ap (λ b. record (rule_of x) { is_simple = b }) (never_simple x) ∙ ap (λ (of : Rule). record of { is_simple = false }) rule

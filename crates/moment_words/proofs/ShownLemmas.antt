@@ -1,5 +1,5 @@
 -- The least minute at which a clock shows a time of a day.
-use Rattle.std.proofs.Common.{◌≡◌, ℕ, ◌+◌, ◌*◌, ◌/◌, ◌==◌, ◌<◌, ◌≤◌, ◌↔◌, IsTrue, Bool, true, false, Some, None, refl, sym, subst, arith}
+use Rattle.std.proofs.Common.{◌≡◌, ℕ, ◌+◌, ◌*◌, ◌/◌, ◌==◌, ◌<◌, ◌≤◌, ◌↔◌, IsTrue, Bool, true, false, Some, None, refl, sym, ◌∙◌, subst, arith}
 use Rattle.std.proofs.lemmas.Bool.{eq-eqb}
 use Rattle.std.proofs.lemmas.Bool.Decides.{nat_tests}
 use Rattle.history_model.specs.declared.CivilMinute.{CivilMinute}
@@ -35,9 +35,9 @@ module _ (zone : Zone) (wanted : CivilMinute) (after until : ℕ) where
 
 -- what a test of the shown minute says
 pub unshown : (b : Bool) (wanted shown minute : CivilMinute) → (IsTrue b ↔ IsOn wanted shown) → shown ≡ minute → b ≡ false → ¬ IsOn wanted minute
-unshown true wanted shown minute tells is e = cc
-unshown false wanted shown minute tells is e = λ on. absurd (tells.1 (subst (IsOn wanted) (sym is) on))
+unshown b wanted shown minute tells is e = λ on.
+    let so : b ≡ true = tells.1 (subst (IsOn wanted) (sym is) on) in
+    let clash : false ≡ true = sym e ∙ so in cc
 
 pub is_shown : (b : Bool) (wanted shown minute : CivilMinute) → (IsTrue b ↔ IsOn wanted shown) → shown ≡ minute → b ≡ true → IsOn wanted minute
-is_shown true wanted shown minute tells is e = subst (IsOn wanted) is (tells.0 tt)
-is_shown false wanted shown minute tells is e = cc
+is_shown b wanted shown minute tells is e = subst (IsOn wanted) is (tells.0 e)
