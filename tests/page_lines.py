@@ -116,11 +116,12 @@ def the_converter_converts(folder):
 
 
 def a_fault_is_one_line(folder):
-    """A label that is none, a file that is none, a launcher that is not there: each is told in one line."""
+    """Words that are no command, a file that is none, a launcher that is not there: each is told in one line."""
     for words, status in [
-        (["jobctl", "start", "a/b"], 64),
+        (["jobctl"], 64), (["jobctl", "list", "x"], 64), (["jobctl", "lod", "x"], 64), (["jobctl", "start"], 64), (["jobctl", "start", "a/b"], 64),
         (["jobctl", "--socket", "none", "list"], 69), (["jobctl", "--socket", "s", "load", "none"], 65),
-        (["jobd", "overrides", "--store", "none"], 5), (["jobscope", "next", "-n", "x", "y"], 64), (["jobscope", "why", "--journal", "none"], 65),
+        (["jobd"], 64), (["jobd", "serve"], 64), (["jobd", "replya"], 64), (["jobd", "overrides", "--store", "none"], 5),
+        (["jobscope"], 64), (["jobscope", "check"], 64), (["jobscope", "next", "-n", "x", "y"], 64), (["jobscope", "why", "--journal", "none"], 65),
     ]:
         ran = run(*words, folder=folder)
         want(" ".join(words), (status, 1, True), (ran.returncode, ran.stderr.count("\n"), ran.stderr.startswith(f"{words[0]}: ")))

@@ -51,9 +51,9 @@ with_line() {
     fi
 }
 
-# wants_usage NAME: the run before ended with 64, wrote nothing, and said how the program is used.
+# wants_usage NAME: the run before ended with 64, wrote nothing, and said how the program is used, in one line.
 wants_usage() {
-    wants "$1" 64 '' "$(with_line '^Usage: jobd' err)"
+    wants "$1" 64 '' "$(with_line '^jobd: .*; Usage: jobd' err | head -n 1)"
 }
 
 # words that are no command

@@ -17,6 +17,14 @@ abbrev pub option_rule : Text → Bool → Rule
 option_rule id required =
     record (new_rule id) { long = Some id; required = required; value_names = 1 }
 
+-- an option with a value that may begin with a hyphen, as --since -2h
+abbrev pub hyphened_option_rule : Text → Rule
+hyphened_option_rule id = record (option_rule id false) { is_simple = false }
+
+-- an option with a value, which may stand more than once, as --journal PATH
+abbrev pub options_rule : Text → Rule
+options_rule id = record (new_rule id) { long = Some id; action = Some Append; value_names = 1 }
+
 -- an option with a value behind a letter, as -n COUNT
 abbrev pub short_option_rule : Text → ℕ → Rule
 short_option_rule id letter = record (new_rule id) { short = Some letter; value_names = 1 }

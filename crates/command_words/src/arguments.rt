@@ -1,7 +1,7 @@
 //! The forms of arguments of which the programs' words are made, and how their values are read.
 ghost use Rattle.std.specs.Prelude.{◌≡◌, IfOk, Some, None, true, false, map};
 ghost use Rattle.clap.specs.Words.{rule_of, first_of, all_of, with_rule, with_subcommand, new_app, App, Rule};
-ghost use Rattle.command_words.specs.Rules.{HasWords, Makes, flag_rule, switch_rule, option_rule, short_option_rule, word_rule, words_rule, any_words_rule};
+ghost use Rattle.command_words.specs.Rules.{HasWords, Makes, flag_rule, switch_rule, option_rule, hyphened_option_rule, options_rule, short_option_rule, word_rule, words_rule, any_words_rule};
 ghost use Rattle.command_words.specs.Meaning.{is_set, rows_in};
 
 use crate::command::Paths;
@@ -34,6 +34,26 @@ pub fn option<'a>(
     Arg::new(alloc, id)
         .long(id)
         .required(required)
+        .value_name(value)
+        .help(help)
+}
+
+/// An option with a value that may begin with a hyphen.
+pub fn hyphened_option<'a>(alloc: Global, id: &'a str, value: &'a str, help: &'a str) -> Arg<'a>
+    ensures rule { rule_of result ≡ hyphened_option_rule id.now }
+    ensures local { result.global ≡ false }
+{
+    option(alloc, id, false, value, help).allow_hyphen_values(true)
+}
+
+/// An option with a value, which may stand more than once.
+pub fn options<'a>(alloc: Global, id: &'a str, value: &'a str, help: &'a str) -> Arg<'a>
+    ensures rule { rule_of result ≡ options_rule id.now }
+    ensures local { result.global ≡ false }
+{
+    Arg::new(alloc, id)
+        .long(id)
+        .action(ArgAction::Append)
         .value_name(value)
         .help(help)
 }

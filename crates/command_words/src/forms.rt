@@ -5,7 +5,8 @@ ghost use Rattle.command_words.specs.Rules.{Makes};
 ghost use Rattle.command_words.specs.Forms.{rule_in, app_in, with_all};
 
 use crate::arguments::{
-    add_arg, add_subcommand, any_words, bare, flag, option, short_option, switch, word, words,
+    add_arg, add_subcommand, any_words, bare, flag, hyphened_option, option, options, short_option,
+    switch, word, words,
 };
 use clap::Arg;
 use std::alloc::{AllocError, Global};
@@ -19,6 +20,10 @@ pub(crate) enum Form {
     Switch,
     /// A value behind the argument's name, as --socket PATH.
     Value { required: bool },
+    /// A value behind the argument's name that may begin with a hyphen, as --since -2h.
+    AnyValue,
+    /// A value behind the argument's name, which may stand more than once, as --journal PATH.
+    Values,
     /// A value behind a letter, as -n COUNT.
     ShortValue(char),
     /// A word that must stand.
@@ -53,6 +58,8 @@ fn argument_of<'a>(alloc: Global, of: &Argument) -> Arg<'a>
         Form::Letter(letter) => flag(alloc, of.id, letter, of.help),
         Form::Switch => switch(alloc, of.id, of.help),
         Form::Value { required } => option(alloc, of.id, required, of.value, of.help),
+        Form::AnyValue => hyphened_option(alloc, of.id, of.value, of.help),
+        Form::Values => options(alloc, of.id, of.value, of.help),
         Form::ShortValue(letter) => short_option(alloc, of.id, letter, of.value, of.help),
         Form::Word => word(alloc, of.id, of.value, of.help),
         Form::Words => words(alloc, of.id, of.value, of.help),

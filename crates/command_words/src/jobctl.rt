@@ -189,8 +189,8 @@ pub fn control_command(
     }
 }
 
-/// The text to print if the words are no command of jobctl, or ask for help. If clap takes them, it is one line that says
+/// The text to print if the words are no command of jobctl, or ask for help. If they are none, it is one line; if clap takes them, it says
 /// which LABEL is no label, or which TARGET names none.
 pub fn explain(alloc: Global, words: &[String]) -> Result<Explanation, AllocError> {
-    explain_by(alloc, jobctl_words(alloc), words)
+    explain_by(alloc, "jobctl", jobctl_words(alloc), words)
 }

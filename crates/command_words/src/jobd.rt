@@ -224,5 +224,5 @@ pub fn daemon_command(alloc: Global, words: &[String]) -> Result<Option<DaemonCo
 /// The text to print if the words are no command of jobd, or ask for help. If clap takes them, it is one line that says that
 /// both zone options stand.
 pub fn explain_daemon(alloc: Global, words: &[String]) -> Result<Explanation, AllocError> {
-    explain_by(alloc, jobd_words(alloc), words)
+    explain_by(alloc, "jobd", jobd_words(alloc), words)
 }

@@ -3,10 +3,9 @@
 use crate::arguments::{is_set, value_of, values_of};
 use crate::command::{Paths, WordFault, ZoneWords};
 use crate::jobd::zone_in;
-use crate::moments::{moment_of, wrong_moment};
 use crate::numbers::{number_of, wrong_number};
 use crate::parse::{Explanation, explain_by, parse};
-use crate::scope_command::{Meaning, ScopeCommand, TASKS, Task};
+use crate::scope_command::{Meaning, MomentWords, ScopeCommand, TASKS, Task};
 use crate::scope_words::jobscope_words;
 use clap::ArgMatches;
 use std::alloc::{AllocError, Global};
@@ -31,14 +30,15 @@ fn command_in(
 ) -> Result<ScopeCommand, AllocError> {
     let words = words_in(alloc, task, found);
     let from = match task {
-        Task::Check | Task::Status | Task::Metrics | Task::Why => number_of(found, "now"),
-        _ => number_of(found, "from"),
+        Task::Next => number_of(found, "from"),
+        _ => number_of(found, "now"),
     };
-    let journal = value_of(alloc, found, "journal");
+    let journals = texts_in(alloc, found, "journal");
     let status_file = value_of(alloc, found, "status-file");
     let into = value_of(alloc, found, "into");
-    match (words, journal, status_file, into) {
-        (Ok(words), Ok(journal), Ok(status_file), Ok(into)) => Ok(ScopeCommand {
+    let moments = moments_in(alloc, found);
+    match (words, journals, status_file, into, moments) {
+        (Ok(words), Ok(journals), Ok(status_file), Ok(into), Ok(moments)) => Ok(ScopeCommand {
             task,
             is_strict: is_set(found, "strict"),
             is_failing: is_set(found, "failing"),
@@ -48,19 +48,20 @@ fn command_in(
             is_utc: is_set(found, "utc"),
             count: number_of(found, "count"),
             from,
-            at: moment_of(found),
-            since: number_of(found, "since"),
+            is_all: is_set(found, "all"),
+            moments,
             zone,
-            journal,
+            journals,
             status_file,
             into,
             words,
         }),
-        (words, journal, status_file, into) => {
+        (words, journals, status_file, into, moments) => {
             drop(words);
-            drop(journal);
+            drop(journals);
             drop(status_file);
             drop(into);
+            drop(moments);
             drop(zone);
             Err(AllocError)
         }
@@ -79,9 +80,28 @@ fn words_in(alloc: Global, task: Task, found: &ArgMatches<'_>) -> Result<Paths, 
         | Task::Picture
         | Task::Show => "labels",
     };
+    texts_in(alloc, found, id)
+}
+
+fn texts_in(alloc: Global, found: &ArgMatches<'_>, id: &str) -> Result<Paths, AllocError> {
     match values_of(alloc, found, id)? {
         Some(words) => Ok(words),
         None => Ok(Paths::new(Vec::new(alloc))),
+    }
+}
+
+fn moments_in(alloc: Global, found: &ArgMatches<'_>) -> Result<MomentWords, AllocError> {
+    let at = value_of(alloc, found, "at");
+    let since = value_of(alloc, found, "since");
+    let until = value_of(alloc, found, "until");
+    match (at, since, until) {
+        (Ok(at), Ok(since), Ok(until)) => Ok(MomentWords { at, since, until }),
+        (at, since, until) => {
+            drop(at);
+            drop(since);
+            drop(until);
+            Err(AllocError)
+        }
     }
 }
 
@@ -101,9 +121,6 @@ fn meaning_of(alloc: Global, matches: &ArgMatches<'_>) -> Result<Meaning, WordFa
 
 fn meaning_in(alloc: Global, found: &ArgMatches<'_>, task: Task) -> Result<Meaning, AllocError> {
     if let Some(text) = wrong_number(alloc, found)? {
-        return Ok(Meaning::Wrong(text));
-    }
-    if let Some(text) = wrong_moment(alloc, found)? {
         return Ok(Meaning::Wrong(text));
     }
     match zone_in(alloc, found)? {
@@ -129,5 +146,5 @@ pub fn read_scope_words(alloc: Global, words: &[String]) -> Result<Meaning, Word
 
 /// The text for words that are no command of jobscope, or that ask for help.
 pub fn explain_scope(alloc: Global, words: &[String]) -> Result<Explanation, AllocError> {
-    explain_by(alloc, jobscope_words(alloc), words)
+    explain_by(alloc, "jobscope", jobscope_words(alloc), words)
 }

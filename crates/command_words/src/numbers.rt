@@ -11,7 +11,6 @@ const NUMBERS: &[(&str, &str, u64, &str)] = &[
     ("count", "-n", 10_000, "a number up to 10000"),
     ("from", "--from", MAX_WALL, SECOND),
     ("now", "--now", MAX_WALL, SECOND),
-    ("since", "--since", MAX_WALL, SECOND),
 ];
 
 /// What is wrong with the first option whose value is no number that it takes, if there is one.
@@ -36,7 +35,7 @@ pub(crate) fn number_of(found: &ArgMatches<'_>, id: &str) -> Option<u64> {
 }
 
 /// The decimal number that the text is, without a sign, and at most `most`.
-pub(crate) fn number_in(text: &str, most: u64) -> Option<u64> {
+fn number_in(text: &str, most: u64) -> Option<u64> {
     if text.is_empty() {
         return None;
     }

@@ -9,6 +9,8 @@ use crate::version::VERSION_LINE;
 use clap::error::ErrorKind;
 use clap::{ArgMatches, Error};
 use std::alloc::{AllocError, Global};
+use std::fmt;
+use std::fmt::{Display, Formatter};
 
 /// What clap finds among the words.
 pub fn parse<'a>(
@@ -50,16 +52,17 @@ pub struct Explanation {
     pub is_help: bool,
 }
 
-/// The text for words that clap does not take; a help ends with the version's line. If clap takes them, the line that says why
-/// they are no command all the same, or the whole help if they are one.
+/// The text for words that clap does not take: one line that begins with the program's name, or a help, which ends with the version's
+/// line. If clap takes them, the line that says why they are no command all the same, or the whole help if they are one.
 pub fn explain_by<'a>(
     alloc: Global,
+    program: &str,
     command: Result<clap::Command<'a>, AllocError>,
     words: &'a [String],
 ) -> Result<Explanation, AllocError> {
     match command {
         Ok(mut command) => {
-            let said = said_of(alloc, command.try_get_matches_from_mut(words));
+            let said = said_of(alloc, program, command.try_get_matches_from_mut(words));
             let explanation = said_or_help(said, &mut command);
             drop(command);
             explanation
@@ -71,11 +74,12 @@ pub fn explain_by<'a>(
 // What is said of the words, if it is not the whole help. What clap found goes at one place.
 fn said_of(
     alloc: Global,
+    program: &str,
     found: Result<ArgMatches<'_>, Error>,
 ) -> Result<Option<Explanation>, AllocError> {
     let said = match &found {
         Ok(matches) => reason_in(alloc, matches),
-        Err(error) => fault_text(alloc, error),
+        Err(error) => fault_text(alloc, program, error),
     };
     drop(found);
     said
@@ -98,13 +102,50 @@ fn said_or_help(
     }
 }
 
-fn fault_text(alloc: Global, error: &Error) -> Result<Option<Explanation>, AllocError> {
+fn fault_text(
+    alloc: Global,
+    program: &str,
+    error: &Error,
+) -> Result<Option<Explanation>, AllocError> {
     let is_help = !error.use_stderr();
     let text = if is_help {
         let version = VERSION_LINE;
         format!(in alloc; "{error}\n{version}\n")?
     } else {
-        format!(in alloc; "{error}")?
+        let said = format!(in alloc; "{error}")?;
+        let line = OneLine {
+            said: said.as_str(),
+        };
+        format!(in alloc; "{program}:{line}\n")?
     };
     Ok(Some(Explanation { text, is_help }))
+}
+
+/// What clap says of words that it does not take, as one line: its rows one behind another, without the word `error`. A control character
+/// of a word is U+FFFD.
+#[derive(Drop)]
+struct OneLine<'a> {
+    said: &'a str,
+}
+
+impl Display for OneLine<'_> {
+    fn fmt<W: fmt::Write>(&self, f: &mut Formatter<W>) -> fmt::Result {
+        let mut is_begun = true;
+        for row in self.said.lines() {
+            let row = row.trim();
+            if !row.is_empty() {
+                f.write_str(if is_begun { " " } else { "; " })?;
+                write_row(f, row.strip_prefix("error: ").unwrap_or(row))?;
+                is_begun = row.ends_with(':');
+            }
+        }
+        Ok(())
+    }
+}
+
+fn write_row<W: fmt::Write>(f: &mut Formatter<W>, row: &str) -> fmt::Result {
+    for c in row.chars() {
+        f.write_char(if c.is_control() { '\u{FFFD}' } else { c })?;
+    }
+    Ok(())
 }

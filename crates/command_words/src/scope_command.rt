@@ -48,13 +48,14 @@ pub(crate) const TASKS: &[(&str, Task)] = &[
     ("plist", Task::Plist),
 ];
 
-/// A moment of a journal.
-#[derive(Clone, Copy)]
-pub enum Moment {
-    /// This second of Unix time.
-    Second(u64),
-    /// This time of the journal's last day.
-    OfDay { hour: u8, minute: u8, second: u8 },
+/// Moments as they are written among the words.
+#[derive(Drop)]
+pub struct MomentWords {
+    /// That of a journal which is asked of; where absent, its end.
+    pub at: Option<Text>,
+    /// From which on, and up to which, a journal is told.
+    pub since: Option<Text>,
+    pub until: Option<Text>,
 }
 
 /// A subcommand's words. What the subcommand does not take is absent.
@@ -73,18 +74,18 @@ pub struct ScopeCommand {
     pub has_user: bool,
     /// Times are shown in UTC, and not in the journal's zone; of definitions, if no zone is named: in UTC, and not in the machine's.
     pub is_utc: bool,
+    /// Each of the coming starts is shown, and not the next of each job alone.
+    pub is_all: bool,
     /// How many starts are shown.
     pub count: Option<u64>,
     /// The second of Unix time after which starts are shown, from which on the clock is looked at, or that is now in place of the clock's.
     pub from: Option<u64>,
-    /// The second of Unix time from which on events are told.
-    pub since: Option<u64>,
-    /// The moment of a journal that is asked of; where absent, its end.
-    pub at: Option<Moment>,
+    /// The moments of a journal.
+    pub moments: MomentWords,
     /// The zone in which calendar entries are looked at.
     pub zone: ZoneWords,
-    /// The journal's path.
-    pub journal: Option<Text>,
+    /// The paths of the journals, which are told as one.
+    pub journals: Paths,
     /// The path of a launcher's status file.
     pub status_file: Option<Text>,
     /// The folder in which each definition becomes a file.

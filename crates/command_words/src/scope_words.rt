@@ -31,9 +31,9 @@ const PATHS: Argument = Argument {
 
 const JOURNAL: Argument = Argument {
     id: "journal",
-    form: Form::Value { required: false },
+    form: Form::Values,
     value: "PATH",
-    help: "The journal; where absent, that of JOBD_JOURNAL, else standard input",
+    help: "The journal; where absent, that of JOBD_JOURNAL, else standard input; more than once, the oldest first, for several as one",
 };
 
 const LABELS: Argument = Argument {
@@ -55,6 +55,28 @@ const ZONE_UTC: Argument = Argument {
     form: Form::Switch,
     value: "",
     help: "Take UTC, and not the zone of /etc/localtime",
+};
+
+// What stands behind it is told by moment_words.
+const SINCE: Argument = Argument {
+    id: "since",
+    form: Form::AnyValue,
+    value: "MOMENT",
+    help: "Leave out what was before: 14:00, yesterday, 2026-11-25, -2h, or a second of Unix time",
+};
+
+const UNTIL: Argument = Argument {
+    id: "until",
+    form: Form::AnyValue,
+    value: "MOMENT",
+    help: "Leave out what came behind this moment, which is written likewise",
+};
+
+const NOW: Argument = Argument {
+    id: "now",
+    form: Form::Value { required: false },
+    value: "SECOND",
+    help: "Take this second of Unix time for now, and not the clock's",
 };
 
 const CHECK: &[Argument] = &[
@@ -92,7 +114,19 @@ const NEXT: &[Argument] = &[
     ZONE,
     ZONE_FILE,
     ZONE_UTC,
-    PATHS,
+    JOURNAL,
+    Argument {
+        id: "all",
+        form: Form::Switch,
+        value: "",
+        help: "Of a journal's jobs show the coming starts in the order of time, and not the next of each",
+    },
+    Argument {
+        id: "paths",
+        form: Form::AnyWords,
+        value: "PATH",
+        help: "A definition, or a folder of definitions (*.plist, *.json); - for the definition on standard input; where absent, the jobs that the journal has loaded",
+    },
 ];
 
 const STATUS_FILE: Argument = Argument {
@@ -100,13 +134,6 @@ const STATUS_FILE: Argument = Argument {
     form: Form::Value { required: false },
     value: "PATH",
     help: "The launcher's file on how it stands; where absent, that of JOBD_STATUS_FILE",
-};
-
-const NOW: Argument = Argument {
-    id: "now",
-    form: Form::Value { required: false },
-    value: "SECOND",
-    help: "Take this second of Unix time for now, and not the clock's",
 };
 
 const STATUS: &[Argument] = &[STATUS_FILE, LABELS, UTC, NOW];
@@ -126,14 +153,14 @@ const WHY: &[Argument] = &[
     },
     Argument {
         id: "at",
-        form: Form::Value { required: false },
+        form: Form::AnyValue,
         value: "MOMENT",
-        help: "Say it as of this moment: HH:MM or HH:MM:SS of the journal's last day, or a second of Unix time; as of its end where absent",
+        help: "Say it as of this moment, written as for log --since, the journal's last day being today; as of its end where absent",
     },
     NOW,
 ];
 
-const RUNS: &[Argument] = &[JOURNAL, LABELS];
+const RUNS: &[Argument] = &[JOURNAL, LABELS, UTC, SINCE, UNTIL, NOW];
 
 const LOG: &[Argument] = &[
     JOURNAL,
@@ -145,12 +172,9 @@ const LOG: &[Argument] = &[
         value: "",
         help: "Go on as the journal grows",
     },
-    Argument {
-        id: "since",
-        form: Form::Value { required: false },
-        value: "SECOND",
-        help: "Leave out what was before this second of Unix time",
-    },
+    SINCE,
+    UNTIL,
+    NOW,
 ];
 
 const PICTURE: &[Argument] = &[
@@ -163,6 +187,9 @@ const PICTURE: &[Argument] = &[
         value: "",
         help: "Write a page that stands alone: the chart, the counts, the reasons and the coming starts",
     },
+    SINCE,
+    UNTIL,
+    NOW,
 ];
 
 const SHOW: &[Argument] = &[JOURNAL, LABELS, UTC];

@@ -10,10 +10,15 @@ use files_and_process::path_files::{Found, Kind, files_at};
 use history_model::{Ask, Text, TextRef};
 use launchctl_words::{Command, Paths, WordFault, Words, explain, read_words, read_words_beside};
 use std::alloc::Global;
-use std::fs::Files;
+use std::fs::{Files, metadata};
 use std::io;
 use std::net::Net;
 use std::rt::Env;
+
+/// The control socket if nothing names one, and that of the package.
+const SOCKET: &str = "jobd.sock";
+
+const PACKAGED: &str = "/run/jobd/jobd.sock";
 
 /// What is done with each file.
 #[derive(Clone, Copy)]
@@ -98,11 +103,15 @@ pub fn jobctl<R: Net + Files + Env + Print + Eprint + AllocGlobal + Clone + Drop
         Err(fault) => return tell_setting(rt, fault),
     };
     let patience = settings.patience;
+    let has_named = settings.socket.is_some();
     let meant = read_by(alloc, &settings, words);
     drop(settings);
     match meant {
         Ok(Words { socket, command }) => {
-            let mut session = Session::new(socket, patience);
+            let is_unnamed = !has_named
+                && socket.as_str() == SOCKET
+                && metadata(rt, PACKAGED).is_ok();
+            let mut session = Session::new(socket, patience, is_unnamed);
             match task_of(&command) {
                 Task::Files(deed, paths) => hand_in(rt, alloc, &mut session, deed, paths),
                 Task::Request(request) => session.ask_once(rt, alloc, &request),

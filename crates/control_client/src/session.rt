@@ -10,6 +10,9 @@ use history_model::Text;
 use std::alloc::Global;
 use std::net::Net;
 
+/// What is told beside a launcher that can't be reached.
+const UNNAMED: &str = "JOBD_SOCKET is not set; the package's launcher is at /run/jobd/jobd.sock";
+
 /// One connection for all requests, made for the first.
 #[derive(Drop)]
 pub(crate) struct Session {
@@ -17,17 +20,21 @@ pub(crate) struct Session {
     connection: Option<Connection>,
     // The longest wait for a part of an answer, in seconds; 0 for ever.
     patience: u32,
+    // Nothing names the socket, and that of the package is there.
+    is_unnamed: bool,
     // The first that is not 0.
     status: u8,
 }
 
 impl Session {
     /// No request yet to the launcher at the socket, whose answers are waited for so many seconds, or for ever if they are 0.
-    pub(crate) fn new(socket: Text, patience: u32) -> Session {
+    /// `is_unnamed`: nothing names the socket, and that of the package is there.
+    pub(crate) fn new(socket: Text, patience: u32, is_unnamed: bool) -> Session {
         Session {
             socket,
             connection: None,
             patience,
+            is_unnamed,
             status: 0,
         }
     }
@@ -88,7 +95,12 @@ impl Session {
             BAD_OUTPUT => "standard output",
             _ => file,
         };
-        tell(rt, about, fault);
+        if status == NO_ANSWER && self.is_unnamed {
+            let unnamed = UNNAMED;
+            let _written = eprintln!(rt; "jobctl: {about} ({unnamed}): {fault}");
+        } else {
+            tell(rt, about, fault);
+        }
         self.note(status);
     }
 }

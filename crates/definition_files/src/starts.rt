@@ -12,7 +12,7 @@ use files_and_process::path_files::Found;
 use job_defs::{Def, DefFault, read_def};
 use run_times::Ink;
 use run_times::Piece::{Number, Text};
-use run_times::telling::{Outcome, tell_of};
+use run_times::telling::{Outcome, tell_line, tell_of};
 use std::alloc::{AllocError, Global};
 
 /// A definition, and when the clock wants it next: by an entry of its calendar, and by its interval.
@@ -39,6 +39,7 @@ pub fn coming_starts<S: DefinitionSource>(
 {
     let mut jobs = Vec::new(alloc);
     let added = add_jobs(host, alloc, source, files, of, &mut jobs);
+    tell_never(host, files, jobs.as_slice());
     let text = starts_text(alloc, count, of, &mut jobs);
     drop(jobs);
     match (added, text) {
@@ -112,7 +113,7 @@ fn add_definition(
 {
     match read_def(alloc, bytes) {
         Ok(def) => {
-            jobs.push(job_of(host, of, path, def))?;
+            jobs.push(job_of(of, def))?;
             Ok(Verdict::Well)
         }
         Err(DefFault::NoMemory) => Err(AllocError),
@@ -123,21 +124,50 @@ fn add_definition(
     }
 }
 
-// When the clock wants the job first. If it never does, that is told.
-fn job_of(host: &HostRuntime, of: &Asked<'_>, path: &str, def: Def) -> Job {
+// When the clock wants the job first.
+fn job_of(of: &Asked<'_>, def: Def) -> Job {
     let by_calendar = calendar_after(def.calendar(), of.zone, of.from);
     let by_interval = match def.start_interval() {
         Some(every) => interval_after(every, of.from),
         None => None,
     };
-    if by_calendar.is_none() && by_interval.is_none() {
-        tell_of(host, path, &never_words(&def));
-    }
     Job {
         def,
         by_calendar,
         by_interval,
     }
+}
+
+// Tells how many jobs the clock never starts; of a file alone why.
+fn tell_never(host: &HostRuntime, files: &[Found], jobs: &[Job]) {
+    let mut clockless: u64 = 0;
+    for job in jobs {
+        clockless = clockless.saturating_add(u64::from(second_of(job) == u64::MAX));
+    }
+    match (files, jobs) {
+        ([file], [job]) if clockless > 0 => {
+            tell_of(host, file.path.as_str(), &never_words(&job.def));
+        }
+        _ => tell_clockless(host, "", clockless, jobs.len() as u64),
+    }
+}
+
+/// Tells that so many of the jobs have no clock, if it is one at least; behind the name of what has them, if there is one.
+pub fn tell_clockless(host: &HostRuntime, name: &str, clockless: u64, jobs: u64) {
+    if clockless == 0 {
+        return;
+    }
+    let mut line = Ink::new(host.alloc());
+    line.put("jobscope: ");
+    if !name.is_empty() {
+        line.fill("$: ", &[Text(name)]);
+    }
+    let has = if clockless == 1 { "has" } else { "have" };
+    line.fill(
+        "$ of $ $ no clock\n",
+        &[Number(clockless), Number(jobs), Text(has)],
+    );
+    tell_line(host, line);
 }
 
 // Why the clock never starts the job.

@@ -4,7 +4,7 @@
 mod reading;
 
 pub use command_words::{
-    Command, DaemonCommand, Explanation, Meaning, Moment, Paths, ScopeCommand, Task, WordFault,
-    Words, ZoneWords, explain, explain_daemon, explain_scope, read_scope_words,
+    Command, DaemonCommand, Explanation, Meaning, MomentWords, Paths, ScopeCommand, Task,
+    WordFault, Words, ZoneWords, explain, explain_daemon, explain_scope, read_scope_words,
 };
 pub use reading::{read_daemon_words, read_words, read_words_beside};

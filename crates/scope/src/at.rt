@@ -8,9 +8,10 @@ use crate::journal::fault::JournalFault;
 use crate::journal::lines::{Hears, JournalLines};
 use crate::journal::source::{open_journal, read_journal, read_source};
 use crate::listener::{JournalListener, zone_shown};
-use calendar_due::Zone;
+use crate::window::{WHOLE, meant};
 use history_model::MAX_WALL;
-use launchctl_words::{Moment, ScopeCommand};
+use launchctl_words::ScopeCommand;
+use moment_words::Moment;
 use std::alloc::Global;
 use std::io::Read;
 
@@ -57,12 +58,14 @@ struct Cut {
 }
 
 /// Reads the journal of the path up to its last event that is not behind the moment, and answers as of when it is told: of the moment, or of the
-/// journal's end if that is before. For this it is read twice, and once more if its last day has to be known.
+/// journal's end if that is before. The moment is as of `now`, or as of the journal's last event if that is none. For this it is read twice, and
+/// once more if its zone or its last event has to be known.
 pub(crate) fn read_up_to(
     host: &HostRuntime,
     alloc: Global,
     path: Option<&str>,
     moment: Moment,
+    now: Option<u64>,
     lines: &mut JournalLines,
     listener: &mut JournalListener<'_>,
 ) -> Result<AsOf, JournalFault> {
@@ -72,14 +75,7 @@ pub(crate) fn read_up_to(
     let of = listener.of;
     let second = match moment {
         Moment::Second(second) => second,
-        Moment::OfDay {
-            hour,
-            minute,
-            second,
-        } => {
-            let time = u64::from(hour) * 3_600 + u64::from(minute) * 60 + u64::from(second);
-            second_of(host, alloc, path, of, time)?
-        }
+        moment => second_of(host, alloc, path, of, moment, now)?,
     };
     let cut = cut_at(host, alloc, path, of, second)?;
     read_front_of(host, path, cut.bytes, lines, listener)?;
@@ -134,13 +130,14 @@ fn cut_at(
     })
 }
 
-// The second of the journal's last day at which its clock shows this time, in seconds since midnight.
+// The second of the moment, by the journal's zone.
 fn second_of(
     host: &HostRuntime,
     alloc: Global,
     path: &str,
     of: &ScopeCommand,
-    time: u64,
+    moment: Moment,
+    now: Option<u64>,
 ) -> Result<u64, JournalFault> {
     let mut finder = finder_of(alloc, of, MAX_WALL);
     let _long = scan(host, alloc, path, &mut finder)?;
@@ -148,28 +145,17 @@ fn second_of(
     let second = match &finder.listener.journal {
         Some(journal) => {
             let zone = zone_shown(of, &finder.listener.utc, &journal.zone);
-            shown_at(zone, shown_at(zone, last, time), time)
+            meant(moment, zone, now.unwrap_or(last))
         }
-        None => last,
+        None => Ok(last),
     };
     drop(finder);
-    Ok(second)
-}
-
-// The second of the day of this one that has this time by the offset of this one. Asked of that second once more it is right behind a change
-// of the offset too; of a time that the clock skips or shows twice it is one within an hour or the like.
-fn shown_at(zone: &Zone, second: u64, time: u64) -> u64 {
-    let shown = zone.civil_minute(second.min(MAX_WALL));
-    let shows = u64::from(shown.hour) * 3_600 + u64::from(shown.minute) * 60 + second % 60;
     second
-        .saturating_add(time)
-        .saturating_sub(shows)
-        .min(MAX_WALL)
 }
 
 fn finder_of(alloc: Global, of: &ScopeCommand, until: u64) -> MomentFinder<'_> {
     MomentFinder {
-        listener: JournalListener::new(alloc, of),
+        listener: JournalListener::new(alloc, of, WHOLE),
         until,
         read: 0,
         found: 0,

@@ -25,7 +25,8 @@ pub(crate) fn file_asked(host: &HostRuntime, of: &ScopeCommand) -> io::Result<Op
         Task::Why => true,
         _ => return Ok(None),
     };
-    if is_why && of.status_file.is_none() && (of.journal.is_some() || of.at.is_some()) {
+    let is_of_a_journal = !of.journals.as_slice().is_empty() || of.moments.at.is_some();
+    if is_why && of.status_file.is_none() && is_of_a_journal {
         return Ok(None);
     }
     match named_path(host, &of.status_file) {

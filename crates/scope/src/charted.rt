@@ -1,6 +1,6 @@
 //! What a chart shows of a journal: the runs and the marks, joined as they go by while it is read.
 
-ghost use Rattle.std.specs.Prelude.{◌≡◌, IfSome, option_map};
+ghost use Rattle.std.specs.Prelude.{◌≡◌, max, IfSome, option_map};
 ghost use Rattle.scope.specs.RunBars.{run_bar_end};
 
 use crate::journal::job::JobRequest;
@@ -21,6 +21,8 @@ pub(crate) struct HeardMarks<'a> {
     pub(crate) gathering: Gathering,
     /// How many refusals were of jobs that were not loaded before.
     pub(crate) rowless: u64,
+    /// What was before this second is left out.
+    pub(crate) since: u64,
     /// The least and the greatest second that the clock showed.
     pub(crate) from: u64,
     pub(crate) until: u64,
@@ -33,6 +35,7 @@ impl HeardMarks<'_> {
             labels,
             gathering: Gathering::new(alloc),
             rowless: 0,
+            since: 0,
             from: u64::MAX,
             until: 0,
         }
@@ -40,8 +43,11 @@ impl HeardMarks<'_> {
 
     /// Takes in what the journal's last line gave at this second.
     pub(crate) fn hear(&mut self, at: u64, news: &[News]) -> Result<(), AllocError> {
-        self.from = self.from.min(at);
+        self.from = self.from.min(at.max(self.since));
         self.until = self.until.max(at);
+        if at < self.since {
+            return Ok(());
+        }
         for news in news {
             if is_named(self.labels, news.label.as_str()) {
                 self.hear_news(news, at)?;
@@ -50,10 +56,26 @@ impl HeardMarks<'_> {
         Ok(())
     }
 
+    /// A launcher ended at this second: the runs that lived are drawn to there.
+    pub(crate) fn end(&mut self, past: &Past, at: u64) -> Result<(), AllocError> {
+        let axis = Axis::new(at.saturating_sub(1), at, PLACES);
+        for (label, job) in &past.jobs {
+            if let (Some(run), true) = (
+                &job.record.current,
+                is_named(self.labels, label.as_str()) && at >= self.since,
+            ) {
+                if let Some(bar) = bar_of(&axis, run) {
+                    self.gathering.add(run.job, since(bar, self.since))?;
+                }
+            }
+        }
+        Ok(())
+    }
+
     fn hear_news(&mut self, news: &News, at: u64) -> Result<(), AllocError> {
         if let What::Ended { run, .. } = &news.what {
             if let Some(bar) = bar_of(&Axis::new(at, at, PLACES), run) {
-                self.gathering.add(run.job, bar)?;
+                self.gathering.add(run.job, since(bar, self.since))?;
             }
         }
         match (mark_of(&news.what), news.serial) {
@@ -103,6 +125,16 @@ pub(crate) fn bar_of(axis: &Axis, run: &JobRun) -> Option<Bar>
     };
     let begun = run.begun.wall;
     Some(Bar::of_run(axis, run.run, end, begun, run.ended.wall))
+}
+
+// The part of the bar from that second on.
+fn since(bar: Bar, from: u64) -> Bar
+    ensures { result ≡ record bar { from = max bar.from from } }
+{
+    Bar {
+        from: bar.from.max(from),
+        ..bar
+    }
 }
 
 /// The chart of the journal's jobs, or of those named that it has.
@@ -156,7 +188,7 @@ impl Rows {
         for of in &heard.gathering.rows {
             self.add_gathered(of)?;
         }
-        self.add_living(past)
+        self.add_living(past, heard.since)
     }
 
     fn add_job(&mut self, alloc: Global, label: &str, serial: u64) -> Result<(), AllocError> {
@@ -178,21 +210,21 @@ impl Rows {
     }
 
     // The runs that live.
-    fn add_living(&mut self, past: &Past) -> Result<(), AllocError> {
+    fn add_living(&mut self, past: &Past, from: u64) -> Result<(), AllocError> {
         for (_, job) in &past.jobs {
             if let Some(run) = &job.record.current {
-                self.add_run(run)?;
+                self.add_run(run, from)?;
             }
         }
         Ok(())
     }
 
     // Adds the run, if it began and has a row.
-    fn add_run(&mut self, run: &JobRun) -> Result<(), AllocError> {
+    fn add_run(&mut self, run: &JobRun, from: u64) -> Result<(), AllocError> {
         let axis = self.chart.axis;
         let place = place_of(self.places.as_slice(), run.job).unwrap_or(usize::MAX);
         match (self.chart.rows.get_mut(place), bar_of(&axis, run)) {
-            (Some(row), Some(bar)) => row.add(&axis, bar),
+            (Some(row), Some(bar)) => row.add(&axis, since(bar, from)),
             _ => Ok(()),
         }
     }

@@ -15,6 +15,7 @@ mod page;
 mod program;
 mod report;
 mod texts;
+mod window;
 mod writer;
 mod zone;
 

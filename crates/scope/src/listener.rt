@@ -8,6 +8,7 @@ use crate::journal::fault::JournalFault;
 use crate::journal::lines::Hears;
 use crate::journal::reader::{OpenJournal, open};
 use crate::texts::log::add_lines;
+use crate::window::{Told, Window};
 use calendar_due::Zone;
 use launchctl_words::{ScopeCommand, Task};
 use run_times::Filling::Now;
@@ -25,17 +26,36 @@ pub(crate) struct JournalListener<'a> {
     pub(crate) journal: Option<OpenJournal>,
     pub(crate) heard: HeardMarks<'a>,
     pub(crate) utc: Zone,
+    pub(crate) window: Window,
+    /// The seconds of the window, by the zone of the last header.
+    told: Told,
 }
 
 impl JournalListener<'_> {
     /// Nothing is heard yet of what the command asks for.
-    pub(crate) fn new(alloc: Global, of: &ScopeCommand) -> JournalListener<'_> {
+    pub(crate) fn new(alloc: Global, of: &ScopeCommand, window: Window) -> JournalListener<'_> {
         JournalListener {
             alloc,
             of,
             journal: None,
             heard: HeardMarks::new(alloc, of.words.as_slice()),
             utc: utc(),
+            window,
+            told: Told {
+                since: 0,
+                until: u64::MAX,
+            },
+        }
+    }
+
+    // The seconds of the window, by the zone of the header.
+    fn told(&self) -> Result<Told, JournalFault> {
+        match &self.journal {
+            Some(journal) => {
+                let zone = zone_shown(self.of, &self.utc, &journal.zone);
+                self.window.told(zone)
+            }
+            None => Ok(self.told),
         }
     }
 
@@ -50,7 +70,12 @@ impl JournalListener<'_> {
                 Err(_) => Err(JournalFault::NoMemory),
             },
             kept => {
-                drop(mem::replace(kept, Some(open(self.alloc, line)?)));
+                let mut opened = open(self.alloc, line)?;
+                if let Some(before) = kept {
+                    let last = before.table.reading();
+                    opened.past.follow(&mut before.past, last);
+                }
+                drop(mem::replace(kept, Some(opened)));
                 Ok(true)
             }
         }
@@ -66,7 +91,24 @@ impl Hears for JournalListener<'_> {
         is_header: bool,
         shown: &mut String,
     ) -> Result<bool, JournalFault> {
+        let ended = match (&self.journal, self.of.task) {
+            (Some(journal), Task::Picture) if is_header => self
+                .heard
+                .end(&journal.past, journal.table.reading().wall),
+            _ => Ok(()),
+        };
+        if ended.is_err() {
+            return Err(JournalFault::NoMemory);
+        }
         let is_event = self.take(line, is_header)?;
+        if is_header {
+            let told = self.told()?;
+            self.told = told;
+            self.heard.since = told.since;
+            if let Some(journal) = &mut self.journal {
+                journal.past.from = told.since;
+            }
+        }
         let heard = match (self.of.task, &self.journal) {
             (Task::Picture, Some(journal)) => {
                 let at = journal.table.reading().wall;
@@ -74,7 +116,12 @@ impl Hears for JournalListener<'_> {
             }
             (Task::Log, Some(journal)) => {
                 let zone = zone_shown(self.of, &self.utc, &journal.zone);
-                add_shown(self.alloc, self.of, journal, zone, is_header, shown)
+                let is_told = is_within(self.told, journal.table.reading().wall);
+                if is_told && (is_header || !journal.past.news.is_empty()) {
+                    add_shown(self.alloc, self.of, journal, zone, is_header, shown)
+                } else {
+                    Ok(())
+                }
             }
             _ => Ok(()),
         };
@@ -90,7 +137,11 @@ pub(crate) fn zone_shown<'a>(of: &ScopeCommand, utc: &'a Zone, journals: &'a Zon
     if of.is_utc { utc } else { journals }
 }
 
-// Adds the lines for what the journal's last line gave, if it is late enough. Behind the header's line stands that a launcher began.
+fn is_within(told: Told, second: u64) -> bool {
+    told.since <= second && second <= told.until
+}
+
+// Adds the lines for what the journal's last line gave. Behind the header's line stands that a launcher began.
 fn add_shown(
     alloc: Global,
     of: &ScopeCommand,
@@ -100,10 +151,6 @@ fn add_shown(
     shown: &mut String,
 ) -> Result<(), AllocError> {
     let now = journal.table.reading();
-    let is_early = now.wall < of.since.unwrap_or(0);
-    if is_early || (journal.past.news.is_empty() && !is_header) {
-        return Ok(());
-    }
     let mut page = Page::new(alloc, zone, now);
     let front = if is_header {
         "$  the launcher began\n"

@@ -50,8 +50,8 @@ fn add(
     Ok(())
 }
 
-// The second at which the present interval is over, if there is one.
-fn interval_end(table: &JobTable, label: &str, now: Reading) -> Option<u64> {
+/// The second at which the present interval is over, if there is one.
+pub(crate) fn interval_end(table: &JobTable, label: &str, now: Reading) -> Option<u64> {
     let up = table.moments(label)?.interval?;
     Some(coming_second(now, up))
 }

@@ -11,7 +11,9 @@ use definition_files::{Asked, HostFiles};
 use exit_status::{BAD_CLOCK, BAD_FILE, USAGE};
 use files_and_process::path_files::files_at;
 use history_model::{MAX_WALL, Text};
-use launchctl_words::{Meaning, ScopeCommand, Task, WordFault, explain_scope, read_scope_words};
+use launchctl_words::{
+    Meaning, ScopeCommand, Task, WordFault, ZoneWords, explain_scope, read_scope_words,
+};
 use run_times::telling::{put, tell_end, want_memory};
 use std::alloc::Global;
 use std::io;
@@ -56,7 +58,8 @@ fn run<W: Wait>(
     command: &ScopeCommand,
 ) -> io::Result<u8> {
     match command.task {
-        Task::Check | Task::Next => by_zone(host, alloc, command),
+        Task::Next => next(host, waits, alloc, command),
+        Task::Check => by_zone(host, alloc, command),
         Task::Cron => by_lines(host, alloc, command),
         Task::Plist => of_lists(host, alloc, command),
         _ => match file_asked(host, command)? {
@@ -67,6 +70,37 @@ fn run<W: Wait>(
             }
             None => report(host, waits, alloc, command),
         },
+    }
+}
+
+// The coming starts of definitions, or of a journal's jobs if no PATH stands.
+fn next<W: Wait>(
+    host: &HostRuntime,
+    waits: &W,
+    alloc: Global,
+    of: &ScopeCommand,
+) -> io::Result<u8> {
+    let is_journal = of.words.as_slice().is_empty();
+    let names_zone = match of.zone {
+        ZoneWords::Default => false,
+        _ => true,
+    };
+    let names_journal = of.is_all || !of.journals.as_slice().is_empty();
+    if is_journal && names_zone {
+        tell_wrong(host, "jobscope: next: --zone and --zone-file need a PATH\n");
+        return Ok(USAGE);
+    }
+    if !is_journal && names_journal {
+        tell_wrong(
+            host,
+            "jobscope: next: --journal and --all stand without a PATH\n",
+        );
+        return Ok(USAGE);
+    }
+    if is_journal {
+        report(host, waits, alloc, of)
+    } else {
+        by_zone(host, alloc, of)
     }
 }
 

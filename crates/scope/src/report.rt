@@ -1,7 +1,7 @@
 //! What is told of a journal: its events, as they are read or as they come, and once it was read to its end why each job stands as it
 //! does, also as of a moment before, what its runs came to, and their picture, the definitions that are loaded, and how files differ from them.
 
-use crate::age::AsOf;
+use crate::age::{AsOf, clock_as_of, reading_as_of};
 use crate::at::read_up_to;
 use crate::by_file::FAILS;
 use crate::charted::{HeardMarks, chart_of};
@@ -10,19 +10,22 @@ use crate::drift::drift_of;
 use crate::journal::fault::{JournalFault, tell_fault, tell_long};
 use crate::journal::lines::JournalLines;
 use crate::journal::reader::OpenJournal;
-use crate::journal::source::{INPUT, journal_path, read_journal, tell_bad};
+use crate::journal::source::{INPUT, journal_paths, read_journal, tell_bad};
 use crate::listener::{JournalListener, zone_shown};
 use crate::log::follow;
 use crate::page::coming_of;
 use crate::texts::failing::failing_text;
 use crate::texts::log::is_named;
+use crate::texts::next::{AskedStarts, ComingLines, next_lines};
 use crate::texts::runs::runs_table;
 use crate::texts::show::show_text;
 use crate::texts::unknown::unknown_text;
 use crate::texts::why::{is_known, why_text};
+use crate::window::window_of;
 use crate::writer::writer_of;
 use calendar_due::Zone;
 use definition_files::check::put_seen;
+use definition_files::tell_clockless;
 use exit_status::BAD_FILE;
 use history_model::Text;
 use launchctl_words::{ScopeCommand, Task};
@@ -35,6 +38,13 @@ use std::io;
 use std::io::IsTerminal;
 use std::sync::Wait;
 
+/// How many starts are shown where the words do not say it, if all are asked for.
+const COUNT: u64 = 10;
+
+/// What is told where a journal would be waited for at a terminal.
+const NOT_NAMED: &str =
+    "a terminal gives no journal: name one by --journal PATH, or export JOBD_JOURNAL";
+
 /// Writes what is told of the jobs of the journal, or of those that are named; of a log the events from the command's second on, each in a
 /// line. If the command follows, it goes on as the journal's file grows; only this may wait. 65 if the journal can't be read, if a line is no
 /// event or too long, if nothing has a label that `why` is asked of, or if the journal begins behind the moment that is asked of; 71 if the
@@ -45,37 +55,99 @@ pub(crate) fn report<W: Wait>(
     alloc: Global,
     of: &ScopeCommand,
 ) -> io::Result<u8> {
-    let path = journal_path(host, of)?;
-    let mut lines = JournalLines::new(alloc);
-    let mut listener = JournalListener::new(alloc, of);
-    let status = match &path {
-        Some(path) if of.follows => {
-            follow(host, waits, alloc, path.as_str(), &mut lines, &mut listener)
-        }
-        path => report_by(host, alloc, path, &mut lines, &mut listener),
+    let window = match window_of(host, of) {
+        Ok(window) => window,
+        Err(status) => return Ok(status),
     };
+    let paths = journal_paths(host, of)?;
+    let mut lines = JournalLines::new(alloc);
+    let mut listener = JournalListener::new(alloc, of, window);
+    let status = report_on(
+        host,
+        waits,
+        alloc,
+        paths.as_slice(),
+        &mut lines,
+        &mut listener,
+    );
     drop(listener);
     drop(lines);
-    drop(path);
+    drop(paths);
     status
+}
+
+// Of several journals the last is the present launcher's; each of the others is read whole before.
+fn report_on<W: Wait>(
+    host: &HostRuntime,
+    waits: &W,
+    alloc: Global,
+    paths: &[Text],
+    lines: &mut JournalLines,
+    listener: &mut JournalListener<'_>,
+) -> io::Result<u8> {
+    let [before @ .., last] = paths else {
+        return if host.stdin().is_terminal() {
+            tell_of(host, INPUT, &NOT_NAMED);
+            Ok(BAD_FILE)
+        } else {
+            report_by(host, alloc, None, lines, listener)
+        };
+    };
+    let status = read_before(host, alloc, before, listener)?;
+    let path = last.as_str();
+    let told = if listener.of.follows {
+        follow(host, waits, alloc, path, lines, listener)
+    } else {
+        report_by(host, alloc, Some(path), lines, listener)
+    };
+    match told {
+        Ok(told) => Ok(told.max(status)),
+        Err(error) => Err(error),
+    }
+}
+
+// Reads each journal whole, and tells what is at fault in it. It answers the greatest exit status.
+fn read_before(
+    host: &HostRuntime,
+    alloc: Global,
+    paths: &[Text],
+    listener: &mut JournalListener<'_>,
+) -> io::Result<u8> {
+    let mut status = 0;
+    for path in paths {
+        let path = path.as_str();
+        let mut lines = JournalLines::new(alloc);
+        let is_quiet = is_quiet(listener.of.task);
+        let told = match read_journal(host, Some(path), is_quiet, &mut lines, listener) {
+            Ok(()) => Ok(tell_bad(host, path, &lines)),
+            Err(fault) => tell_fault(host, path, fault),
+        };
+        drop(lines);
+        match told {
+            Ok(told) => status = told.max(status),
+            Err(error) => return Err(error),
+        }
+    }
+    Ok(status)
+}
+
+// Nothing is shown while a journal is read.
+fn is_quiet(task: Task) -> bool {
+    match task {
+        Task::Log => false,
+        _ => true,
+    }
 }
 
 fn report_by(
     host: &HostRuntime,
     alloc: Global,
-    path: &Option<String>,
+    path: Option<&str>,
     lines: &mut JournalLines,
     listener: &mut JournalListener<'_>,
 ) -> io::Result<u8> {
-    let path = match path {
-        Some(path) => Some(path.as_str()),
-        None => None,
-    };
     let name = path.unwrap_or(INPUT);
-    let is_quiet = match listener.of.task {
-        Task::Log => false,
-        _ => true,
-    };
+    let is_quiet = is_quiet(listener.of.task);
     let (read, as_of) = match read_as_of(host, alloc, path, is_quiet, lines, listener) {
         Ok(as_of) => (tell_bad(host, name, lines), as_of),
         // What came before that line is told.
@@ -98,11 +170,19 @@ fn read_as_of(
     listener: &mut JournalListener<'_>,
 ) -> Result<AsOf, JournalFault> {
     let of = listener.of;
-    if let Some(moment) = of.at {
-        return read_up_to(host, alloc, path, moment, lines, listener);
+    let window = listener.window;
+    match (window.at, window.until, of.task) {
+        (Some(moment), _, _) => {
+            return read_up_to(host, alloc, path, moment, None, lines, listener);
+        }
+        (None, Some(moment), Task::Runs | Task::Picture) => {
+            let now = Some(window.now);
+            return read_up_to(host, alloc, path, moment, now, lines, listener);
+        }
+        _ => {}
     }
     match (read_journal(host, path, is_quiet, lines, listener), of.task) {
-        (Ok(()), Task::Why) => seen_now(host, alloc, path, of),
+        (Ok(()), Task::Why | Task::Next) => seen_now(host, alloc, path, of),
         (Ok(()), _) => Ok(AsOf::End),
         (Err(fault), _) => Err(fault),
     }
@@ -148,9 +228,10 @@ fn write_report(
             return put_failing(host, alloc, name, journal, zone, labels, as_of);
         }
         Task::Why => put_made(host, why_text(alloc, journal, zone, labels, as_of)),
-        Task::Runs => put_runs(host, alloc, name, journal, labels),
+        Task::Runs => put_runs(host, alloc, name, journal, labels, as_of),
         Task::Picture => paint(host, alloc, journal, zone, &listener.heard, of),
         Task::Show => put_made(host, show_text(alloc, journal, zone, labels)),
+        Task::Next => put_next(host, alloc, name, journal, zone, of, as_of),
         Task::Drift => {
             return put_outcome(&mut host.stdout(), drift_of(host, alloc, journal, labels));
         }
@@ -190,12 +271,41 @@ fn put_runs(
     name: &str,
     journal: &OpenJournal,
     labels: &[Text],
+    as_of: AsOf,
 ) -> io::Result<()> {
     if journal.past.dropped > 0 {
         tell_of(host, name, &"medians are over the last 131072 runs");
     }
-    let now = journal.table.reading();
+    let now = reading_as_of(as_of, journal.table.reading());
     put_made(host, runs_table(alloc, &journal.past, now, labels))
+}
+
+// The coming starts, behind the second as of which the journal's end is seen.
+fn put_next(
+    host: &HostRuntime,
+    alloc: Global,
+    name: &str,
+    journal: &OpenJournal,
+    zone: &Zone,
+    of: &ScopeCommand,
+    as_of: AsOf,
+) -> io::Result<()> {
+    let last = journal.table.reading();
+    let count = if of.is_all { COUNT } else { u64::MAX };
+    let asked = AskedStarts {
+        zone,
+        as_of,
+        now: clock_as_of(as_of, last).wall,
+        count: of.count.unwrap_or(count),
+        is_all: of.is_all,
+    };
+    let ComingLines {
+        text,
+        jobs,
+        clockless,
+    } = next_lines(alloc, journal, asked)?;
+    tell_clockless(host, name, clockless, jobs);
+    put_made(host, Ok(text))
 }
 
 // What is seen now of what a start of a job needs, of each whose last start was refused. It comes last: a path on a file system that hangs

@@ -157,10 +157,13 @@ EXPLAINED = [
     ("jobctl --help", True, False, "69 no answer"),
     ("jobctl --help", True, False, "74 the reply can't be printed"),
     ("jobctl --help", True, False, "that of JOBD_SOCKET"),
+    ("jobctl --help", True, False, "Why a job does not run: jobscope why LABEL. Manual pages: jobctl(1), jobscope(1), jobd.json(5), jobd(8).\n"),
     ("jobctl start --help", True, False, "jobctl --help has the exit statuses."),
     ("jobctl --help", True, False, "\nKivgrond 0.2.0\n"),
     ("jobctl start", False, False, "LABEL"),
     ("jobctl lis", False, False, "list"),
+    ("jobctl list a", False, False, "jobctl: unexpected argument 'a' found"),
+    ("jobctl", False, False, "jobctl: "),
     ("jobd --help", True, False, "overrides"),
     ("jobd replay --help", True, False, "4 a line too long"),
     ("jobd serve --help", True, False, "--zone-file"),
@@ -169,6 +172,7 @@ EXPLAINED = [
     ("jobd serve --help", True, False, "10 the spool"),
     ("jobd overrides --help", True, False, "3 output failed"),
     ("jobd serve", False, False, "--spool"),
+    ("jobd", False, False, "jobd: "),
     ("jobctl start gui/501/a", False, True, "jobctl: gui/501/a is no label (start takes a label; kickstart and print take a target)"),
     ("jobctl stop system/a", False, True, "jobctl: system/a is no label (stop takes a label; kickstart and print take a target)"),
     ("jobctl start ''", False, True, 'jobctl: "" is no label (a label has 1 to 255 bytes, no / and no control character)'),
@@ -292,7 +296,7 @@ def words_that_are_no_command_of_jobd(stage):
 
 
 def help_and_what_is_wrong(stage):
-    """Help is printed. Of words that are no command it is told which is none, and why."""
+    """Help is printed. Of words that are no command it is told in one line which is none, and why."""
     for line, is_help, is_whole, part in EXPLAINED:
         if line.startswith("jobctl"):
             seen = run(stage, words_of(stage, line), IS_MISSING)
@@ -302,7 +306,8 @@ def help_and_what_is_wrong(stage):
             got = (ran.returncode, ran.stdout, ran.stderr)
         text, silent = got[1:] if is_help else (got[2], got[1])
         is_told = text == part + "\n" if is_whole else part in text
-        check(got[0] == (0 if is_help else 64) and is_told and not silent, f"{line!r} gives {got}")
+        is_one_line = is_help or text.count("\n") == 1
+        check(got[0] == (0 if is_help else 64) and is_told and is_one_line and not silent, f"{line!r} gives {got}")
 
 
 # A first word, and the program that it means.

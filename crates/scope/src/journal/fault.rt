@@ -20,6 +20,8 @@ pub enum JournalFault {
     BadSettings,
     /// The header's moment is behind the one that is asked of.
     BeginsLater,
+    /// No clock of its zone shows the date of a moment.
+    NoDate,
     /// A moment is asked of a journal that has no file.
     NoFile,
     /// A line is longer than one may be.
@@ -58,8 +60,10 @@ pub(crate) fn tell_fault(host: &HostRuntime, name: &str, fault: JournalFault) ->
         JournalFault::NoHeader => "line 1: no whole line, where a journal has its header",
         JournalFault::BadHeader => "line 1: no header of a journal",
         JournalFault::BadZone => "line 1: the header's zone is none",
-        JournalFault::BeginsLater => "it begins behind the moment of --at",
-        JournalFault::NoFile => "--at reads a journal more than once, so it needs its file",
+        JournalFault::NoDate => "the clock of its zone shows no such date as that of a moment",
+        JournalFault::BeginsLater => "it begins behind the moment that is asked of",
+        JournalFault::NoFile =>
+            "a moment up to which it is told needs its file, which is read more than once",
         JournalFault::BadSettings => {
             "line 1: a setting's name is no label, or the reading is past its limit"
         }

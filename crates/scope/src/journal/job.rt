@@ -36,6 +36,8 @@ pub(crate) struct Totals {
     /// Runs that ended with a code, and by a signal.
     pub(crate) codes: u64,
     pub(crate) signals: u64,
+    /// Runs that ended with a code above 0; each is among the codes.
+    pub(crate) failures: u64,
     /// Runs that ended by a crash; each is among the signals.
     pub(crate) crashes: u64,
     /// The time that runs which are over lived.
@@ -54,6 +56,7 @@ const NOTHING: Totals = Totals {
     starts: 0,
     refused: 0,
     codes: 0,
+    failures: 0,
     signals: 0,
     crashes: 0,
     lived: 0,
@@ -71,6 +74,17 @@ pub(crate) struct KeptJob {
     /// The text of its definition, while it is loaded.
     pub(crate) text: Option<String>,
     pub(crate) record: Record,
+}
+
+impl KeptJob {
+    /// Its launcher is gone, and so is the job, if it was loaded.
+    pub(crate) fn lose(&mut self, at: Reading) {
+        if self.def.is_some() {
+            self.record.lose(at);
+        }
+        drop(self.def.take());
+        drop(self.text.take());
+    }
 }
 
 /// What is kept of a job.
@@ -105,6 +119,8 @@ pub(crate) struct Record {
     pub(crate) quick_ends: u64,
     /// From when on it has no run.
     idle: Reading,
+    /// From when on the times of the totals count.
+    counted: Reading,
     /// When the last of it was gone.
     pub(crate) gone: Reading,
     totals: Totals,
@@ -130,6 +146,7 @@ impl Record {
             is_kept_alive: false,
             quick_ends: 0,
             idle: at,
+            counted: at,
             gone: at,
             totals: NOTHING,
         }
@@ -141,6 +158,13 @@ impl Record {
         record.gone = self.gone;
         record.totals = self.totals;
         record
+    }
+
+    /// It is counted from this reading on, and what was counted before is forgotten.
+    pub(crate) fn count_from(&mut self, at: Reading) {
+        self.totals = NOTHING;
+        self.counted = at;
+        self.idle = at;
     }
 
     /// A start was ordered.
@@ -244,6 +268,7 @@ impl Record {
             Ended::Code(code) => {
                 run.end = RunEnd::Code(code);
                 totals.codes = totals.codes.saturating_add(1);
+                totals.failures = totals.failures.saturating_add(u64::from(code > 0));
             }
             Ended::Signal(signal) => {
                 run.end = RunEnd::Signal(signal);
@@ -254,7 +279,8 @@ impl Record {
             totals.crashes = totals.crashes.saturating_add(1);
         }
         let lived = run.lived(at);
-        totals.lived = totals.lived.saturating_add(lived);
+        let begun = run.begun.up.max(self.counted.up);
+        totals.lived = totals.lived.saturating_add(at.up.saturating_sub(begun));
         totals.shortest = totals.shortest.min(lived);
         totals.longest = totals.longest.max(lived);
         self.quick_ends = match how {
@@ -281,9 +307,16 @@ impl Record {
         }
     }
 
+    /// Its launcher is gone: the present run counts as long as is known of it.
+    pub(crate) fn lose(&mut self, at: Reading) {
+        self.totals = self.totals_at(true, at);
+        self.current = None;
+        self.gone = at;
+    }
+
     /// It is gone.
     pub(crate) fn leave(&mut self, at: Reading) {
-        let loaded = at.up.saturating_sub(self.loaded.up);
+        let loaded = at.up.saturating_sub(self.counted.up);
         self.totals.gap = self.gap_at(at);
         self.totals.loaded = self.totals.loaded.saturating_add(loaded);
         self.gone = at;
@@ -298,7 +331,7 @@ impl Record {
     pub(crate) fn totals_at(&self, is_loaded: bool, at: Reading) -> Totals {
         let mut totals = self.totals;
         if is_loaded {
-            let loaded = at.up.saturating_sub(self.loaded.up);
+            let loaded = at.up.saturating_sub(self.counted.up);
             totals.loaded = totals.loaded.saturating_add(loaded);
         }
         if let Some(
@@ -309,7 +342,8 @@ impl Record {
             },
         ) = &self.current
         {
-            totals.lived = totals.lived.saturating_add(at.up.saturating_sub(begun.up));
+            let begun = begun.up.max(self.counted.up);
+            totals.lived = totals.lived.saturating_add(at.up.saturating_sub(begun));
         } else if is_loaded {
             totals.gap = self.gap_at(at);
         }

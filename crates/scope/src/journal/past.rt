@@ -1,5 +1,6 @@
 //! What is kept of all jobs: by their labels, and the runs that are over.
 
+use crate::age::{gone_on, within_limits};
 use crate::journal::job::{JobRequest, KeptJob, Record};
 use crate::journal::labels::KnownLabels;
 use crate::journal::news::News;
@@ -8,6 +9,7 @@ use history_model::Reading;
 use job_defs::Def;
 use std::alloc::{AllocError, Global};
 use std::collections::{BTreeMap, VecDeque};
+use std::mem;
 
 /// So many labels are kept. Beyond them, one that is not loaded is forgotten for each new one.
 pub(crate) const MOST_LABELS: usize = 8_192;
@@ -28,6 +30,9 @@ pub(crate) struct Past {
     pub(crate) dropped: u64,
     /// What the last line gave, in order.
     pub(crate) news: Vec<News>,
+    /// The second from which on it counts, and whether it does.
+    pub(crate) from: u64,
+    counts: bool,
     /// The serial number of the job that was last new.
     serial: u64,
     /// How many questions were kept, and which of them asked for the last shutdown, and when.
@@ -43,9 +48,38 @@ impl Past {
             runs: VecDeque::new(alloc),
             dropped: 0,
             news: Vec::new(alloc),
+            from: 0,
+            counts: false,
             serial: 0,
             asks: 0,
             shut_down: None,
+        }
+    }
+
+    /// The clocks went on from the one reading to the other. If the second from which on it counts is reached, what was counted before is
+    /// forgotten: it counts from the reading at that second, if both clocks went on alike.
+    pub(crate) fn reach(&mut self, last: Reading, now: Reading) {
+        if self.counts || now.wall < self.from {
+            return;
+        }
+        self.counts = true;
+        let begun = gone_on(within_limits(last), self.from);
+        for (_, job) in &mut self.jobs {
+            job.record.count_from(begun);
+        }
+        self.runs.clear();
+        self.dropped = 0;
+    }
+
+    /// It goes on where that of a launcher before ended: what was counted stays, and what was loaded at this reading of that launcher is gone.
+    pub(crate) fn follow(&mut self, before: &mut Past, last: Reading) {
+        mem::swap(&mut self.jobs, &mut before.jobs);
+        mem::swap(&mut self.runs, &mut before.runs);
+        self.dropped = before.dropped;
+        self.serial = before.serial;
+        self.counts = before.counts;
+        for (_, job) in &mut self.jobs {
+            job.lose(last);
         }
     }
 

@@ -117,6 +117,7 @@ fn take_in(
     if table.is_question(event) {
         return Ok(());
     }
+    let last = table.reading();
     let made = match table.take(alloc, event) {
         Ok(_) => Ok(table.reading()),
         Err(Refusal::NoMemory) => return Err(AllocError),
@@ -124,6 +125,7 @@ fn take_in(
     };
     let wait = wait_after(table, event);
     let now = table.reading();
+    past.reach(last, now);
     match (past.note(alloc, event, made, wait, now), made) {
         (Ok(()), Ok(at)) => note_orders(alloc, table, past, at),
         (noted, _) => noted,

@@ -7,12 +7,13 @@ ghost use Rattle.scope.specs.Journals.{Reads, HearsPiece, HearsAll};
 use crate::journal::fault::JournalFault;
 use crate::journal::lines::{Hears, JournalLines};
 use exit_status::BAD_FILE;
-use launchctl_words::ScopeCommand;
-use run_times::telling::{put, tell_line};
+use history_model::Text;
+use launchctl_words::{Paths, ScopeCommand, Task};
+use run_times::telling::{put, tell_line, tell_of};
 use run_times::{Ink, Piece};
 use std::alloc::AllocError;
 use std::env::VarError;
-use std::fs::File;
+use std::fs::{File, metadata};
 use std::io::{ErrorKind, IsTerminal, Read};
 use std::{env, io};
 
@@ -139,25 +140,59 @@ fn tell_done(host: &HostRuntime, is_told: bool) {
     }
 }
 
-/// The journal's path: that of the words, else that of `JOBD_JOURNAL`. None: it comes on standard input.
-pub(crate) fn journal_path(
-    host: &HostRuntime,
-    of: &ScopeCommand,
-) -> Result<Option<String>, AllocError> {
-    if let Some(path) = &of.journal {
-        return Ok(Some(String::from_str(host.alloc(), path.as_str())?));
+/// The journal of the package.
+const PACKAGED: &str = "/var/lib/jobd/journal.jsonl";
+
+/// The paths of the journals, the oldest first: those of the words, else that of `JOBD_JOURNAL`; and if standard input is a terminal, that of the
+/// package, which is told. None: the journal comes on standard input.
+pub(crate) fn journal_paths(host: &HostRuntime, of: &ScopeCommand) -> Result<Paths, AllocError> {
+    let mut paths = Vec::new(host.alloc());
+    for path in of.journals.as_slice() {
+        paths.push(Text::copy_of(host.alloc(), path.as_str())?)?;
+    }
+    if !paths.is_empty() {
+        return Ok(Paths::new(paths));
     }
     match env::var(host, "JOBD_JOURNAL") {
-        Ok(path) if path.is_empty() => Ok(None),
-        Ok(path) => Ok(Some(path)),
-        Err(VarError::OutOfMemory) => Err(AllocError),
-        Err(_) => Ok(None),
+        Ok(path) => add_path(host, of, path.as_str(), &mut paths)?,
+        Err(VarError::OutOfMemory) => return Err(AllocError),
+        Err(_) => {}
     }
+    if paths.is_empty() && host.stdin().is_terminal() && open_journal(host, PACKAGED).is_ok() {
+        tell_of(host, PACKAGED, &"read, since no journal is named");
+        add_path(host, of, PACKAGED, &mut paths)?;
+    }
+    Ok(Paths::new(paths))
+}
+
+// Adds the path, if it is not empty. Behind the one with `.1`, if that is there, and if what is told of the past is asked for.
+fn add_path(
+    host: &HostRuntime,
+    of: &ScopeCommand,
+    path: &str,
+    paths: &mut Vec<Text>,
+) -> Result<(), AllocError> {
+    if path.is_empty() {
+        return Ok(());
+    }
+    let is_past = match of.task {
+        Task::Log => !of.follows,
+        Task::Runs | Task::Picture => true,
+        _ => false,
+    };
+    let alloc = host.alloc();
+    let before = Text::new(format!(in alloc; "{path}.1")?);
+    if is_past && metadata(host, before.as_str()).is_ok() {
+        paths.push(before)?;
+    } else {
+        drop(before);
+    }
+    Ok(paths.push(Text::copy_of(alloc, path)?)?)
 }
 
 /// Opens a journal's file. InvalidInput for what is no plain file: it is not opened, so that nothing waits at a FIFO.
 pub(crate) fn open_journal(host: &HostRuntime, path: &str) -> io::Result<File> {
-    if !std::fs::metadata(host, path)?.is_file() {
+    if !metadata(host, path)?.is_file() {
         return Err(io::Error::new(ErrorKind::InvalidInput, "no plain file"));
     }
     File::open(host, path)

@@ -1,0 +1,8 @@
+//! Moments as people write them in words, and the second of Unix time that each means by a clock.
+#![tactic(auto)]
+
+mod meaning;
+mod reading;
+
+pub use meaning::{Moment, Time, second_of};
+pub use reading::{WANTED, read_moment};

@@ -1,0 +1,132 @@
+//! What a moment means by the clock of a zone. The clock is asked what it shows, minute by minute; no offset is reckoned with.
+
+ghost use Rattle.std.specs.Prelude.{◌≡◌, ◌↔◌, ◌≤◌, ◌+◌, ◌*◌, IsTrue, IfSome};
+ghost use Rattle.history_model.specs.declared.TheConstants.{MAX_WALL};
+ghost use Rattle.calendar_due.specs.ZoneRules.{minute_at};
+ghost use Rattle.moment_words.specs.Shown.{IsOn, IsFirstShown};
+ghost use Rattle.moment_words.specs.Meant.{IsFirstOf, IsOfDayBefore, Means, with_time};
+
+use calendar_due::Zone;
+use history_model::{CivilMinute, MAX_WALL};
+
+/// So many seconds about a moment its day is looked for: three days. A zone is at most a day from UTC.
+pub const REACH: u64 = 259_200;
+
+/// A time of a day.
+#[derive(Clone, Copy)]
+pub struct Time {
+    pub hour: u8,
+    pub minute: u8,
+    pub second: u8,
+}
+
+/// A moment as it is written.
+#[derive(Clone, Copy)]
+pub enum Moment {
+    /// This second of Unix time.
+    Second(u64),
+    /// So many seconds before now.
+    Ago(u64),
+    /// This time of the present day, or of the day before.
+    OfToday(Time),
+    OfYesterday(Time),
+    /// This time of a date; of the date the year, the month and the day count.
+    OfDate(CivilMinute, Time),
+}
+
+/// The second of Unix time that the moment means at the second `now`, by a clock in the zone. Of a time of a day it is the first minute of
+/// that day at which the clock shows it, with the seconds behind; if the clock skips it, the first that follows. None if the clock shows no
+/// such minute: the date is none. Takes no memory.
+pub fn second_of(moment: Moment, zone: &Zone, now: u64) -> Option<u64>
+    requires { now ≤ MAX_WALL }
+    ensures { Means (minute_at zone.now) now moment result }
+{
+    match moment {
+        Moment::Second(second) => Some(second),
+        Moment::Ago(seconds) => Some(now.saturating_sub(seconds)),
+        Moment::OfToday(time) => first_of(zone, zone.civil_minute(now), time, now),
+        Moment::OfYesterday(time) => {
+            let midnight = first_of(zone, zone.civil_minute(now), MIDNIGHT, now);
+            of_day_before(zone, time, midnight)
+        }
+        Moment::OfDate(date, time) => first_of(zone, date, time, about(&date)),
+    }
+}
+
+/// The first of a day's minutes.
+pub(crate) const MIDNIGHT: Time = Time {
+    hour: 0,
+    minute: 0,
+    second: 0,
+};
+
+// The time of the day that ends with this midnight.
+fn of_day_before(zone: &Zone, time: Time, midnight: Option<u64>) -> Option<u64>
+    requires { IfSome midnight (λ m. m ≤ MAX_WALL) }
+    ensures { IsOfDayBefore (minute_at zone.now) time midnight result }
+{
+    let before = midnight?.saturating_sub(1);
+    first_of(zone, zone.civil_minute(before), time, before)
+}
+
+// The first second of the date's day, about that second, at which the clock shows the time or a later one.
+fn first_of(zone: &Zone, date: CivilMinute, time: Time, about: u64) -> Option<u64>
+    requires { about ≤ MAX_WALL }
+    ensures first { IsFirstOf (minute_at zone.now) (with_time date time) time.second about result }
+    ensures range { IfSome result (λ second. second ≤ MAX_WALL + time.second) }
+{
+    let wanted = CivilMinute {
+        hour: time.hour,
+        minute: time.minute,
+        ..date
+    };
+    let until = (about + REACH).min(MAX_WALL);
+    match first_shown(zone, &wanted, about.saturating_sub(REACH), until) {
+        Some(minute) => Some(minute + u64::from(time.second)),
+        None => None,
+    }
+}
+
+// The least such minute. The minutes are counted from 1970, and each is looked at in turn.
+fn first_shown(zone: &Zone, wanted: &CivilMinute, after: u64, until: u64) -> Option<u64>
+    requires { until ≤ MAX_WALL }
+    ensures { IsFirstShown (minute_at zone.now) wanted.now after until result }
+{
+    for k in after / 60..until / 60 {
+        if is_on(wanted, &zone.civil_minute(60 * (k + 1))) {
+            return Some(60 * (k + 1));
+        }
+    }
+    None
+}
+
+// The clock shows that date, and that minute of the day or a later one.
+fn is_on(wanted: &CivilMinute, shown: &CivilMinute) -> bool
+    ensures { IsTrue result ↔ IsOn wanted.now shown.now }
+{
+    let is_date = shown.year == wanted.year
+        && shown.month == wanted.month
+        && shown.day == wanted.day;
+    is_date && minutes(wanted) <= minutes(shown)
+}
+
+fn minutes(at: &CivilMinute) -> u64
+    ensures { result ≡ 60 * at.now.hour + at.now.minute }
+{
+    60 * u64::from(at.hour) + u64::from(at.minute)
+}
+
+// A second of Unix time that is less than three days from the date's day by any clock, if it is not before 1970 nor after 9891.
+fn about(date: &CivilMinute) -> u64
+    ensures { result ≤ MAX_WALL }
+{
+    let year = u64::from(date.year.unsigned_abs());
+    let years = year.saturating_sub(1970);
+    let leap = (year / 4 - year / 100 + year / 400).saturating_sub(477);
+    let month = usize::from(date.month.saturating_sub(1) % 12);
+    let days = years * 365 + leap + DAYS_BEFORE[month] + u64::from(date.day);
+    (days.saturating_sub(1) * 86_400).min(MAX_WALL)
+}
+
+/// How many days of a common year are before each month.
+const DAYS_BEFORE: [u64; 12] = [0, 31, 59, 90, 120, 151, 181, 212, 243, 273, 304, 334];

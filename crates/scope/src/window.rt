@@ -1,0 +1,96 @@
+//! Which part of a journal is told: the moments of the words, and the seconds that they mean by a journal's zone.
+
+use crate::clock::now;
+use crate::journal::fault::JournalFault;
+use calendar_due::Zone;
+use exit_status::{BAD_CLOCK, USAGE};
+use history_model::{MAX_WALL, Text};
+use launchctl_words::ScopeCommand;
+use moment_words::{Moment, WANTED, read_moment, second_of};
+
+/// The moments of the words.
+#[derive(Clone, Copy)]
+pub(crate) struct Window {
+    /// That which is asked of.
+    pub(crate) at: Option<Moment>,
+    since: Option<Moment>,
+    pub(crate) until: Option<Moment>,
+    /// The second that is now, of which those of `since` and `until` speak.
+    pub(crate) now: u64,
+}
+
+/// The whole of a journal.
+pub(crate) const WHOLE: Window = Window {
+    at: None,
+    since: None,
+    until: None,
+    now: 0,
+};
+
+/// The seconds of Unix time between which a journal is told.
+#[derive(Clone, Copy)]
+pub(crate) struct Told {
+    pub(crate) since: u64,
+    pub(crate) until: u64,
+}
+
+/// The moments that the words name. An exit status if a text is none, or if the clock can't be read; this was told.
+pub(crate) fn window_of(host: &HostRuntime, of: &ScopeCommand) -> Result<Window, u8> {
+    let words = &of.moments;
+    let at = moment_of(host, "--at", &words.at)?;
+    let since = moment_of(host, "--since", &words.since)?;
+    let until = moment_of(host, "--until", &words.until)?;
+    let second = match (of.from, since, until) {
+        (Some(second), _, _) => Some(second),
+        (None, None, None) => Some(0),
+        _ => now(host),
+    };
+    match second {
+        Some(now) => Ok(Window {
+            at,
+            since,
+            until,
+            now,
+        }),
+        None => Err(BAD_CLOCK),
+    }
+}
+
+fn moment_of(host: &HostRuntime, option: &str, text: &Option<Text>) -> Result<Option<Moment>, u8> {
+    let Some(text) = text else {
+        return Ok(None);
+    };
+    let text = text.as_str();
+    let moment = read_moment(text);
+    if moment.is_none() {
+        let wanted = WANTED;
+        let _written = eprintln!(host; "jobscope: {option} {text:?}: wanted {wanted}");
+        return Err(USAGE);
+    }
+    Ok(moment)
+}
+
+impl Window {
+    /// The seconds that it means by the zone.
+    pub(crate) fn told(&self, zone: &Zone) -> Result<Told, JournalFault> {
+        let since = self.second(self.since, zone, 0)?;
+        let until = self.second(self.until, zone, u64::MAX)?;
+        Ok(Told { since, until })
+    }
+
+    // The second of the moment, or the other one if there is none.
+    fn second(&self, moment: Option<Moment>, zone: &Zone, other: u64) -> Result<u64, JournalFault> {
+        match moment {
+            Some(moment) => meant(moment, zone, self.now),
+            None => Ok(other),
+        }
+    }
+}
+
+/// The second of Unix time that the moment means at this second.
+pub(crate) fn meant(moment: Moment, zone: &Zone, now: u64) -> Result<u64, JournalFault> {
+    match second_of(moment, zone, now.min(MAX_WALL)) {
+        Some(second) => Ok(second),
+        None => Err(JournalFault::NoDate),
+    }
+}
