@@ -89,12 +89,6 @@ pub enum Trouble {
     Line(u64, StatusFault),
 }
 
-impl From<AllocError> for Trouble {
-    fn from(_error: AllocError) -> Trouble {
-        Trouble::NoMemory
-    }
-}
-
 /// The path that the words name, else that of `JOBD_STATUS_FILE`, if it is not empty.
 pub fn named_path(host: &HostRuntime, named: &Option<Text>) -> Result<Option<String>, AllocError> {
     if let Some(path) = named {
