@@ -1,12 +1,12 @@
 //! What is kept of all jobs: by their labels, and the runs that are over.
 
-use crate::age::{gone_on, within_limits};
 use crate::journal::job::{JobRequest, KeptJob, Record};
 use crate::journal::labels::KnownLabels;
 use crate::journal::news::News;
 use crate::journal::run::JobRun;
 use history_model::Reading;
 use job_defs::Def;
+use status_page::{gone_on, within_limits};
 use std::alloc::{AllocError, Global};
 use std::collections::{BTreeMap, VecDeque};
 use std::mem;

@@ -1,16 +1,15 @@
 //! The coming starts of a journal's jobs by the clocks, in the order of time.
 
-use crate::age::{AsOf, add_head, within_limits};
+use crate::age::{AsOf, add_head};
 use crate::journal::reader::OpenJournal;
 use crate::page::interval_end;
-use crate::texts::by_facts::can_start_again;
-use crate::texts::since::{StartWhen, start_when};
 use calendar_due::Zone;
 use definition_files::calendar_after;
 use history_model::MAX_WALL;
 use job_defs::Def;
 use run_times::Filling::{Moment, Number, Text};
 use run_times::Page;
+use status_page::{StartWhen, can_start_again, start_when, within_limits};
 use std::alloc::{AllocError, Global};
 
 /// What is asked of the coming starts.
