@@ -42,7 +42,7 @@ pub fn samples_text(
 
 /// Whether a journal is open, if one is written.
 pub fn journal_flag(journal: JournalStatus<'_>) -> Option<bool>
-    ensures { result ≡ journal_flag journal }
+    ensures { result ≡ journal_flag journal.entry }
 {
     match journal {
         JournalStatus::None => None,
