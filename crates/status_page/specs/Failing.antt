@@ -6,7 +6,7 @@ use Rattle.history_model.specs.declared.reasons.Reasons.{Reasons}
 use Rattle.history_model.specs.Levels.{is_crash_end}
 use Rattle.history_model.specs.Reasons.{some_want}
 use Rattle.status_page.specs.declared.failing.Fault.{Fault}
-use Rattle.status_page.specs.declared.failing.Fault.TheVariants.{Refused, Ended, NotRunning, LauncherGone}
+use Rattle.status_page.specs.declared.failing.Fault.TheVariants as faults
 use Rattle.status_page.specs.declared.failing.LastEnd.{LastEnd}
 
 -- a run ended badly: with a code above 0, by a crash, or by a signal if its end was not ordered
@@ -37,8 +37,8 @@ is_failing lives r refused last =
 
 -- what is told of it is so
 abbrev pub FaultHolds : Bool → Reasons → Bool → Option LastEnd → Fault → Type 0
-FaultHolds lives r refused last Refused = refused ≡ true
-FaultHolds lives r refused last (Ended how) =
+FaultHolds lives r refused last faults.Refused = refused ≡ true
+FaultHolds lives r refused last (faults.Ended how) =
     (end : LastEnd) × (last ≡ Some end) × (end.how ≡ how) × (ended_badly end ≡ true)
-FaultHolds lives r refused last NotRunning = (some_want r.wants ≡ true) × (has_run lives r ≡ false)
-FaultHolds lives r refused last LauncherGone = (lives ≡ false) × (is_some r.child ≡ true)
+FaultHolds lives r refused last faults.NotRunning = (some_want r.wants ≡ true) × (has_run lives r ≡ false)
+FaultHolds lives r refused last faults.LauncherGone = (lives ≡ false) × (is_some r.child ≡ true)
