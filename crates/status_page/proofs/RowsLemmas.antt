@@ -7,7 +7,7 @@ use Rattle.run_times.proofs.GrowingLemmas.{adds_on}
 use Rattle.status_page.specs.declared.rows.Row.{Row}
 use Rattle.status_page.specs.Rows.{state_word, AreRows, TellsRows}
 
-line_of : Row → List ℕ → List ℕ → List ℕ
+abbrev pub line_of : Row → List ℕ → List ℕ → List ℕ
 line_of row front more = front ++ (state_word row.state ++ (more ++ 10 ∷ []))
 
 -- a line and what follows it
