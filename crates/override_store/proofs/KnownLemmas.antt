@@ -1,10 +1,10 @@
 -- What is known of labels, put into a list, listed, and held by rows.
-use Rattle.std.proofs.Common.{◌≡◌, ◌<◌, inl, inr, ℕ, zero, suc, List, [], ◌∷◌, ◌++◌, map, reverse, take, drop, length, Bool, true, false, cond, Option, Some, None, option_map, pos, refl, sym, ap, subst, ◌∙◌, arith, nat_lt, not, ◌+◌, ◌≤◌, add_comm, add-one}
-use Rattle.std.specs.Prelude.{slice_set, slice_get}
+use Rattle.std.proofs.Common.{◌≡◌, ◌<◌, inl, inr, ℕ, zero, suc, List, [], ◌∷◌, ◌++◌, map, reverse, take, drop, length, Bool, true, false, cond, Some, None, option_map, pos, refl, sym, ap, subst, ◌∙◌, arith, nat_lt, not, ◌+◌, ◌≤◌, add_comm, add-one}
+use Rattle.std.specs.Prelude.{slice_set}
 use Rattle.std.specs.List.{AllZip, filter, position, prefix_len}
 use Rattle.std.proofs.lemmas.Bool.{cases_Bool}
 use Rattle.std.proofs.lemmas.List.{map-append, reverse-append}
-use Rattle.std.proofs.lemmas.List.Sorted.{IsPermutation-sym, IsPermutation-reverse}
+use Rattle.std.proofs.lemmas.List.Sorted.{IsPermutation-reverse}
 use Rattle.std.specs.Cmp.Lexicographic.{same_text}
 use Rattle.sqlite_value.specs.Order.{Row, column}
 use Rattle.sqlite.specs.Effect.{Database}

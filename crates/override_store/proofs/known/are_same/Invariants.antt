@@ -1,5 +1,5 @@
 -- Both lists are the same as far as they were looked at.
-use Rattle.std.proofs.Common.{◌≡◌, ◌≤◌, length, take}
+use Rattle.std.proofs.Common.{◌≡◌, take}
 use Rattle.override_store.proofs.known.are_same.Given as goal
 
 abbrev pub invariant-loop-place : goal.invariant-loop-place

@@ -1,6 +1,6 @@
 -- The answers to the goals of `known::rising`.
-use Rattle.std.proofs.Common.{◌≡◌, ◌+◌, ◌++◌, [], ◌∷◌, take, map, reverse, length, ap, sym, subst, ◌∙◌}
-use Rattle.std.proofs.lemmas.List.{map-append, reverse-reverse, take_all, take_more}
+use Rattle.std.proofs.Common.{◌≡◌, ◌+◌, ◌++◌, [], ◌∷◌, take, ap, sym, ◌∙◌}
+use Rattle.std.proofs.lemmas.List.{map-append, take_more}
 use Rattle.override_store.specs.declared.known.Known.{Known}
 use Rattle.override_store.specs.KnownSettings.{settings_of}
 use Rattle.override_store.proofs.known.rising.Goals as goal
