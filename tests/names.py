@@ -32,7 +32,7 @@ TOP = os.path.dirname(os.path.dirname(os.path.abspath(__file__)))
 WORD = re.compile(r"[A-Za-z0-9_]+")
 
 # Names of the standard library, of ported crates, of the kernel, of processors and of systemd, and keys of launchd.plist(5).
-OUTSIDE = {"include_str", "get_flag", "tcp_wmem", "x86_64", "drop"} | set(
+OUTSIDE = {"include_str", "node_exporter", "timestamp_seconds", "get_flag", "tcp_wmem", "x86_64", "drop"} | set(
     "IfNone TasksMax MemoryMax OnCalendar OtherJobEnabled AfterInitialDemand SockPathOwner MulticastGroup MachServices"
     " StartOnMount ProcessType LimitLoadToHosts AbandonProcessGroup TimeOut EnableGlobbing LaunchEvents SoftResourceLimits"
     " HardResourceLimits".split()
