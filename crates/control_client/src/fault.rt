@@ -106,3 +106,10 @@ pub(crate) fn tell<R: Eprint>(rt: &R, about: &str, fault: &Fault) {
         let _written = eprintln!(rt; "jobctl: {about}: {fault}");
     }
 }
+
+/// Tells so that a launcher can't be reached whose socket nothing named, while the package's is there.
+pub(crate) fn tell_unnamed<R: Eprint>(rt: &R, about: &str, fault: &Fault) {
+    let _written = eprintln!(rt;
+        "jobctl: {about} (JOBD_SOCKET is not set; the package's launcher is at /run/jobd/jobd.sock): {fault}"
+    );
+}

@@ -1,7 +1,7 @@
 //! The requests of one run, in their order, and the exit status that they come to.
 
 use crate::connection::Connection;
-use crate::fault::{Fault, tell};
+use crate::fault::{Fault, tell, tell_unnamed};
 use crate::reply::Replied;
 use crate::request::request_of;
 use ctl_protocol::Request;
@@ -9,9 +9,6 @@ use exit_status::{BAD_OUTPUT, NO_ANSWER};
 use history_model::Text;
 use std::alloc::Global;
 use std::net::Net;
-
-/// What is told beside a launcher that can't be reached.
-const UNNAMED: &str = "JOBD_SOCKET is not set; the package's launcher is at /run/jobd/jobd.sock";
 
 /// One connection for all requests, made for the first.
 #[derive(Drop)]
@@ -96,8 +93,7 @@ impl Session {
             _ => file,
         };
         if status == NO_ANSWER && self.is_unnamed {
-            let unnamed = UNNAMED;
-            let _written = eprintln!(rt; "jobctl: {about} ({unnamed}): {fault}");
+            tell_unnamed(rt, about, fault);
         } else {
             tell(rt, about, fault);
         }
