@@ -36,7 +36,7 @@ def words_in(source, flags_of):
     """The subcommands and options that the source gives to the reader of words."""
     names = set(re.findall(r'name: "([a-z]+)",\s*about:', source))
     options = {"--" + name for name in re.findall(r'option\(\s*alloc,\s*"([a-z-]+)"', source)}
-    options |= {"--" + name for name in re.findall(r'id: "([a-z-]+)",\s*form: Form::(?:Value|Switch)', source)}
+    options |= {"--" + name for name in re.findall(r'id: "([a-z-]+)",\s*form: Form::(?:AnyValue|Values?|Switch)', source)}
     flags = {"-" + letter for letter in re.findall(r"""flag\(\s*alloc,\s*"[a-z]+",\s*'(\w)'""", flags_of)}
     flags |= {"-" + letter for letter in re.findall(r"""Form::(?:Letter|ShortValue)\('(\w)'\)""", source)}
     return names, options | flags
@@ -89,7 +89,7 @@ def check_program(program, page_path, source, flags_of, own_name):
     for word in ("-h", "--help"):
         if word not in items:
             faults.append(f"{page_path}: {word} is not in the page")
-    for name, value in re.findall(r'id: "([a-z-]+)",\s*form: Form::Value \{[^}]*\},\s*value: "([A-Z]+)"', source):
+    for name, value in re.findall(r'id: "([a-z-]+)",\s*form: Form::(?:AnyValue|Values|Value \{[^}]*\}),\s*value: "([A-Z]+)"', source):
         if f"Fl -{name} Ar {value}" not in page:
             faults.append(f"{page_path}: --{name} {value} is not in the page")
     counts["words"] += len(names) + len(options)
