@@ -10,8 +10,8 @@ use crate::reporting::{Level, report};
 use files_and_process::own_files::make_private;
 use history_model::Setting;
 use outside::SettingStore;
-use override_store::{StoreFault, StoreNews, StorePlace, Telling, lasting};
-use sqlite::{Files, Options, Unknown};
+use override_store::{LastingSettings, StoreFault, StoreNews, StorePlace, Telling, lasting};
+use sqlite::{Alter, Connection, Files, Options, Unknown};
 use sqlite_std_file::OpenError;
 use std::alloc::Global;
 use std::hash::{BuildHasher, RandomState};
@@ -59,13 +59,28 @@ fn used_over<U: StoreUser>(
     user: U,
 ) -> Result<u8, (u8, U)> {
     let StoreFiles { rt, level, path } = place;
-    match lasting(alloc, StoreFiles { rt, level, path }, conn) {
+    match settings_of(alloc, StoreFiles { rt, level, path }, conn) {
         Ok((store, settings)) => match user.use_store(store, settings) {
             Ok(status) | Err(status) => Ok(status),
         },
-        Err((fault, _)) => {
+        Err(fault) => {
             let refusal = StoreRefusal::Settings(fault);
             Err((refuse_store(rt, level, path, refusal), user))
+        }
+    }
+}
+
+// The settings at the place. What the connection stood on goes, if it is refused: over any store, since a real one would be let go part by part.
+fn settings_of<S: Alter + Drop, P: StorePlace<Connection<S>> + Drop>(
+    alloc: Global,
+    place: P,
+    conn: Connection<S>,
+) -> Result<(LastingSettings<S, P>, Vec<Setting>), StoreFault> {
+    match lasting(alloc, place, conn) {
+        Ok(both) => Ok(both),
+        Err((fault, store)) => {
+            drop(store);
+            Err(fault)
         }
     }
 }
