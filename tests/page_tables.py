@@ -68,6 +68,7 @@ LIMITS = [
     ("looks at paths in a round", [("live_loop/src/paths.rt", r"LOOKS: u32 = ([\d_]+)")]),
     ("look-outs that hang", [("look_out/src/hung.rt", r"MOST: usize = ([\d_]+)")]),
     ("descriptors at least", [("child_edge/src/room.rt", r"FEWEST: u64 = ([\d_]+)")]),
+    ("labels with a setting", [("override_store/src/known.rt", r"MOST_LABELS: usize = ([\d_]+)")]),
     ("bytes of the store", [("startup/src/looking.rt", r"MOST_BYTES: u64 = ([\d_]+)")]),
     ("bytes of a zone file", [("startup/src/zone.rt", r"MOST_BYTES: u64 = ([\d_]+)"), ("calendar_due/src/zone.rt", r"LONGEST_FILE: usize = ([\d_]+)")]),
     ("bytes of a text within a line on standard error", [("child_edge/src/words.rt", r"LONGEST: usize = ([\d_]+)")]),
@@ -96,7 +97,7 @@ NUMBERS = [
     ("man/jobscope.1", "up to @; after now", "history_model/src/lib.rt", r"MAX_WALL: u64 = ([\d_]+)"),
     ("man/jobscope.1", "So many lines are written: @ if it is absent", "scope/src/program.rt", r"const COUNT: u64 = ([\d_]+)"),
     ("man/jobscope.1", "that of the last @ runs", "scope/src/journal/past.rt", r"MOST_RUNS: usize = ([\d_]+)"),
-    ("man/jobscope.1", "is, for picture ; @ if it is absent", "scope/src/report.rt", r"COLUMNS: u16 = ([\d_]+)"),
+    ("man/jobscope.1", "is asked of a terminal; elsewhere it is @", "status_page/src/width.rt", r"COLUMNS: u16 = ([\d_]+)"),
     ("man/jobscope.1", "if more than @ entries would be needed", "definition_files/src/cron/entries.rt", r"MOST_ENTRIES: usize = ([\d_]+)"),
     ("man/jobscope.1", "a NUL byte or more than @ bytes", "definition_files/src/cron/command.rt", r"LONGEST_COMMAND: usize = ([\d_]+)"),
     ("man/jobscope.1", "more than @ dictionaries and arrays", "property_lists/src/list.rt", r"DEEPEST: usize = ([\d_]+)"),
@@ -185,7 +186,7 @@ for code, text in TEXTS.items():
 READS = {
     "man/jobctl.1": (["control_client"], set()),
     "man/jobd.8": (["startup"], {"JOBD_STATUS_FILE"}),
-    "man/jobscope.1": (["scope", "run_times", "definition_files"], set()),
+    "man/jobscope.1": (["scope", "status_page", "run_times", "definition_files"], set()),
 }
 for page, (crates, others) in READS.items():
     text = "\n".join(read(path) for crate in crates for path in glob.glob(f"crates/{crate}/src/**/*.rt", recursive=True))
