@@ -823,18 +823,20 @@ def a_path_with_one_launcher(stage):
 
 
 def files_that_were_put_there(stage):
-    """What somebody else put in the place of the launcher's files stays at its end."""
+    """What somebody else put in the place of the launcher's files stays at its end: a file at its socket, a folder at its lock. (A plain file at the lock's
+    place is taken for the lock, as at a start.)"""
     at = stage.at
     launcher = stage.serve()
     with connect(launcher.path) as client:
         for name in ("socket", "socket.lock"):
             os.remove(at(name))
-            make(at(name), "text")
+        make(at("socket"), "text")
+        os.mkdir(at("socket.lock"))
         check(launcher.ask_over(client, {"req": "shutdown"})["code"] == 0, "shutdown refused")
     check(launcher.ends() == 0, "no clean end")
-    check([text_at(at(name)) for name in ("socket", "socket.lock")] == ["text", "text"], "a file of somebody else is gone")
-    for name in ("socket", "socket.lock"):
-        os.remove(at(name))
+    check(text_at(at("socket")) == "text" and os.path.isdir(at("socket.lock")), "a file of somebody else is gone")
+    os.remove(at("socket"))
+    os.rmdir(at("socket.lock"))
     launcher = stage.serve()
     with connect(launcher.path) as client:
         for name in ("socket", "socket.lock"):
