@@ -11,7 +11,7 @@ ghost use Rattle.loaded_jobs.specs.declared.seat.Seat.{Seat};
 
 use crate::jobs::Index;
 use crate::seat::Seat;
-use history_model::JobNo;
+use history_model::{JobNo, MAX_JOBS};
 use std::alloc::{AllocError, Global};
 
 /// Gives each seat's number its place. It takes no memory.
@@ -145,7 +145,20 @@ pub fn grow(
     if index.places.len() > number as usize {
         return Ok(());
     }
-    index.places = vec![in alloc; 0; above as usize * 2]?;
+    index.places = vec![in alloc; 0; widened(above as usize)]?;
     place_all(&mut index.places, seats);
     Ok(())
+}
+
+/// For how many places there is to be room if there have to be so many: for twice as many, but for no more than there are jobs at most.
+fn widened(count: usize) -> usize
+    ensures { count ≤ result }
+{
+    if count > MAX_JOBS {
+        return count;
+    }
+    if count > MAX_JOBS / 2 {
+        return MAX_JOBS;
+    }
+    count * 2
 }
