@@ -87,7 +87,11 @@ def make(path, text=""):
 def children_of(pid):
     """The process ids below this one, the nearest first."""
     found = []
-    for task in os.listdir(f"/proc/{pid}/task") if os.path.exists(f"/proc/{pid}/task") else []:
+    try:
+        tasks = os.listdir(f"/proc/{pid}/task")
+    except FileNotFoundError:
+        return found
+    for task in tasks:
         for child in text_at(f"/proc/{pid}/task/{task}/children").split():
             found += [int(child), *children_of(int(child))]
     return found

@@ -828,10 +828,13 @@ def files_that_were_put_there(stage):
     at = stage.at
     launcher = stage.serve()
     with connect(launcher.path) as client:
+        # It is stopped meanwhile: else it may make them again in between.
+        os.kill(launcher.pid, signal.SIGSTOP)
         for name in ("socket", "socket.lock"):
             os.remove(at(name))
         make(at("socket"), "text")
         os.mkdir(at("socket.lock"))
+        os.kill(launcher.pid, signal.SIGCONT)
         check(launcher.ask_over(client, {"req": "shutdown"})["code"] == 0, "shutdown refused")
     check(launcher.ends() == 0, "no clean end")
     check(text_at(at("socket")) == "text" and os.path.isdir(at("socket.lock")), "a file of somebody else is gone")
