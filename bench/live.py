@@ -44,6 +44,8 @@ REPLY_AIM = 200
 STANDING_AIM = 5
 WHY_AIM = 10
 REPLY = 20_000_000
+# The names of its own children.
+OF_THE_LAUNCHER = ("sh", "exe")
 
 
 def now():
@@ -114,9 +116,9 @@ class Launcher:
         return subprocess.run([self.jobctl, "--socket", self.path("socket"), *words], capture_output=True, text=True)
 
     def children(self):
-        """How many jobs run: the shell that gives TERM is a child too, and no job here is a shell."""
+        """How many jobs run: the shell that gives TERM and the look-out are children too, and no job here is one of these."""
         with open(f"/proc/{self.process.pid}/task/{self.process.pid}/children") as told:
-            return sum(name_of(pid) != "sh" for pid in told.read().split())
+            return sum(name_of(pid) not in OF_THE_LAUNCHER for pid in told.read().split())
 
     def await_children(self, wanted, seconds=60):
         until = now() + 1000 * seconds
