@@ -96,8 +96,7 @@ def paths_and_logs_without_an_answer(stage):
         times = honest.end()
     for line in launcher.lines("log0: run 1: ") + launcher.lines("cannot look at "):
         check(line.endswith("no answer"), f"of what got no answer it tells {line!r}")
-    # Each start waits half a second for an answer at most, and all 20 may come in one round.
-    check(times[-1] < 20 * 0.5 + BOUND / 2, f"a list took {times[-1]:.2f} s")
+    check(times[-1] < BOUND / 2, f"a list took {times[-1]:.2f} s")
     check(len(times) >= 5, f"only {len(times)} lists were answered")
     wait_for(lambda: text_at(stage.at("seen")), "the path's change is not seen once there are answers", 2 * BOUND)
     for at in range(20):
