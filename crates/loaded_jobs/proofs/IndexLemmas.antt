@@ -1,13 +1,14 @@
 -- One more seat is in the index.
-use Rattle.std.proofs.Common.{◌≡◌, ◌≢◌, ℕ, ◌+◌, ◌==◌, ◌<◌, Bool, true, false, zero, suc, [], ◌∷◌, List, map, length, get_or, Some, refl, sym, ap, ◌∙◌, subst, arith}
-use Rattle.std.specs.Prelude.{slice_get, slice_set}
+use Rattle.std.proofs.Common.{◌≡◌, ◌≢◌, ℕ, ◌+◌, ◌%◌, ◌^◌, ◌==◌, ◌<◌, Bool, true, false, zero, suc, [], ◌∷◌, List, map, length, get_or, Some, refl, sym, ap, ◌∙◌, subst, arith}
+use Rattle.std.specs.Prelude.{nat_lt, slice_get, slice_set}
 use Rattle.std.proofs.lemmas.Bool.Decides.{nat_tests}
 use Rattle.std.proofs.lemmas.List.{get_or-set_same, get_or-set_other}
+use Rattle.std.proofs.Math.Nat.{mod-eq_of_lt}
 use Rattle.std.specs.List.{list_all}
 use Rattle.loaded_jobs.specs.Tables.{Name, IsOnce}
 use Rattle.loaded_jobs.specs.Seats.{name, is_named}
 use Rattle.loaded_jobs.proofs.KnownNumbersLemmas.{all-named}
-use Rattle.loaded_jobs.specs.Index.{place_in}
+use Rattle.loaded_jobs.specs.Index.{place_in, raised}
 use Rattle.loaded_jobs.specs.declared.seat.Seat.{Seat}
 use Rattle.loaded_jobs.proofs.MomentsLemmas.{get-at, apart}
 use Rattle.history_model.proofs.BooleanLemmas.{and-both}
@@ -41,3 +42,27 @@ is-named-at es k e at = go (map name es) es k at (all-named es) where
   go names [] (suc k) at all = cc
   go names (x ∷ xs) zero at all = let same : x ≡ e = cc in subst (λ y. is_named names y ≡ true) same (and-both (is_named names x) (list_all (is_named names) xs) all).0
   go names (x ∷ xs) (suc k) at all = go names xs k at (and-both (is_named names x) (list_all (is_named names) xs) all).1
+
+-- ---- places that move for a new seat
+
+raised-to : (new k was : ℕ) (b : Bool) → nat_lt was new ≡ b → k < 2 ^ 32 → (k < new → was ≡ k) → (new < k → was + 1 ≡ k) → k ≢ new → raised new was ≡ k
+raised-to new k was true low few before behind differ = go (nat_lt k new) refl where
+  go : (c : Bool) → nat_lt k new ≡ c → raised new was ≡ k
+  go true here = (let inside : k < new = grind (arith, nat_tests, here) in rw low (before inside))
+  go false there =
+      let high : new < k = grind (arith, nat_tests, there, differ) in
+      let next = behind high in
+      let clash : ⊥ = grind (arith, nat_tests, low, high, next) in absurd clash
+raised-to new k was false far few before behind differ = go (nat_lt k new) refl where
+  go : (c : Bool) → nat_lt k new ≡ c → raised new was ≡ k
+  go true here =
+      let low : k < new = grind (arith, nat_tests, here) in
+      let same = before low in
+      let clash : ⊥ = grind (arith, nat_tests, far, low, same) in absurd clash
+  go false there =
+      let high : new < k = grind (arith, nat_tests, there, differ) in
+      rw far (ap (λ n. n % 2 ^ 32) (behind high) ∙ mod-eq_of_lt few)
+
+-- a seat that stood before the new one keeps its place, and one that stood there or behind has the next
+pub raised-around : (new k was : ℕ) → k ≢ new → k < 2 ^ 32 → (k < new → was ≡ k) → (new < k → was + 1 ≡ k) → raised new was ≡ k
+raised-around new k was differ few before behind = raised-to new k was (nat_lt was new) refl few before behind differ

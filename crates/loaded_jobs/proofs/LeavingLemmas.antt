@@ -168,6 +168,16 @@ before-removed [] (suc place) (suc k) e at low = cc
 before-removed (x ∷ xs) (suc place) zero e at low = at
 before-removed (x ∷ xs) (suc place) (suc k) e at low = before-removed xs place k e at (omega (arith, low))
 
+-- those behind it stood one further behind
+pub after-removed : (es : List Seat) (place k : ℕ) (e : Seat) → slice_get (remove es place) k ≡ Some e → place ≤ k → slice_get es (suc k) ≡ Some e
+after-removed [] zero zero e at high = cc
+after-removed [] zero (suc k) e at high = cc
+after-removed [] (suc place) zero e at high = cc
+after-removed [] (suc place) (suc k) e at high = cc
+after-removed (x ∷ xs) zero k e at high = at
+after-removed (x ∷ xs) (suc place) zero e at high = absurd (omega (arith, high))
+after-removed (x ∷ xs) (suc place) (suc k) e at high = after-removed xs place k e at (omega (arith, high))
+
 -- ---- the table without those that went
 
 pub record IsTidied (old new : Jobs) : Type 0 where

@@ -57,6 +57,23 @@ stands new es zero low = refl
 stands new [] (suc k) low = let clash : ⊥ = omega (arith, low) in absurd clash
 stands new (x ∷ xs) (suc k) low = stands new xs k (omega (arith, low))
 
+-- each seat before its place stood there
+pub stood-before : (new : Seat) (es : List Seat) (p k : ℕ) (e : Seat) → slice_get (take p es ++ new ∷ drop p es) k ≡ Some e → p ≤ length es → k < p → slice_get es k ≡ Some e
+stood-before new es zero k e there long low = absurd (omega (arith, low))
+stood-before new [] (suc p) k e there long low = absurd (omega (arith, long))
+stood-before new (x ∷ xs) (suc p) zero e there long low = there
+stood-before new (x ∷ xs) (suc p) (suc k) e there long low = stood-before new xs p k e there (omega (arith, long)) (omega (arith, low))
+
+-- each seat behind its place stood one before
+pub stood-behind : (new : Seat) (es : List Seat) (p k : ℕ) (e : Seat) → slice_get (take p es ++ new ∷ drop p es) k ≡ Some e → p ≤ length es → p < k →
+    (j : ℕ) × (slice_get es j ≡ Some e) × (k ≡ suc j)
+stood-behind new es zero zero e there long high = absurd (omega (arith, high))
+stood-behind new es zero (suc j) e there long high = (j, there, refl)
+stood-behind new [] (suc p) k e there long high = absurd (omega (arith, long))
+stood-behind new (x ∷ xs) (suc p) zero e there long high = absurd (omega (arith, high))
+stood-behind new (x ∷ xs) (suc p) (suc k) e there long high =
+    let found = stood-behind new xs p k e there (omega (arith, long)) (omega (arith, high)) in (suc found.0, found.1, ap suc found.2)
+
 pub more-seats : (new : Seat) (es : List Seat) (k : ℕ) → length (take k es ++ new ∷ drop k es) ≡ suc (length es)
 more-seats new es zero = refl
 more-seats new [] (suc k) = refl

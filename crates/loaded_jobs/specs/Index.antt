@@ -1,5 +1,5 @@
 -- The index of moments: what holds of it beside the seats.
-use Rattle.std.specs.Prelude.{◌≡◌, ℕ, ◌<◌, ◌≤◌, Bool, true, cond, List, length, map, Option, Some, None, is_some, slice_get, slice_index_or}
+use Rattle.std.specs.Prelude.{◌≡◌, ℕ, ◌<◌, ◌≤◌, ◌+◌, ◌-◌, ◌%◌, ◌^◌, nat_lt, if◌then◌else◌, Bool, true, cond, List, length, map, Option, Some, None, is_some, slice_get, slice_index_or}
 use Rattle.place_set.specs.Places.{has_place, place_room}
 use Rattle.timer_heap.specs.Timers.{Timers, moment_in, room}
 use Rattle.history_model.specs.NextMomentByFacts.{next_by}
@@ -38,6 +38,14 @@ HaveRoom timers names =
 
 abbrev pub place_in : List ℕ → ℕ → ℕ
 place_in places number = slice_index_or places number 0
+
+-- a place once the seat at one place has left: those behind it move one to the front
+abbrev pub lowered : ℕ → ℕ → ℕ
+lowered gone place = if nat_lt gone place then place - 1 else place
+
+-- a place, a number of 32 bits, once a seat has come at one place: those from there on move one to the back
+abbrev pub raised : ℕ → ℕ → ℕ
+raised new place = if nat_lt place new then place else (place + 1) % 2 ^ 32
 
 -- each job's number has its place
 abbrev pub ArePlaced : List ℕ → List Seat → Type 0

@@ -10,7 +10,7 @@ ghost use Rattle.history_model.specs.News.{is_some_entry};
 ghost use Rattle.loaded_jobs.specs.Leaving.{AllStayBut, StayBut, IsWithout, one_more_gone, is_of_other};
 
 use crate::all_seats::{has_calendars, release, tidy};
-use crate::index::{place_all, place_from};
+use crate::index::{close_up, place_all};
 use crate::jobs::Jobs;
 use crate::seat::Seat;
 use crate::trigger::Listed;
@@ -104,7 +104,7 @@ impl Jobs {
         }
         let seat = self.seats.remove(place);
         let _held = self.numbers.try_remove(seat.number as usize);
-        place_from(&mut self.index.places, &self.seats, place);
+        close_up(&mut self.index.places, &self.seats, place);
         forget_one(&mut self.triggers, &seat);
         self.has_calendars = has_some_calendar(self.has_calendars, &seat, &self.seats);
     }

@@ -27,7 +27,7 @@ ghost use Rattle.loaded_jobs.specs.Room.{HasSameRoom};
 ghost use Rattle.loaded_jobs.specs.Begun.{IsBegun};
 ghost use Rattle.loaded_jobs.specs.Seats.{name, place_for, seats_with};
 
-use crate::index::{grow, place_all};
+use crate::index::{grow, make_way};
 use crate::jobs::Jobs;
 use crate::places::{place_before, place_of};
 use crate::seat::{ORDERS, Seat};
@@ -252,7 +252,7 @@ impl Jobs {
         let place = place_before(&self.seats, seat.def.label());
         set_if(&mut self.settings, setting);
         self.enter(seat, triggers, place);
-        place_all(&mut self.index.places, &self.seats);
+        make_way(&mut self.index.places, &self.seats, place);
         self.ask_at(place);
     }
 

@@ -10,7 +10,8 @@ place_all-requires-clause-fits c = λ number named.
     let short = c.if-len-number.false in
     let long = c.deref_mut.ensures.len in
     let value = c.in_ok-index.ensures.len in
-    omega (arith, fits, short, long, value)
+    let wide = c.widened.ensures in
+    omega (arith, fits, short, long, value, wide)
 
 pub returns-clause-indexed : goal.returns-clause-indexed
 returns-clause-indexed c = λ up is.

@@ -1,20 +1,20 @@
 -- What is left is what stays, and the places before are as they were.
-use Rattle.std.proofs.Common.{◌≡◌, ◌<◌, ℕ, true, is_some, cond, List, Some, map, length, drop, get_or, ap, sym, subst, ◌∙◌, arith}
+use Rattle.std.proofs.Common.{◌≡◌, ◌<◌, ◌+◌, ℕ, suc, true, is_some, cond, List, Some, map, length, drop, get_or, ap, sym, subst, ◌∙◌, arith}
 use Rattle.std.specs.Prelude.{slice_get}
 use Rattle.std.specs.Vec.{with_items}
 use Rattle.std.specs.List.{list_any, filter, remove}
-use Rattle.loaded_jobs.specs.Tables.{IsOnce, definition_of_number}
+use Rattle.loaded_jobs.specs.Tables.{definition_of_number}
 use Rattle.loaded_jobs.specs.Seats.{name, seat_stays}
 use Rattle.loaded_jobs.specs.Index.{ArePlaced, place_in}
 use Rattle.loaded_jobs.specs.Leaving.{AllStayBut}
 use Rattle.history_model.specs.News.{is_some_entry}
 use Rattle.loaded_jobs.specs.declared.seat.Seat.{Seat}
 use Rattle.loaded_jobs.proofs.ListLemmas.{lent-back}
+use Rattle.loaded_jobs.proofs.IndexLemmas.{is-named-at}
 use Rattle.loaded_jobs.proofs.MomentsLemmas.{get-at}
-use Rattle.loaded_jobs.proofs.TidyLemmas.{tidy-once}
 use Rattle.loaded_jobs.proofs.IndexGrowthLemmas.{tidy-named}
 use Rattle.loaded_jobs.proofs.GoneLemmas.{all-past, all-here}
-use Rattle.loaded_jobs.proofs.LeavingLemmas.{tidied-one, tidied-sound, tidied-indexed, filter-all, without, before-removed}
+use Rattle.loaded_jobs.proofs.LeavingLemmas.{tidied-one, tidied-sound, tidied-indexed, filter-all, without, before-removed, after-removed}
 use Rattle.loaded_jobs.proofs.jobs.Jobs.drop_one.Goals as goal
 
 pub returns-then-place-len-clause-seats : goal.returns-then-place-len-clause-seats
@@ -46,32 +46,30 @@ went es k seen gone within looked taken is = ap (λ e. e.has_gone) (sym (same-at
 left : (es later : List Seat) (k : ℕ) (seen gone : Seat) → k < length es → seen ≡ get_or es k seen → gone ≡ get_or es k gone → seen.has_gone ≡ true → AllStayBut k es → later ≡ remove es k → later ≡ filter seat_stays es
 left es later k seen gone within looked taken is others removed = removed ∙ without gone (went es k seen gone within looked taken is) k es others (at-place es k gone within taken)
 
-pub place_from-requires-clause-once : goal.place_from-requires-clause-once
-place_from-requires-clause-once c =
-    let es = c.args.self.now.seats.items in
-    let inside = c.if-place-len.false in
-    let long = c.args.self.now.seats.ok.0 in
-    let within : c.args.place < length es = grind (arith, inside, long) in
-    let is = left es c.remove-seat.new.self.items c.args.place c.index.result.now c.remove-seat.result within c.index.ensures c.remove-seat.ensures.value c.if-not-index.false c.requires.others c.remove-seat.ensures.items in
-    subst (λ xs. IsOnce (map name xs)) (sym (c.deref.ensures.value ∙ is)) (tidy-once es c.requires.sound.once)
-
-pub place_from-requires-clause-fits : goal.place_from-requires-clause-fits
-place_from-requires-clause-fits c =
+pub close_up-requires-clause-fits : goal.close_up-requires-clause-fits
+close_up-requires-clause-fits c = λ k e there.
     let old = c.args.self.now in
     let es = old.seats.items in
     let inside = c.if-place-len.false in
     let long = c.args.self.now.seats.ok.0 in
     let within : c.args.place < length es = grind (arith, inside, long) in
     let is = left es c.remove-seat.new.self.items c.args.place c.index.result.now c.remove-seat.result within c.index.ensures c.remove-seat.ensures.value c.if-not-index.false c.requires.others c.remove-seat.ensures.items in
-    subst (λ ps. (number : ℕ) → is_some (definition_of_number (map name c.deref.result.now) number) ≡ true → number < length ps) (sym c.deref_mut.ensures.value)
+    subst (λ ps. e.number < length ps) (sym c.deref_mut.ensures.value)
     (subst (λ xs. (number : ℕ) → is_some (definition_of_number (map name xs) number) ≡ true → number < length old.index.places.items) (sym (c.deref.ensures.value ∙ is))
-    (tidy-named old.index old.reading.up es c.requires.indexed).fits)
+    (tidy-named old.index old.reading.up es c.requires.indexed).fits e.number (is-named-at c.deref.result.now k e there))
 
-pub place_from-requires-clause-before : goal.place_from-requires-clause-before
-place_from-requires-clause-before c = λ k e there low.
+pub close_up-requires-clause-before : goal.close_up-requires-clause-before
+close_up-requires-clause-before c = λ k e there low.
     let es = c.args.self.now.seats.items in
     let at = before-removed es c.args.place k e (ap (λ xs. slice_get xs k) (sym (c.deref.ensures.value ∙ c.remove-seat.ensures.items)) ∙ there) low in
     ap (λ ps. place_in ps e.number) c.deref_mut.ensures.value ∙ (c.requires.indexed.placed k e at).1
+
+pub close_up-requires-clause-behind : goal.close_up-requires-clause-behind
+close_up-requires-clause-behind c = λ k e there high.
+    let es = c.args.self.now.seats.items in
+    let at = after-removed es c.args.place k e (ap (λ xs. slice_get xs k) (sym (c.deref.ensures.value ∙ c.remove-seat.ensures.items)) ∙ there) high in
+    let more : suc k ≡ k + 1 = omega arith in
+    ap (λ ps. place_in ps e.number) c.deref_mut.ensures.value ∙ (c.requires.indexed.placed (suc k) e at).1 ∙ more
 
 pub returns-clause-seats : goal.returns-clause-seats
 returns-clause-seats c =
@@ -89,7 +87,7 @@ returns-clause-sound c =
     let inside = c.if-place-len.false in
     let long = c.args.self.now.seats.ok.0 in
     let within : c.args.place < length es = grind (arith, inside, long) in
-    let after = c.place_from.new.places in
+    let after = c.close_up.new.places in
     let less = c.remove-seat.ensures.len in
     let whole = lent-back after (drop (length after) old.index.places.items) old.index.places.len (omega arith) in
     tidied-sound old (record old { seats = c.remove-seat.new.self; numbers = c.try_remove-held.new.self; index = record old.index { places = with_items old.index.places after }; has_calendars = c.has_some_calendar-self.result; triggers = c.forget_one.new.listed })
@@ -97,7 +95,7 @@ returns-clause-sound c =
     (tidied-one old c.args.place gone c.try_remove-held.new.self c.forget_one.new.listed c.remove-seat.new.self (with_items old.index.places after) c.has_some_calendar-self.result
     c.requires.sound c.requires.empty c.requires.others (at-place es c.args.place gone within c.remove-seat.ensures.value)
     (went es c.args.place c.index.result.now gone within c.index.ensures c.remove-seat.ensures.value c.if-not-index.false) c.remove-seat.ensures.items (omega (arith, less)) c.try_remove-held.ensures.updates c.forget_one.ensures.items
-    (subst (λ ps. ArePlaced ps c.remove-seat.new.self.items) (sym whole) (subst (ArePlaced after) c.deref.ensures.value c.place_from.ensures.placed))
+    (subst (λ ps. ArePlaced ps c.remove-seat.new.self.items) (sym whole) (subst (ArePlaced after) c.deref.ensures.value c.close_up.ensures.placed))
     (c.has_some_calendar-self.ensures ∙ ap (λ xs. cond (is_some_entry gone.def.calendar) (list_any (λ e. is_some_entry e.def.calendar) xs) old.has_calendars) c.deref-2.ensures.value))
 
 pub returns-clause-indexed : goal.returns-clause-indexed
@@ -108,7 +106,7 @@ returns-clause-indexed c =
     let inside = c.if-place-len.false in
     let long = c.args.self.now.seats.ok.0 in
     let within : c.args.place < length es = grind (arith, inside, long) in
-    let after = c.place_from.new.places in
+    let after = c.close_up.new.places in
     let less = c.remove-seat.ensures.len in
     let whole = lent-back after (drop (length after) old.index.places.items) old.index.places.len (omega arith) in
     tidied-indexed old (record old { seats = c.remove-seat.new.self; numbers = c.try_remove-held.new.self; index = record old.index { places = with_items old.index.places after }; has_calendars = c.has_some_calendar-self.result; triggers = c.forget_one.new.listed })
@@ -116,5 +114,5 @@ returns-clause-indexed c =
     (tidied-one old c.args.place gone c.try_remove-held.new.self c.forget_one.new.listed c.remove-seat.new.self (with_items old.index.places after) c.has_some_calendar-self.result
     c.requires.sound c.requires.empty c.requires.others (at-place es c.args.place gone within c.remove-seat.ensures.value)
     (went es c.args.place c.index.result.now gone within c.index.ensures c.remove-seat.ensures.value c.if-not-index.false) c.remove-seat.ensures.items (omega (arith, less)) c.try_remove-held.ensures.updates c.forget_one.ensures.items
-    (subst (λ ps. ArePlaced ps c.remove-seat.new.self.items) (sym whole) (subst (ArePlaced after) c.deref.ensures.value c.place_from.ensures.placed))
+    (subst (λ ps. ArePlaced ps c.remove-seat.new.self.items) (sym whole) (subst (ArePlaced after) c.deref.ensures.value c.close_up.ensures.placed))
     (c.has_some_calendar-self.ensures ∙ ap (λ xs. cond (is_some_entry gone.def.calendar) (list_any (λ e. is_some_entry e.def.calendar) xs) old.has_calendars) c.deref-2.ensures.value))

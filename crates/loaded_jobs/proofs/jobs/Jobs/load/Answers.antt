@@ -1,6 +1,6 @@
 -- The new job stands among the others, which rest, and the label's setting before the others.
-use Rattle.std.proofs.Common.{◌≡◌, ℕ, List, ◌≤◌, ◌<◌, suc, Some, map, refl, ap, sym, subst, ◌∙◌, [], ◌∷◌, drop, length, arith}
-use Rattle.std.specs.Prelude.{is_some, Ok}
+use Rattle.std.proofs.Common.{◌≡◌, ℕ, List, ◌≤◌, ◌<◌, ◌+◌, suc, Some, map, refl, ap, sym, subst, ◌∙◌, [], ◌∷◌, drop, length, arith}
+use Rattle.std.specs.Prelude.{is_some, slice_get, Ok}
 use Rattle.std.specs.List.{filter, position, AllByRecursion}
 use Rattle.std.specs.Vec.{with_items, vec_len}
 use Rattle.calendar_due.specs.ZoneRules.{minute_at}
@@ -17,14 +17,14 @@ use Rattle.loaded_jobs.specs.Tables.{IsOnce, Row, definition_of_number, labels_i
 use Rattle.loaded_jobs.specs.StandsFor.{KeepsJob, KeepsJobs}
 use Rattle.loaded_jobs.specs.Seats.{row, name, rows, AllStay, is_above, place_for}
 use Rattle.loaded_jobs.specs.Counts.{counts, count_in}
-use Rattle.loaded_jobs.specs.Index.{ArePlaced}
+use Rattle.loaded_jobs.specs.Index.{ArePlaced, place_in}
 use Rattle.loaded_jobs.specs.Sound.{seen_table}
 use Rattle.loaded_jobs.specs.Touched.{RestBut}
 use Rattle.loaded_jobs.specs.Touch.{is_at}
 use Rattle.loaded_jobs.specs.declared.jobs.Jobs.{Jobs}
 use Rattle.loaded_jobs.specs.declared.seat.Seat.{Seat}
 use Rattle.loaded_jobs.proofs.CountsLemmas.{counted-from, counts-placed}
-use Rattle.loaded_jobs.proofs.NewJobLemmas.{place-low, more-seats, new-apart, rest-entered, entered-sound, replaced-sound, timed-entered}
+use Rattle.loaded_jobs.proofs.NewJobLemmas.{place-low, stood-before, stood-behind, more-seats, new-apart, rest-entered, entered-sound, replaced-sound, timed-entered}
 use Rattle.loaded_jobs.proofs.EnteringLemmas.{stay-names, stay-placed, entered-kept}
 use Rattle.loaded_jobs.proofs.EventsLemmas.{own-jobs, IsHead}
 use Rattle.loaded_jobs.proofs.ListLemmas.{lent-back}
@@ -45,18 +45,50 @@ place_before-place-requires c = subst (λ es. AreInOrder (labels_in (map name es
 pub enter-requires-clause-place : goal.enter-requires-clause-place
 enter-requires-clause-place c = at-place c.args.self.now.seats.items _ c.args.ready.seat.def.label _ _ c.place_before-place.ensures c.label.ensures c.deref.ensures.value
 
-pub place_all-requires-clause-once : goal.place_all-requires-clause-once
-place_all-requires-clause-once c =
+pub make_way-requires-clause-once : goal.make_way-requires-clause-once
+make_way-requires-clause-once c =
     let e = c.enter.ensures in
     subst (λ all. IsOnce (map name all)) (sym c.deref-2.ensures.value)
     (entered-sound c.args.self.now c.enter.new.self c.args.ready c.requires.sound.sound c.requires.ready e.alike.reading e.seats e.count e.orders e.vacant e.numbers e.index e.period e.calendars e.exact e.listed).once
 
-pub place_all-requires-clause-fits : goal.place_all-requires-clause-fits
-place_all-requires-clause-fits c = λ number named.
+pub make_way-requires-clause-fits : goal.make_way-requires-clause-fits
+make_way-requires-clause-fits c = λ number named.
     let e = c.enter.ensures in
     subst (λ ps. number < length ps) (sym c.deref_mut.ensures.value)
     ((entered-sound c.args.self.now c.enter.new.self c.args.ready c.requires.sound.sound c.requires.ready e.alike.reading e.seats e.count e.orders e.vacant e.numbers e.index e.period e.calendars e.exact e.listed).named.fits number
     (ap (λ all. is_some (definition_of_number (map name all) number)) (sym c.deref-2.ensures.value) ∙ named))
+
+pub make_way-requires-clause-inside : goal.make_way-requires-clause-inside
+make_way-requires-clause-inside c =
+    let es = c.args.self.now.seats.items in
+    let new = c.args.ready.seat in
+    let k = place_for new.def.label es in
+    let low : k ≤ length es = place-low (is_above new.def.label) es (position (is_above new.def.label) es) refl in
+    let more : length c.deref-2.result.now ≡ suc (length es) = ap length (c.deref-2.ensures.value ∙ c.enter.ensures.seats) ∙ more-seats new es k in
+    let at : c.place_before-place.result ≡ k = (at-place c.args.self.now.seats.items _ c.args.ready.seat.def.label _ _ c.place_before-place.ensures c.label.ensures c.deref.ensures.value) in
+    omega (arith, low, more, at)
+
+pub make_way-requires-clause-before : goal.make_way-requires-clause-before
+make_way-requires-clause-before c = λ k e there low.
+    let es = c.args.self.now.seats.items in
+    let new = c.args.ready.seat in
+    let p = place_for new.def.label es in
+    let long : p ≤ length es = place-low (is_above new.def.label) es (position (is_above new.def.label) es) refl in
+    let at : c.place_before-place.result ≡ p = (at-place c.args.self.now.seats.items _ c.args.ready.seat.def.label _ _ c.place_before-place.ensures c.label.ensures c.deref.ensures.value) in
+    let was = stood-before new es p k e (ap (λ xs. slice_get xs k) (sym (c.deref-2.ensures.value ∙ c.enter.ensures.seats)) ∙ there) long (subst (λ n. k < n) at low) in
+    ap (λ ps. place_in ps e.number) (c.deref_mut.ensures.value ∙ ap (λ i. i.places.items) c.enter.ensures.index) ∙ (c.requires.sound.indexed.placed k e was).1
+
+pub make_way-requires-clause-behind : goal.make_way-requires-clause-behind
+make_way-requires-clause-behind c = λ k e there high.
+    let es = c.args.self.now.seats.items in
+    let new = c.args.ready.seat in
+    let p = place_for new.def.label es in
+    let long : p ≤ length es = place-low (is_above new.def.label) es (position (is_above new.def.label) es) refl in
+    let at : c.place_before-place.result ≡ p = (at-place c.args.self.now.seats.items _ c.args.ready.seat.def.label _ _ c.place_before-place.ensures c.label.ensures c.deref.ensures.value) in
+    let was = stood-behind new es p k e (ap (λ xs. slice_get xs k) (sym (c.deref-2.ensures.value ∙ c.enter.ensures.seats)) ∙ there) long (subst (λ n. n < k) at high) in
+    let over = was.2 in
+    let next : was.0 + 1 ≡ k = omega (arith, over) in
+    ap (λ n. n + 1) (ap (λ ps. place_in ps e.number) (c.deref_mut.ensures.value ∙ ap (λ i. i.places.items) c.enter.ensures.index) ∙ (c.requires.sound.indexed.placed was.0 e was.1).1) ∙ next
 
 pub ask_at-requires-clause-can : goal.ask_at-requires-clause-can
 ask_at-requires-clause-can c =
@@ -64,9 +96,9 @@ ask_at-requires-clause-can c =
       sound = (
           let e = c.enter.ensures in
           let t = c.enter.new.self in
-          let after = c.place_all.new.places in
+          let after = c.make_way.new.places in
           let lent = lent-back after (drop (length after) t.index.places.items) t.index.places.len (omega arith) in
-          replaced-sound t (with_items t.index.places after) (ap length lent ∙ c.place_all.ensures.length ∙ ap length c.deref_mut.ensures.value)
+          replaced-sound t (with_items t.index.places after) (ap length lent ∙ c.make_way.ensures.length ∙ ap length c.deref_mut.ensures.value)
           (entered-sound c.args.self.now t c.args.ready c.requires.sound.sound c.requires.ready e.alike.reading e.seats e.count e.orders e.vacant e.numbers e.index e.period e.calendars e.exact e.listed)
           );
       stay = (
@@ -79,16 +111,16 @@ ask_at-requires-clause-can c =
           );
       placed = (
           let t = c.enter.new.self in
-          let after = c.place_all.new.places in
+          let after = c.make_way.new.places in
           let lent = lent-back after (drop (length after) t.index.places.items) t.index.places.len (omega arith) in
-          subst (λ ps. ArePlaced ps t.seats.items) (sym lent) (subst (ArePlaced after) c.deref-2.ensures.value c.place_all.ensures.placed)
+          subst (λ ps. ArePlaced ps t.seats.items) (sym lent) (subst (ArePlaced after) c.deref-2.ensures.value c.make_way.ensures.placed)
           );
       timed = (
           let old = c.args.self.now in
           let es = old.seats.items in
           let new = c.args.ready.seat in
           let t = c.enter.new.self in
-          timed-entered old (record t { index = record t.index { places = with_items t.index.places c.place_all.new.places } }) new (place_for new.def.label es) c.place_before-place.result c.enter.ensures.seats
+          timed-entered old (record t { index = record t.index { places = with_items t.index.places c.make_way.new.places } }) new (place_for new.def.label es) c.place_before-place.result c.enter.ensures.seats
           (at-place c.args.self.now.seats.items _ c.args.ready.seat.def.label _ _ c.place_before-place.ensures c.label.ensures c.deref.ensures.value) (place-low (is_above new.def.label) es (position (is_above new.def.label) es) refl) c.requires.sound.indexed
           (ap (λ i. i.timers) c.enter.ensures.index) c.enter.ensures.alike.reading
           );
@@ -112,7 +144,7 @@ returns-clause-goes c = record {
       let new = c.args.ready.seat in
       let label = new.def.label in
       let e = Load (Ok (given new.def)) (is_some c.args.ready.setting) force bind store in
-      let t : Jobs = record c.enter.new.self { index = record c.enter.new.self.index { places = with_items c.enter.new.self.index.places c.place_all.new.places } } in
+      let t : Jobs = record c.enter.new.self { index = record c.enter.new.self.index { places = with_items c.enter.new.self.index.places c.make_way.new.places } } in
       let alike = c.enter.ensures.alike in
       let job : Job = record { label = label; past = Loaded (definition new.def) s.reading ∷ [] } in
       let this : KeepsJob old.reading (row new) job = record {
@@ -170,7 +202,7 @@ returns-clause-goes c = record {
   room =
       let first = c.enter.ensures.room in
       let then = c.ask_at.ensures.room in
-      let after = c.place_all.new.places in
+      let after = c.make_way.new.places in
       let t = c.enter.new.self in
       let lent = lent-back after (drop (length after) t.index.places.items) t.index.places.len (omega arith) in
       record {
@@ -180,7 +212,7 @@ returns-clause-goes c = record {
         numbers = then.numbers ∙ first.numbers;
         moments = then.moments ∙ first.moments;
         marks = then.marks ∙ first.marks;
-        places = then.places ∙ ap length lent ∙ c.place_all.ensures.length ∙ ap length c.deref_mut.ensures.value ∙ first.places;
+        places = then.places ∙ ap length lent ∙ c.make_way.ensures.length ∙ ap length c.deref_mut.ensures.value ∙ first.places;
         triggers = then.triggers ∙ first.triggers;
       };
   held = ap (λ held. length held.items) (c.ask_at.ensures.alike.settings ∙ c.enter.ensures.alike.settings) ∙ c.set_if.ensures.held;
