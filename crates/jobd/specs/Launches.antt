@@ -46,6 +46,12 @@ abbrev pub seen_by : Result Obs EdgeFault → Option Obs
 seen_by (Ok obs) = Some obs
 seen_by (Err fault) = None
 
+-- whether the edge holds the connection of a client that was handed in, as it was found then
+abbrev pub is_held : HandedIn → Bool
+is_held handed.Dropped = false
+is_held handed.Heard = true
+is_held (handed.Refused refusal) = true
+
 -- the label of the job, which fits the room that is reserved for labels
 abbrev pub IsLabelOf : Table → ℕ → List ℕ → Type 0
 IsLabelOf table job label =
@@ -192,6 +198,10 @@ module _ {T E W : Type 0} (calls : E → Option (List ToldCall)) (stores : T →
 
   -- ---- clients
 
+  -- The edge took a client that waited at the sockets of the job; nothing was handed in.
+  abbrev pub TakesClient : (ℕ → E → E → Type 0) → ℕ → RoundLauncher T E W → RoundLauncher T E W → Type 0
+  TakesClient Accepts job old new = (edge : E) × Accepts job old.host.edge edge × (new ≡ lent edge old)
+
   -- What became of a client under this number: the edge did not hold it, and nothing was handed in; or the job heard that it came; or the
   -- launcher refused it, and it was closed under this number.
   abbrev pub TellsCame : List ℕ → ℕ → ℕ → HandedIn →
@@ -204,9 +214,11 @@ module _ {T E W : Type 0} (calls : E → Option (List ToldCall)) (stores : T →
       × Tells (event_if_label label (journaled.OfJob label (happens.Came conn))) (Some refusal) old mid
       × TellsOne (calls mid.host.edge) (Close job conn, Done) (calls edge) × (new ≡ lent edge mid)
 
-  -- A client of the job came, under this number.
-  pub record ComesIn (conn job : ℕ) (answer : HandedIn) (old new : RoundLauncher T E W) : Type 0 where
+  -- A client of the job came, under this number. The edge was given its connection to hold, under the number and for the job, with this request.
+  pub record ComesIn (Holds : ℕ → ℕ → List ℕ → Bool → E → E → Type 0) (conn job : ℕ) (request : List ℕ) (answer : HandedIn)
+      (old new : RoundLauncher T E W) : Type 0 where
     pub edge : E
+    pub holds : Holds conn job request (is_held answer) old.host.edge edge
     pub label : List ℕ
     pub its : IsLabelOf old.host.table job label
     pub handed : TellsCame label job conn answer (lent edge old) new

@@ -1,7 +1,7 @@
 //! What the rounds of a live loop ask of an edge beside what a launcher's turns ask of it. The launcher of a loop is over any such edge,
 //! so that only the few lines below are proved for all that the edge of the system holds.
 
-ghost use Rattle.std.specs.Prelude.{◌≡◌, ◌≤◌, ℕ, List, Option, Some, true};
+ghost use Rattle.std.specs.Prelude.{◌≡◌, ◌≤◌, ℕ, Bool, List, Option, Some, OnSome, true};
 
 use crate::keeper::Keeper;
 use crate::sleep::slept;
@@ -32,6 +32,13 @@ pub trait RoundEdge: ChildEdge + SleepEdge + PathEdge + SocketEdge {
     /// That this text was handed to the file on how the launcher stands may lead from the one to the other.
     ghost Hands: { List ℕ → Self → Self → Type 0 };
 
+    /// That a client was taken which waited at the sockets of this job may have led from the one to the other.
+    ghost Accepts: { ℕ → Self → Self → Type 0 };
+
+    /// That a client's connection was to be held, under this number, for this job, with this request, and whether it is, may have led from the one
+    /// to the other.
+    ghost Holds: { ℕ → ℕ → List ℕ → Bool → Self → Self → Type 0 };
+
     /// The least job, this one or above it, whose child is over, with the child's run.
     fn over_from(&mut self, job: JobNo) -> Option<(JobNo, u64)>
         ensures { Self.Finds job result self.old self.new };
@@ -49,10 +56,12 @@ pub trait RoundEdge: ChildEdge + SleepEdge + PathEdge + SocketEdge {
     fn listens_at(&self, origin: Origin) -> bool;
 
     /// The next client that waits at one of the job's sockets.
-    fn accept(&mut self, job: JobNo) -> Option<Client>;
+    fn accept(&mut self, job: JobNo) -> Option<Client>
+        ensures { OnSome result (Self.Accepts job self.old self.new) };
 
     /// Holds the connection of a client whose request came whole, under a number that it has had for no other. False: it is let go.
-    fn take(&mut self, conn: u64, caller: Caller) -> bool;
+    fn take(&mut self, conn: u64, caller: Caller) -> bool
+        ensures { Self.Holds conn caller.origin.job caller.exchange.request result self.old self.new };
 
     /// Sends clients what their runs have written. True: one may go on at once.
     fn forward(&mut self) -> bool;
@@ -81,13 +90,18 @@ pub trait RoundEdge: ChildEdge + SleepEdge + PathEdge + SocketEdge {
 }
 
 impl<R: System> RoundEdge for OsEdge<R> {
-    ghost use Rattle.jobd.specs.Found.{IsFrom};
+    ghost use Rattle.jobd.specs.Found.{IsFrom, IsCounted};
 
     // It keeps no file.
     ghost Hands = { λ text old new. Unit {0} };
 
     // No child is let go by the question. Which one is over is the system's word.
     ghost Finds = { λ first found old new. IsFrom first found × (new ≡ old) };
+
+    // What the system's files hold no contract can say.
+    ghost Accepts = { λ job old new. new ≡ old };
+
+    ghost Holds = { λ conn job request is_held old new. IsCounted is_held old new };
 
     ghost rises = { λ first job run old new finds. finds.0 };
 

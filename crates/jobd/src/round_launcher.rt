@@ -286,7 +286,7 @@ impl<T: SettingStore, E: ChildEdge + SocketEdge + PathEdge, W: Write> PathHost
 }
 
 impl<T: SettingStore, E: RoundEdge, W: Write> LoopHost for RoundLauncher<T, E, W> {
-    ghost use Rattle.jobd.specs.Launches.{AsksEdge, Begins, PollsFrom, ComesIn};
+    ghost use Rattle.jobd.specs.Launches.{AsksEdge, Begins, PollsFrom, ComesIn, TakesClient};
 
     ghost Begun = { Begins E.told T.told T.holds T.stamped };
 
@@ -294,7 +294,9 @@ impl<T: SettingStore, E: RoundEdge, W: Write> LoopHost for RoundLauncher<T, E, W
 
     ghost Asked = { AsksEdge };
 
-    ghost Came = { ComesIn E.told T.told T.holds T.stamped };
+    ghost Taken = { TakesClient E.Accepts };
+
+    ghost Came = { ComesIn E.told T.told T.holds T.stamped E.Holds };
 
     ghost rises = { λ first job old new polled. E.rises first job polled.0 old.host.edge polled.1 polled.2 };
 

@@ -171,6 +171,10 @@ impl<E: RoundEdge, R: System> RoundEdge for StatusEdge<E, R> {
 
     ghost rises = { λ first job run old new finds. E.rises first job run old.edge new.edge finds };
 
+    ghost Accepts = { λ job old new. E.Accepts job old.edge new.edge };
+
+    ghost Holds = { λ conn job request is_held old new. E.Holds conn job request is_held old.edge new.edge };
+
     // What the system makes of the text is tested.
     ghost Hands = { λ text old new. Unit {0} };
 

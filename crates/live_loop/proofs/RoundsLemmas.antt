@@ -1,9 +1,12 @@
 -- What is asked, and handed in, in one part and then in another.
-use Rattle.std.proofs.Common.{◌≡◌, ◌⊎◌, inl, inr, ℕ, ◌≤◌, ◌<◌, Bool, true, false, refl, subst, sym, arith}
+use Rattle.std.proofs.Common.{◌≡◌, ◌⊎◌, inl, inr, ℕ, ◌≤◌, ◌<◌, Bool, true, false, List, Option, refl, subst, sym, arith}
 use Rattle.std.specs.Prelude.{nat_le}
 use Rattle.std.proofs.lemmas.Bool.Decides.{nat_tests}
+use Rattle.child_edge.specs.declared.client.Client.{Client}
+use Rattle.job_clients.specs.Callers.{Coming, coming_in}
+use Rattle.job_clients.specs.declared.callers.Callers.{Callers}
 use Rattle.live_loop.specs.declared.loop_host.HandedIn.{HandedIn}
-use Rattle.live_loop.specs.Rounds.{Asks, Gathers, nothing, further, nobody, asked, came}
+use Rattle.live_loop.specs.Rounds.{Asks, Desk, Gathers, MayGrow, desk_with, nothing, further, nobody, asked, taken, heard, went, came}
 
 module _ {H : Type 0} {Asked : H → H → Type 0} where
   pub asks_one : {old new : H} → Asked old new → Asks Asked old new
@@ -13,19 +16,34 @@ module _ {H : Type 0} {Asked : H → H → Type 0} where
   asks_append first nothing = first
   asks_append first (further more a) = further (asks_append first more) a
 
-module _ {H : Type 0} {Asked : H → H → Type 0} {Came : ℕ → ℕ → HandedIn → H → H → Type 0} {first : ℕ} {from : H} where
-  pub gathers_append : {conn : ℕ} {mid : H} {conn' : ℕ} {new : H} → Gathers Asked Came first from conn mid → Gathers Asked Came conn mid conn' new → Gathers Asked Came first from conn' new
+-- the same number and the same clients
+pub desk_same : {conn conn' : ℕ} {coming coming' : ℕ → Option Coming} → conn' ≡ conn → coming' ≡ coming → desk_with conn' coming' ≡ desk_with conn coming
+desk_same is same = λ i. desk_with (is i) (same i)
+
+pub coming_same : {old new : Callers Client} → new ≡ old → coming_in new ≡ coming_in old
+coming_same is = λ i. coming_in (is i)
+
+module _ {H : Type 0} {Asked : H → H → Type 0} {Taken : ℕ → H → H → Type 0} {Came : ℕ → ℕ → List ℕ → HandedIn → H → H → Type 0} {first : Desk} {from : H} where
+  pub gathers_append : {desk : Desk} {mid : H} {desk' : Desk} {new : H} → Gathers Asked Taken Came first from desk mid → Gathers Asked Taken Came desk mid desk' new → Gathers Asked Taken Came first from desk' new
   gathers_append before nobody = before
   gathers_append before (asked more a) = asked (gathers_append before more) a
-  gathers_append before (came more c) = came (gathers_append before more) c
+  gathers_append before (taken more t w a) = taken (gathers_append before more) t w a
+  gathers_append before (heard more h) = heard (gathers_append before more) h
+  gathers_append before (went more g) = went (gathers_append before more) g
+  gathers_append before (came more is s c) = came (gathers_append before more) is s c
 
-  pub gathers_asks : {conn : ℕ} {mid new : H} → Gathers Asked Came first from conn mid → Asks Asked mid new → Gathers Asked Came first from conn new
+  pub gathers_asks : {desk : Desk} {mid new : H} → Gathers Asked Taken Came first from desk mid → Asks Asked mid new → Gathers Asked Taken Came first from desk new
   gathers_asks before nothing = before
   gathers_asks before (further more a) = asked (gathers_asks before more) a
 
-  -- where the number is told by an equation
-  pub gathers_same : {conn conn' : ℕ} {new : H} → Gathers Asked Came first from conn new → conn' ≡ conn → Gathers Asked Came first from conn' new
-  gathers_same {new = new} before is = subst (λ n. Gathers Asked Came first from n new) (sym is) before
+  -- where the desk is told by an equation
+  pub gathers_same : {desk desk' : Desk} {new : H} → Gathers Asked Taken Came first from desk new → desk' ≡ desk → Gathers Asked Taken Came first from desk' new
+  gathers_same {new = new} before is = subst (λ d. Gathers Asked Taken Came first from d new) (sym is) before
+
+  -- one may have been heard, and the edge was asked
+  pub gathers_heard : {conn' : ℕ} {coming' : ℕ → Option Coming} {desk : Desk} {mid new : H} → Gathers Asked Taken Came first from desk mid →
+      MayGrow desk.coming coming' → conn' ≡ desk.conn → Asks Asked mid new → Gathers Asked Taken Came first from (desk_with conn' coming') new
+  gathers_heard before grows is asks = gathers_asks (gathers_same (heard before grows) (desk_same is refl)) asks
 
 -- it is before the moment, or it is not
 pub early_or_due : {up look : ℕ} {X Y : Type 0} → (up < look → X) → (look ≤ up → Y) → ((up < look) × X) ⊎ ((look ≤ up) × Y)

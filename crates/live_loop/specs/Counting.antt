@@ -1,19 +1,48 @@
--- The numbers under which clients of jobs' sockets were handed in, over any rounds.
-use Rattle.std.specs.Prelude.{◌+◌, ℕ, List, [], ◌∷◌, ◌++◌}
+-- The clients that were handed in, over any rounds.
+use Rattle.std.specs.Prelude.{◌≡◌, ◌+◌, ℕ, List, [], ◌∷◌, ◌++◌, Option, Some, None, ⊤}
+use Rattle.job_clients.specs.Callers.{Coming, IsShort}
 use Rattle.live_loop.specs.declared.loop_host.HandedIn.{HandedIn}
-use Rattle.live_loop.specs.Rounds.{AreRounds, Gathers, Launcher, Left, no_round, one_round, nobody, asked, came}
+use Rattle.live_loop.specs.Rounds.{AreRounds, Desk, Gathers, Launcher, Left, no_round, one_round, nobody, asked, taken, heard, went, came}
 
-module _ {H : Type 0} {Asked : H → H → Type 0} {Came : ℕ → ℕ → HandedIn → H → H → Type 0} {first : ℕ} {from : H} where
-  abbrev pub numbers_in : {conn : ℕ} {new : H} → Gathers Asked Came first from conn new → List ℕ
-  numbers_in nobody = []
-  numbers_in (asked more a) = numbers_in more
-  numbers_in (came {conn = conn} more it) = numbers_in more ++ conn ∷ []
+-- a client as it was handed in: under which number, of which job, with which request
+pub record Handed : Type 0 where
+  pub conn : ℕ
+  pub job : ℕ
+  pub request : List ℕ
 
-abbrev pub numbers_by : {H : Type 0} {it : Launcher H} {first last : Left H} → AreRounds it first last → List ℕ
-numbers_by no_round = []
-numbers_by (one_round more round) = numbers_by more ++ numbers_in round.serves.gathers
+module _ {H : Type 0} {Asked : H → H → Type 0} {Taken : ℕ → H → H → Type 0} {Came : ℕ → ℕ → List ℕ → HandedIn → H → H → Type 0} {first : Desk} {from : H} where
+  abbrev pub handed_in : {desk : Desk} {new : H} → Gathers Asked Taken Came first from desk new → List Handed
+  handed_in nobody = []
+  handed_in (asked more a) = handed_in more
+  handed_in (taken more t w a) = handed_in more
+  handed_in (heard more g) = handed_in more
+  handed_in (went more g) = handed_in more
+  handed_in (came {client = client} {desk = desk} more is set it) =
+      handed_in more ++ record { conn = desk.conn; job = client.origin.job; request = client.request } ∷ []
 
--- these are the numbers from the first to the one before the last, one after another
-pub data AreCounted (first : ℕ) : List ℕ → ℕ → Type 0 where
+abbrev pub handed_by : {H : Type 0} {it : Launcher H} {first last : Left H} → AreRounds it first last → List Handed
+handed_by no_round = []
+handed_by (one_round more round) = handed_by more ++ handed_in round.serves.gathers
+
+-- they were handed in under one number after another, from the first to the one before the last
+pub data AreCounted (first : ℕ) : List Handed → ℕ → Type 0 where
   no_client : AreCounted first [] first
-  one_client : {numbers : List ℕ} {last : ℕ} → AreCounted first numbers last → AreCounted first (numbers ++ last ∷ []) (last + 1)
+  one_client : {them : List Handed} {last : ℕ} (one : Handed) → AreCounted first them last → one.conn ≡ last → AreCounted first (them ++ one ∷ []) (last + 1)
+
+-- each is no longer than a request may be
+abbrev pub AreShort : List Handed → Type 0
+AreShort [] = ⊤
+AreShort (one ∷ them) = IsShort one.request × AreShort them
+
+-- what came so far of a client's request is no longer
+abbrev pub IsShortSoFar : Option Coming → Type 0
+IsShortSoFar None = ⊤
+IsShortSoFar (Some coming) = IsShort coming.request
+
+abbrev pub AllAreShort : (ℕ → Option Coming) → Type 0
+AllAreShort coming = (key : ℕ) → IsShortSoFar (coming key)
+
+-- The clients that were handed in, from the one desk to the other.
+pub record Counts (first : Desk) (them : List Handed) (last : Desk) : Type 0 where
+  pub numbers : AreCounted first.conn them last.conn
+  pub requests : AllAreShort first.coming → AreShort them × AllAreShort last.coming

@@ -1,6 +1,8 @@
 -- A round of the live loop.
-use Rattle.std.specs.Prelude.{◌≡◌, ◌⊎◌, ◌+◌, ◌<◌, ◌≤◌, ℕ, List, Option}
+use Rattle.std.specs.Prelude.{◌≡◌, ◌⊎◌, ◌+◌, ◌<◌, ◌≤◌, ℕ, List, Option, Some, None}
 use Rattle.history_model.specs.declared.Reply.{Reply}
+use Rattle.job_clients.specs.Callers.{Coming, GrowsAt, IsNobody, MayComeIn, Sets}
+use Rattle.job_clients.specs.declared.caller.Origin.{Origin}
 use Rattle.control_socket.specs.Serving.{Serves}
 use Rattle.live_loop.specs.declared.loop_host.HandedIn.{HandedIn}
 use Rattle.live_loop.specs.Children.{PollsAll}
@@ -12,33 +14,73 @@ pub data Asks {H : Type 0} (Asked : H → H → Type 0) (from : H) : H → Type 
   nothing : Asks Asked from from
   further : {mid new : H} → Asks Asked from mid → Asked mid new → Asks Asked from new
 
--- The edge was asked, and clients of jobs' sockets were handed in, each under the number behind that of the one before.
-pub data Gathers {H : Type 0} (Asked : H → H → Type 0) (Came : ℕ → ℕ → HandedIn → H → H → Type 0) (first : ℕ) (from : H) : ℕ → H → Type 0 where
-  nobody : Gathers Asked Came first from first from
-  asked : {conn : ℕ} {mid new : H} →
-      Gathers Asked Came first from conn mid → Asked mid new → Gathers Asked Came first from conn new
-  came : {conn job : ℕ} {answer : HandedIn} {mid new : H} →
-      Gathers Asked Came first from conn mid → Came conn job answer mid new →
-      Gathers Asked Came first from (conn + 1) new
+-- What the sockets of jobs keep: the number of the next client whose request comes whole, and the clients whose request still comes, each under
+-- its key.
+pub record Desk : Type 0 where
+  pub conn : ℕ
+  pub coming : ℕ → Option Coming
 
-module _ {H : Type 0} (Answered : List ℕ → Reply → H → H → Type 0) (Asked : H → H → Type 0) (Came : ℕ → ℕ → HandedIn → H → H → Type 0) where
-  -- Control clients were served, then those of jobs' sockets, from the first of these numbers up to the second, and then perhaps the control
-  -- clients once more.
-  pub record ServesAll (conn conn' : ℕ) (old new : H) : Type 0 where
+-- no client came yet
+abbrev pub IsNew : Desk → Type 0
+IsNew desk = (desk.conn ≡ 1) × IsNobody desk.coming
+
+abbrev pub desk_with : ℕ → (ℕ → Option Coming) → Desk
+desk_with conn coming = record { conn = conn; coming = coming }
+
+-- one of them may have been let go
+abbrev pub LetsGo : (ℕ → Option Coming) → (ℕ → Option Coming) → Type 0
+LetsGo old new = (new ≡ old) ⊎ ((key : ℕ) × Sets key None old new)
+
+-- more may have come of the request of one of them
+abbrev pub MayGrow : (ℕ → Option Coming) → (ℕ → Option Coming) → Type 0
+MayGrow old new = (new ≡ old) ⊎ ((key : ℕ) × GrowsAt key old new)
+
+-- A client that came to these sockets is among them, perhaps in the place of another; or it was let go.
+pub record Welcomes (origin : Origin) (old new : ℕ → Option Coming) : Type 0 where
+  pub mid : ℕ → Option Coming
+  pub gone : LetsGo old mid
+  pub came : MayComeIn origin mid new
+
+module _ {H : Type 0} (Asked : H → H → Type 0) (Taken : ℕ → H → H → Type 0) (Came : ℕ → ℕ → List ℕ → HandedIn → H → H → Type 0) where
+  -- What becomes of the clients of jobs' sockets, step by step. The edge is asked. A client is taken at the sockets of a job, and is among the others
+  -- from then on as one that came to these sockets, or is let go. Some bytes of one's request come. One is let go. One is handed in: under the
+  -- next number, for the job to whose sockets it came, with all that came of its request; it is among the others no more.
+  pub data Gathers (first : Desk) (from : H) : Desk → H → Type 0 where
+    nobody : Gathers first from first from
+    asked : {desk : Desk} {mid new : H} →
+        Gathers first from desk mid → Asked mid new → Gathers first from desk new
+    taken : {origin : Origin} {desk : Desk} {coming : ℕ → Option Coming} {mid at new : H} →
+        Gathers first from desk mid → Taken origin.job mid at → Welcomes origin desk.coming coming → Asks Asked at new →
+        Gathers first from (desk_with desk.conn coming) new
+    heard : {desk : Desk} {coming : ℕ → Option Coming} {new : H} →
+        Gathers first from desk new → MayGrow desk.coming coming →
+        Gathers first from (desk_with desk.conn coming) new
+    went : {desk : Desk} {coming : ℕ → Option Coming} {new : H} →
+        Gathers first from desk new → LetsGo desk.coming coming →
+        Gathers first from (desk_with desk.conn coming) new
+    came : {key : ℕ} {client : Coming} {answer : HandedIn} {desk : Desk} {coming : ℕ → Option Coming} {mid new : H} →
+        Gathers first from desk mid → desk.coming key ≡ Some client → Sets key None desk.coming coming →
+        Came desk.conn client.origin.job client.request answer mid new →
+        Gathers first from (desk_with (desk.conn + 1) coming) new
+
+module _ {H : Type 0} (Answered : List ℕ → Reply → H → H → Type 0) (Asked : H → H → Type 0) (Taken : ℕ → H → H → Type 0)
+    (Came : ℕ → ℕ → List ℕ → HandedIn → H → H → Type 0) where
+  -- Control clients were served, then those of jobs' sockets, from the one desk to the other, and then perhaps the control clients once more.
+  pub record ServesAll (desk desk' : Desk) (old new : H) : Type 0 where
     pub first : H
     pub serves : Serves Answered old first
     pub mid : H
-    pub gathers : Gathers Asked Came conn first conn' mid
+    pub gathers : Gathers Asked Taken Came desk first desk' mid
     pub last : H
     pub again : Serves Answered mid last
     pub asks : Asks Asked last new
 
--- what a round leaves for the next: the launcher, the job whose child is asked about first, the number of the next client of a job, when paths
--- are looked at, the path behind which a round of looks goes on, if one does, when the next one begins, and what was handed in last of them
+-- what a round leaves for the next: the launcher, the job whose child is asked about first, the clients of jobs' sockets with the number of the
+-- next, when paths are looked at, the path behind which a round of looks goes on, if one does, when the next one begins, and what was handed in last of them
 pub record Left (H : Type 0) : Type 0 where
   pub host : H
   pub child : ℕ
-  pub conn : ℕ
+  pub desk : Desk
   pub look : ℕ
   pub walk : Option (List ℕ)
   pub later : ℕ
@@ -53,7 +95,8 @@ pub record Launcher (H : Type 0) : Type 1 where
   pub Begun : H → H → Type 0
   pub Polled : ℕ → Option ℕ → H → H → Type 0
   pub Asked : H → H → Type 0
-  pub Came : ℕ → ℕ → HandedIn → H → H → Type 0
+  pub Taken : ℕ → H → H → Type 0
+  pub Came : ℕ → ℕ → List ℕ → HandedIn → H → H → Type 0
 
 -- before its moment nothing is looked at; from then on a round of looks begins, or the one that was begun goes on
 abbrev pub Sees : {H : Type 0} → Launcher H → H → Left H → H → Left H → Type 0
@@ -77,7 +120,7 @@ pub record IsRound {H : Type 0} (it : Launcher H) (old new : Left H) : Type 0 wh
   pub looked : H
   pub looks : Sees it polled old looked new
   pub served : H
-  pub serves : ServesAll it.Answered it.Asked it.Came old.conn new.conn looked served
+  pub serves : ServesAll it.Answered it.Asked it.Taken it.Came old.desk new.desk looked served
   pub tells : Asks it.Asked served new.host
 
 -- any rounds, one after another: each begins with what the one before left

@@ -1,7 +1,9 @@
 //! The clients of jobs' sockets, from their coming to the end of their request. Then the edge of the system has them.
 
-ghost use Rattle.std.specs.Prelude.{◌≡◌};
-ghost use Rattle.live_loop.specs.Rounds.{Asks, Gathers};
+ghost use Rattle.std.specs.Prelude.{◌≡◌, IfOk};
+ghost use Rattle.job_clients.specs.Callers.{MayComeIn, coming_in};
+ghost use Rattle.live_loop.specs.Kept.{desk_in};
+ghost use Rattle.live_loop.specs.Rounds.{Asks, Gathers, IsNew, LetsGo, MayGrow, Welcomes};
 
 use crate::label_room::LabelRoom;
 use crate::loop_host::{HandedIn, LoopHost};
@@ -40,7 +42,9 @@ pub(crate) struct JobSockets {
 }
 
 impl JobSockets {
-    pub(crate) fn new(alloc: Global) -> Result<JobSockets, AllocError> {
+    pub(crate) fn new(alloc: Global) -> Result<JobSockets, AllocError>
+        ensures { IfOk result (λ sockets. IsNew (desk_in sockets)) }
+    {
         let callers = Callers::new(alloc)?;
         Ok(JobSockets {
             callers,
@@ -57,7 +61,7 @@ impl JobSockets {
 
     /// The poll was woken under this token.
     pub(crate) fn wake_by(&mut self, token: Token)
-        ensures { self.new.conn ≡ self.old.conn }
+        ensures { desk_in self.new ≡ desk_in self.old }
     {
         if token == COMING {
             self.may_have_come = true;
@@ -75,16 +79,15 @@ impl JobSockets {
         host: &mut H,
         time: &mut L,
     )
-        ensures asks { Asks H.Asked host.old host.new }
+        ensures gathers { Gathers H.Asked H.Taken H.Came (desk_in self.old) host.old (desk_in self.new) host.new }
         ensures conn { self.new.conn ≡ self.old.conn }
     {
         let room = host.room();
         self.room = room;
         self.callers.set_room(room);
         // Sockets that the poll refuses are tried in each round.
-        if !host.register(registry, COMING) {
-            self.may_have_come = true;
-        }
+        let is_registered = host.register(registry, COMING);
+        self.may_have_come = self.may_have_come | !is_registered;
         if !self.may_have_come {
             return;
         }
@@ -108,7 +111,8 @@ impl JobSockets {
 
     // A pass over all sockets begins with the first job.
     fn begin_pass(&mut self)
-        ensures { self.new.conn ≡ self.old.conn }
+        ensures desk { desk_in self.new ≡ desk_in self.old }
+        ensures conn { self.new.conn ≡ self.old.conn }
     {
         if self.first_job == 0 {
             self.callers.begin_pass();
@@ -127,7 +131,7 @@ impl JobSockets {
     // Takes the clients of one job. If they are many, or there is no room for all before the first are read, the others are left
     // for the next round; so are those that have to wait for a place, which the system holds. It says whether one came, or may wait.
     fn accept_for<H: LoopHost>(&mut self, registry: &Registry, host: &mut H, origin: Origin) -> bool
-        ensures asks { Asks H.Asked host.old host.new }
+        ensures gathers { Gathers H.Asked H.Taken H.Came (desk_in self.old) host.old (desk_in self.new) host.new }
         ensures conn { self.new.conn ≡ self.old.conn }
     {
         for count in 0..TAKEN {
@@ -155,6 +159,7 @@ impl JobSockets {
     )
         ensures asks { Asks H.Asked host.old host.new }
         ensures conn { self.new.conn ≡ self.old.conn }
+        ensures welcomes { Welcomes origin (coming_in self.old.callers) (coming_in self.new.callers) }
     {
         match place {
             Place::Free => self.take_in(registry, host, origin, client),
@@ -179,6 +184,7 @@ impl JobSockets {
     )
         ensures asks { Asks H.Asked host.old host.new }
         ensures conn { self.new.conn ≡ self.old.conn }
+        ensures comes { MayComeIn origin (coming_in self.old.callers) (coming_in self.new.callers) }
     {
         let up = host.up();
         match self.callers.welcome(registry, origin, client, up) {
@@ -190,6 +196,7 @@ impl JobSockets {
     fn let_go<H: LoopHost>(&mut self, host: &mut H, key: usize, loss: Option<Loss>)
         ensures asks { Asks H.Asked host.old host.new }
         ensures conn { self.new.conn ≡ self.old.conn }
+        ensures gone { LetsGo (coming_in self.old.callers) (coming_in self.new.callers) }
     {
         let Some(caller) = self.callers.remove(key) else {
             return;
@@ -206,6 +213,7 @@ impl JobSockets {
     fn tell<H: LoopHost>(&mut self, host: &mut H, origin: Origin, loss: Loss)
         ensures asks { Asks H.Asked host.old host.new }
         ensures conn { self.new.conn ≡ self.old.conn }
+        ensures callers { self.new.callers ≡ self.old.callers }
     {
         if host.listens_at(origin) {
             let up = host.up();
@@ -222,7 +230,7 @@ impl JobSockets {
         label: &mut LabelRoom,
         time: &mut L,
     ) -> bool
-        ensures { Gathers H.Asked H.Came self.old.conn host.old self.new.conn host.new }
+        ensures { Gathers H.Asked H.Taken H.Came (desk_in self.old) host.old (desk_in self.new) host.new }
     {
         if self.callers.is_empty() {
             return false;
@@ -254,7 +262,7 @@ impl JobSockets {
         key: usize,
         gathered: Gathered,
     ) -> bool
-        ensures { Gathers H.Asked H.Came self.old.conn host.old self.new.conn host.new }
+        ensures { Gathers H.Asked H.Taken H.Came (desk_in self.old) host.old (desk_in self.new) host.new }
     {
         match gathered {
             Gathered::Waits => false,
@@ -275,6 +283,7 @@ impl JobSockets {
     fn gathered<H: LoopHost>(&mut self, host: &mut H, key: usize) -> Gathered
         ensures asks { Asks H.Asked host.old host.new }
         ensures conn { self.new.conn ≡ self.old.conn }
+        ensures grows { MayGrow (coming_in self.old.callers) (coming_in self.new.callers) }
     {
         let Some(origin) = self.callers.origin_of(key) else {
             return Gathered::Waits;
@@ -297,7 +306,7 @@ impl JobSockets {
         label: &mut LabelRoom,
         key: usize,
     )
-        ensures { Gathers H.Asked H.Came self.old.conn host.old self.new.conn host.new }
+        ensures { Gathers H.Asked H.Taken H.Came (desk_in self.old) host.old (desk_in self.new) host.new }
     {
         let conn = self.conn;
         let Some(next) = conn.checked_add(1) else {

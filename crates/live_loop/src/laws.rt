@@ -2,7 +2,7 @@
 
 ghost use Rattle.std.specs.Prelude.{◌≡◌, ◌⊎◌, ◌≤◌, ◌+◌, ◌-◌, ◌^◌, min, ℕ};
 ghost use Rattle.live_loop.specs.Children.{PollsAll};
-ghost use Rattle.live_loop.specs.Counting.{AreCounted, numbers_by};
+ghost use Rattle.live_loop.specs.Counting.{Counts, handed_by};
 ghost use Rattle.live_loop.specs.Rounds.{AreRounds, Left};
 
 use crate::loop_host::LoopHost;
@@ -16,7 +16,8 @@ pub fn no_child_is_left_out<H: LoopHost>(host: &H)
     let _ = host;
 }
 
-/// No two clients of jobs' sockets have one number: any rounds hand them in under one number after another, each once.
+/// No two clients of jobs' sockets have one number: any rounds hand them in under one number after another, each once. No request is longer
+/// than 65,536 bytes, if none was so long when the first of these rounds began.
 pub fn each_client_has_a_number_of_its_own<H: LoopHost>(host: &H)
     ensures { (first last : Left H) → (rounds : AreRounds (record {
       round_up = H.round_up;
@@ -26,8 +27,9 @@ pub fn each_client_has_a_number_of_its_own<H: LoopHost>(host: &H)
       Begun = H.Begun;
       Polled = H.Polled;
       Asked = H.Asked;
+      Taken = H.Taken;
       Came = H.Came;
-    }) first last) → AreCounted first.conn (numbers_by rounds) last.conn }
+    }) first last) → Counts first.desk (handed_by rounds) last.desk }
 {
     let _ = host;
 }

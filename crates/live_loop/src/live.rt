@@ -1,8 +1,9 @@
 //! The launcher with what its live loop waits on.
 
 ghost use Rattle.std.specs.Prelude.{◌≡◌, IfOk};
-ghost use Rattle.live_loop.specs.Kept.{left_in};
+ghost use Rattle.live_loop.specs.Kept.{desk_in, left_in};
 ghost use Rattle.live_loop.specs.Looks.{IsEmpty};
+ghost use Rattle.live_loop.specs.Rounds.{IsNew};
 ghost use Rattle.live_loop.specs.Sightings.{known_in};
 
 use crate::fault::ServeFault;
@@ -58,7 +59,7 @@ pub(crate) struct Rooms {
 }
 
 fn make_rooms<R: System>(rt: &R, alloc: Global) -> Result<Rooms, AllocError>
-    ensures { IfOk result (λ rooms. IsEmpty (known_in rooms.sights)) }
+    ensures { IfOk result (λ rooms. IsEmpty (known_in rooms.sights) × IsNew (desk_in rooms.sockets)) }
 {
     let label = LabelRoom::new(alloc)?;
     let events = match Events::with_capacity(alloc, EVENTS) {
@@ -91,7 +92,7 @@ fn make_rooms<R: System>(rt: &R, alloc: Global) -> Result<Rooms, AllocError>
 }
 
 fn senses(alloc: Global) -> Result<(Sights, JobSockets), AllocError>
-    ensures { IfOk result (λ both. IsEmpty (known_in both.0)) }
+    ensures { IfOk result (λ both. IsEmpty (known_in both.0) × IsNew (desk_in both.1)) }
 {
     let sights = Sights::new(alloc)?;
     match JobSockets::new(alloc) {
@@ -125,7 +126,7 @@ impl<H: LoopHost + Drop> Live<H> {
         host: H,
         control: ControlSocket,
     ) -> Result<Live<H>, ServeFault>
-        ensures { IfOk result (λ live. ((left_in live).host ≡ host) × IsEmpty (left_in live).known) }
+        ensures { IfOk result (λ live. ((left_in live).host ≡ host) × IsEmpty (left_in live).known × IsNew (left_in live).desk) }
     {
         let mut control = control;
         // The poll first: no room is made if the system refuses it.

@@ -1,7 +1,7 @@
 //! A launcher as its live loop sees it: what a round asks of it and of its edge, and what it hands in. The loop knows neither the
 //! table nor the store nor the journal behind it.
 
-ghost use Rattle.std.specs.Prelude.{◌≡◌, ◌≤◌, ℕ, List, Option, Some};
+ghost use Rattle.std.specs.Prelude.{◌≡◌, ◌≤◌, ℕ, List, Option, Some, IfNone, OnSome};
 ghost use Rattle.std.specs.Option.{option_map};
 ghost use Rattle.live_loop.specs.Looks.{PathCall, BeginsLooks, HasLoaded, AsksAt, Awaits, LookedAt, Sighted};
 
@@ -92,8 +92,11 @@ pub trait LoopHost: PathHost + Answers {
     /// A question to the edge, by which nothing is handed in, may lead from the one to the other.
     ghost Asked: { Self → Self → Type 0 };
 
-    /// That a client of the job came, under this number, was handed in, and it may have led from the one to the other.
-    ghost Came: { ℕ → ℕ → HandedIn → Self → Self → Type 0 };
+    /// That a client was taken which waited at the sockets of this job may have led from the one to the other.
+    ghost Taken: { ℕ → Self → Self → Type 0 };
+
+    /// That a client came, under this number, of this job, with this request, was handed in, and it may have led from the one to the other.
+    ghost Came: { ℕ → ℕ → List ℕ → HandedIn → Self → Self → Type 0 };
 
     /// Begins a round at a new reading, which is handed in if it may change something. If the clock can't be read, the round
     /// is at the reading of the one before.
@@ -133,9 +136,10 @@ pub trait LoopHost: PathHost + Answers {
     /// The label of the job.
     fn label(&self, job: JobNo) -> &str;
 
-    /// A client that waits at the job's sockets.
+    /// Takes a client that waits at the job's sockets, if there is one.
     fn accept(&mut self, job: JobNo) -> Option<Client>
-        ensures { Self.Asked self.old self.new };
+        ensures taken { OnSome result (Self.Taken job self.old self.new) }
+        ensures nobody { IfNone result (Self.Asked self.old self.new) };
 
     /// Hands in a client whose request came whole, under a number that it has had for no other.
     fn hand_in(
@@ -145,7 +149,7 @@ pub trait LoopHost: PathHost + Answers {
         conn: u64,
         caller: Caller,
     ) -> HandedIn
-        ensures { Self.Came conn caller.origin.job result self.old self.new };
+        ensures { Self.Came conn caller.origin.job caller.exchange.request result self.old self.new };
 
     /// Sends clients what their runs have written. It says whether one may go on at once.
     fn forward(&mut self) -> bool

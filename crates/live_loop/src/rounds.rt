@@ -3,7 +3,7 @@
 ghost use Rattle.std.specs.Prelude.{◌≡◌, OnOk};
 ghost use Rattle.control_socket.specs.Serving.{Serves};
 ghost use Rattle.live_loop.specs.Rounds.{Asks, IsRound, ServesAll};
-ghost use Rattle.live_loop.specs.Kept.{IsKeptBy, IsLookKeptBy, left_in};
+ghost use Rattle.live_loop.specs.Kept.{IsKeptBy, IsLookKeptBy, desk_in, left_in};
 
 use crate::children::poll_children;
 use crate::fault::ServeFault;
@@ -54,6 +54,7 @@ pub fn round<R: System, H: LoopHost>(
       Begun = H.Begun;
       Polled = H.Polled;
       Asked = H.Asked;
+      Taken = H.Taken;
       Came = H.Came;
     })
         (left_in live.old) (left_in live.new)) }
@@ -126,7 +127,7 @@ fn wait<R: System, H: LoopHost>(rt: &R, live: &mut Live<H>) -> Result<(), ServeF
 
 // Tells the sockets of jobs what woke the poll.
 fn wake(events: &Events, sockets: &mut JobSockets)
-    ensures { sockets.new.conn ≡ sockets.old.conn }
+    ensures { desk_in sockets.new ≡ desk_in sockets.old }
 {
     for event in events.iter() {
         sockets.wake_by(event.token());
@@ -146,8 +147,8 @@ fn next_wait<H: LoopHost>(live: &mut Live<H>) -> u64
 }
 
 fn serve_clients<R: System, H: LoopHost>(rt: &R, alloc: Global, live: &mut Live<H>)
-    ensures serves { ServesAll H.Answered H.Asked H.Came
-        live.old.rooms.sockets.conn live.new.rooms.sockets.conn live.old.host live.new.host }
+    ensures serves { ServesAll H.Answered H.Asked H.Taken H.Came
+        (desk_in live.old.rooms.sockets) (desk_in live.new.rooms.sockets) live.old.host live.new.host }
     ensures kept { IsLookKeptBy live.old live.new }
 {
     let was_asking = serve_control(rt, alloc, live);

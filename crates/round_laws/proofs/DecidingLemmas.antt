@@ -1,5 +1,5 @@
 -- Rounds of a new launcher decide as one that hears all.
-use Rattle.std.proofs.Common.{◌≡◌, ℕ, true, false, List, Option, Some, None, sym, ap, subst, ◌∙◌, arith}
+use Rattle.std.proofs.Common.{◌≡◌, ℕ, Bool, true, false, List, Option, Some, None, sym, ap, subst, ◌∙◌, arith}
 use Rattle.std.specs.Prelude.{nat_le}
 use Rattle.std.proofs.lemmas.Bool.Decides.{nat_tests}
 use Rattle.history_model.specs.declared.TheConstants.{MAX_UP, MAX_WALL}
@@ -30,18 +30,19 @@ in-range : (at : Reading) → nat_le at.up MAX_UP ≡ true → nat_le at.wall MA
 in-range at up wall = not-refused at at (grind (arith, nat_tests)) (grind (arith, nat_tests, up)) (grind (arith, nat_tests, wall))
 
 module _ {T E W : Type 0} (calls : E → Option (List ToldCall)) (stores : T → Option (List StoreCall))
-    (holds : T → List Setting → Type 0) (stamped : T → List Stamp → Type 0) (Finds : ℕ → Option (ℕ × ℕ) → E → E → Type 0) (Looks : List ℕ → Result Obs EdgeFault → E → E → Type 0) where
+    (holds : T → List Setting → Type 0) (stamped : T → List Stamp → Type 0) (Finds : ℕ → Option (ℕ × ℕ) → E → E → Type 0) (Looks : List ℕ → Result Obs EdgeFault → E → E → Type 0)
+    (Accepts : ℕ → E → E → Type 0) (Holds : ℕ → ℕ → List ℕ → Bool → E → E → Type 0) where
   pub decides : (header : Header) (told : Option (List ToldCall)) (stored : Option (List StoreCall)) (journal : JournalState) (before : T) (first last : Left (RoundLauncher T E W)) →
       (new : IsNew header told stored journal (stands calls stores first.host.host) (holds before) (holds first.host.host.store)) → first.host.at ≡ first.host.host.table.reading → IsEmpty first.known →
-      (rounds : AreRounds (launcher calls stores holds stamped Finds Looks) first last) → HeardReadings (marks_of calls stores holds stamped Finds Looks rounds) →
-      Decides new.machine (marks_of calls stores holds stamped Finds Looks rounds)
+      (rounds : AreRounds (launcher calls stores holds stamped Finds Looks Accepts Holds) first last) → HeardReadings (marks_of calls stores holds stamped Finds Looks Accepts Holds rounds) →
+      Decides new.machine (marks_of calls stores holds stamped Finds Looks Accepts Holds rounds)
   decides header told stored journal before first last new at empty rounds had =
       let s = new.machine in
-      let marks = marks_of calls stores holds stamped Finds Looks rounds in
+      let marks = marks_of calls stores holds stamped Finds Looks Accepts Holds rounds in
       let is : s.reading ≡ header.reading = ap (λ (t : State). t.reading) new.opens.state in
       let allowed : is_clock_refused s.reading s.reading ≡ false =
       subst (λ (r : Reading). is_clock_refused r r ≡ false) (sym is) (in-range header.reading new.writable.is.up new.writable.is.wall) in
-      let spans = rounds_keep calls stores holds stamped Finds Looks rounds s s.reading had (record { keeps = new.kept; led = new.led; at = at ∙ new.kept.reading; allowed = allowed }) in
+      let spans = rounds_keep calls stores holds stamped Finds Looks Accepts Holds rounds s s.reading had (record { keeps = new.kept; led = new.led; at = at ∙ new.kept.reading; allowed = allowed }) in
       record {
         parts = spans.parts;
         are_parts = spans.are_parts;

@@ -48,7 +48,7 @@ use Rattle.live_loop.specs.Children as children
 use Rattle.live_loop.specs.Looks as looks
 use Rattle.live_loop.specs.Rounds as rounds
 use Rattle.jobd.specs.declared.round_launcher.RoundLauncher.{RoundLauncher}
-use Rattle.jobd.specs.Launches.{lent, AsksEdge, ListsNext, Heard, HeardReading, Reads, ReadsIf, ReadsClock, HeardIf, HandsNews, Begins, Gives, Tells, TellsEnd, PollsFrom, DoesPath, TellsCame, ComesIn, AnswersLine}
+use Rattle.jobd.specs.Launches.{lent, AsksEdge, ListsNext, Heard, HeardReading, Reads, ReadsIf, ReadsClock, HeardIf, HandsNews, Begins, Gives, Tells, TellsEnd, PollsFrom, DoesPath, TakesClient, TellsCame, ComesIn, AnswersLine}
 use Rattle.round_laws.specs.Marks.{Mark, Turned, Spared, turns_in, snapshot, turned}
 use Rattle.round_laws.specs.Hearing.{lines_of, HeardReadings}
 use Rattle.round_laws.proofs.TurnsLemmas.{one_turn}
@@ -550,26 +550,34 @@ module _ {T E W : Type 0} (calls : E → Option (List ToldCall)) (stores : T →
   serves {old = old} nobody = nothing old
   serves (one_more {line = line} {reply = reply} {mid = mid} {new = new} more answers) = then_ (serves more) (answered line reply mid new answers)
 
-  client : (label : List ℕ) (job conn : ℕ) (answer : Became) (old new : RoundLauncher T E W) (t : TellsCame calls stores holds stamped label job conn answer old new) →
+  client_on : (label : List ℕ) (job conn : ℕ) (answer : Became) (old new : RoundLauncher T E W) (t : TellsCame calls stores holds stamped label job conn answer old new) →
       Keeps (of_client calls stores holds stamped label job conn answer old new t) old new
-  client label job conn handed.Dropped old new is = same is
-  client label job conn handed.Heard old new t = tells (event_if_label label (journaled.OfJob label (happens.Came conn))) (of_job label (happens.Came conn)) None old new t
-  client label job conn (handed.Refused refusal) old new came =
+  client_on label job conn handed.Dropped old new is = same is
+  client_on label job conn handed.Heard old new t = tells (event_if_label label (journaled.OfJob label (happens.Came conn))) (of_job label (happens.Came conn)) None old new t
+  client_on label job conn (handed.Refused refusal) old new came =
       let heard = tells (event_if_label label (journaled.OfJob label (happens.Came conn))) (of_job label (happens.Came conn)) (Some refusal) old came.0 came.2 in
       subst (λ (r : RoundLauncher T E W). Keeps (of_tells calls stores holds stamped (event_if_label label (journaled.OfJob label (happens.Came conn))) (Some refusal) old came.0 came.2) old r) (sym came.4)
       (subst (λ ms. Keeps ms old (lent came.1 came.0)) (append-nil (of_tells calls stores holds stamped (event_if_label label (journaled.OfJob label (happens.Came conn))) (Some refusal) old came.0 came.2))
       (then_ {ys = []} heard (lent_on came.1 came.0)))
 
-  clients : {conn : ℕ} {old : RoundLauncher T E W} {conn' : ℕ} {new : RoundLauncher T E W} (g : rounds.Gathers AsksEdge (ComesIn calls stores holds stamped) conn old conn' new) → Keeps (of_clients calls stores holds stamped g) old new
-  clients {old = old} rounds.nobody = nothing old
-  clients {old = old} (rounds.asked {new = new} more a) = subst (λ ms. Keeps ms old new) (append-nil (of_clients calls stores holds stamped more)) (then_ {ys = []} (clients more) (asked a))
-  clients (rounds.came {conn = conn} {job = job} {answer = answer} {mid = mid} {new = new} more comes) =
-      then_ (clients more) (then_ {xs = []} (lent_on comes.edge mid) (client comes.label job conn answer (lent comes.edge mid) new comes.handed))
+  took : (Accepts : ℕ → E → E → Type 0) {job : ℕ} {old mid new : RoundLauncher T E W} → TakesClient Accepts job old mid → rounds.Asks AsksEdge mid new → Keeps [] old new
+  took Accepts {old = old} {mid = mid} takes a = then_ {xs = []} {ys = []} (subst (λ (r : RoundLauncher T E W). Keeps [] old r) (sym takes.2) (lent_on takes.0 old)) (asks a)
+
+  clients : (Accepts : ℕ → E → E → Type 0) (Holds : ℕ → ℕ → List ℕ → Bool → E → E → Type 0) {desk : rounds.Desk} {old : RoundLauncher T E W} {desk' : rounds.Desk} {new : RoundLauncher T E W}
+      (g : rounds.Gathers AsksEdge (TakesClient Accepts) (ComesIn calls stores holds stamped Holds) desk old desk' new) → Keeps (of_clients calls stores holds stamped Accepts Holds g) old new
+  clients Accepts Holds {old = old} rounds.nobody = nothing old
+  clients Accepts Holds {old = old} (rounds.asked {new = new} more a) = subst (λ ms. Keeps ms old new) (append-nil (of_clients calls stores holds stamped Accepts Holds more)) (then_ {ys = []} (clients Accepts Holds more) (asked a))
+  clients Accepts Holds {old = old} (rounds.taken {new = new} more t w a) = subst (λ ms. Keeps ms old new) (append-nil (of_clients calls stores holds stamped Accepts Holds more)) (then_ {ys = []} (clients Accepts Holds more) (took Accepts t a))
+  clients Accepts Holds (rounds.heard more grows) = clients Accepts Holds more
+  clients Accepts Holds (rounds.went more gone) = clients Accepts Holds more
+  clients Accepts Holds (rounds.came {client = client} {answer = answer} {desk = desk} {mid = mid} {new = new} more is set comes) =
+      then_ (clients Accepts Holds more) (then_ {xs = []} (lent_on comes.edge mid) (client_on comes.label client.origin.job desk.conn answer (lent comes.edge mid) new comes.handed))
 
   ended : {marks : List (Mark T)} {a : RoundLauncher T E W} (b c d : RoundLauncher T E W) → Keeps marks a b → rounds.Asks AsksEdge b c → rounds.Asks AsksEdge c d → Keeps marks a d
   ended {marks} {a} b c d goes first second = subst (λ ms. Keeps ms a d) (append-nil marks) (then_ {ys = []} goes (then_ {xs = []} {ys = []} (asks first) (asks second)))
 
-  module _ (Finds : ℕ → Option (ℕ × ℕ) → E → E → Type 0) (Looks : List ℕ → Result Obs EdgeFault → E → E → Type 0) where
+  module _ (Finds : ℕ → Option (ℕ × ℕ) → E → E → Type 0) (Looks : List ℕ → Result Obs EdgeFault → E → E → Type 0)
+      (Accepts : ℕ → E → E → Type 0) (Holds : ℕ → ℕ → List ℕ → Bool → E → E → Type 0) where
     looks_start : (at : Option (List ℕ)) (old : RoundLauncher T E W) (from : List ℕ) (started : RoundLauncher T E W) → looks.Starts ListsNext (DoesPath calls stores holds stamped Looks) at old from started → Keeps [] old started
     looks_start (Some path) old from started b = same b.1
     looks_start None old from started b = subst (λ (r : RoundLauncher T E W). Keeps [] old r) (sym b.1.1) (lent_on b.1.0 old)
@@ -581,8 +589,8 @@ module _ {T E W : Type 0} (calls : E → Option (List ToldCall)) (stores : T →
         (moved_to (mind known b.started) (heeded begun) (forgot b.loaded b.started.has_loaded known begun b.asks.0 b.forgets) b.started first
         (ap (λ (r : RoundLauncher T E W). r.host.table) b.asks.1) (ap (λ (r : RoundLauncher T E W). r.at) b.asks.1))
 
-    looks_all : (polled : RoundLauncher T E W) (old : rounds.Left (RoundLauncher T E W)) (looked : RoundLauncher T E W) (new : rounds.Left (RoundLauncher T E W)) (s : rounds.Sees (launcher calls stores holds stamped Finds Looks) polled old looked new) →
-        KeepsTo (mind old.known polled) (of_looks calls stores holds stamped Finds Looks polled old looked new s) polled (mind new.known looked) looked
+    looks_all : (polled : RoundLauncher T E W) (old : rounds.Left (RoundLauncher T E W)) (looked : RoundLauncher T E W) (new : rounds.Left (RoundLauncher T E W)) (s : rounds.Sees (launcher calls stores holds stamped Finds Looks Accepts Holds) polled old looked new) →
+        KeepsTo (mind old.known polled) (of_looks calls stores holds stamped Finds Looks Accepts Holds polled old looked new s) polled (mind new.known looked) looked
     looks_all polled old looked new (inl early) = reminded (mind old.known polled) (mind old.known looked) (mind new.known looked) (λ s knows none path obs there. knows none path obs (sym (early.5 path) ∙ there)) (same early.1 old.known)
     looks_all polled old looked new (inr due) =
         let all = due.3 in
@@ -593,18 +601,18 @@ module _ {T E W : Type 0} (calls : E → Option (List ToldCall)) (stores : T →
         (then_to {xs = []} {m = m} {m' = m'} {m'' = m''} {a = polled} {b = all.first} {c = looked} (looks_begin old.walk polled old.known all.from all.first all.begun all.begins)
         (then_to {xs = []} {m = m'} {m' = m'} {m'' = m''} {a = all.first} {b = all.mid} {c = looked} (questions m' Looks all.asks) (walk Looks all.walks.walk)))
 
-    round : (old new : rounds.Left (RoundLauncher T E W)) (r : rounds.IsRound (launcher calls stores holds stamped Finds Looks) old new) →
-        KeepsTo (mind old.known old.host) (of_round calls stores holds stamped Finds Looks old new r) old.host (mind new.known new.host) new.host
+    round : (old new : rounds.Left (RoundLauncher T E W)) (r : rounds.IsRound (launcher calls stores holds stamped Finds Looks Accepts Holds) old new) →
+        KeepsTo (mind old.known old.host) (of_round calls stores holds stamped Finds Looks Accepts Holds old new r) old.host (mind new.known new.host) new.host
     round old new r =
         let begun = then_ {xs = []} {a = old.host} {b = r.waited} {c = r.begun} (asks r.waits) (begins r.waited r.begun r.begins) in
         let served = then_ {a = r.looked} {b = r.serves.first} {c = new.host} (serves r.serves.serves)
-        (then_ {a = r.serves.first} {b = r.serves.mid} {c = new.host} (clients r.serves.gathers) (ended r.serves.last r.served new.host (serves r.serves.again) r.serves.asks r.tells)) in
+        (then_ {a = r.serves.first} {b = r.serves.mid} {c = new.host} (clients Accepts Holds r.serves.gathers) (ended r.serves.last r.served new.host (serves r.serves.again) r.serves.asks r.tells)) in
         then_to {m = mind old.known old.host} {m' = mind old.known r.begun} {m'' = mind new.known new.host} {a = old.host} {b = r.begun} {c = new.host} (begun old.known)
         (then_to {m = mind old.known r.begun} {m' = mind old.known r.polled} {m'' = mind new.known new.host} {a = r.begun} {b = r.polled} {c = new.host} (polls_all Finds r.polls old.known)
         (then_to {m = mind old.known r.polled} {m' = mind new.known r.looked} {m'' = mind new.known new.host} {a = r.polled} {b = r.looked} {c = new.host} (looks_all r.polled old r.looked new r.looks) (served new.known)))
 
-    pub rounds_keep : {first last : rounds.Left (RoundLauncher T E W)} (rs : rounds.AreRounds (launcher calls stores holds stamped Finds Looks) first last) →
-        KeepsTo (mind first.known first.host) (marks_of calls stores holds stamped Finds Looks rs) first.host (mind last.known last.host) last.host
+    pub rounds_keep : {first last : rounds.Left (RoundLauncher T E W)} (rs : rounds.AreRounds (launcher calls stores holds stamped Finds Looks Accepts Holds) first last) →
+        KeepsTo (mind first.known first.host) (marks_of calls stores holds stamped Finds Looks Accepts Holds rs) first.host (mind last.known last.host) last.host
     rounds_keep {first = first} rounds.no_round = nothing_to (mind first.known first.host) first.host
     rounds_keep {first = first} (rounds.one_round {mid = mid} {new = new} more r) =
         then_to {m = mind first.known first.host} {m' = mind mid.known mid.host} {m'' = mind new.known new.host} {a = first.host} {b = mid.host} {c = new.host} (rounds_keep more) (round mid new r)

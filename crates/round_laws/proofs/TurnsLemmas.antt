@@ -25,7 +25,7 @@ use Rattle.live_loop.specs.Children as children
 use Rattle.live_loop.specs.Looks as looks
 use Rattle.live_loop.specs.Rounds as rounds
 use Rattle.jobd.specs.declared.round_launcher.RoundLauncher.{RoundLauncher}
-use Rattle.jobd.specs.Launches.{lent, AsksEdge, ListsNext, Heard, HeardReading, Reads, ReadsIf, ReadsClock, HeardIf, Begins, Gives, Tells, TellsEnd, PollsFrom, DoesPath, TellsCame, ComesIn, AnswersLine}
+use Rattle.jobd.specs.Launches.{lent, AsksEdge, ListsNext, Heard, HeardReading, Reads, ReadsIf, ReadsClock, HeardIf, Begins, Gives, Tells, TellsEnd, PollsFrom, DoesPath, TakesClient, TellsCame, ComesIn, AnswersLine}
 use Rattle.round_laws.specs.Marks.{Mark, Turned, Spared, turns_in, snapshot, turned}
 use Rattle.round_laws.specs.RoundMarks.{launcher, of_reading, of_reads, of_missed, of_news, of_begins, of_gives, of_tells, of_end, of_poll, of_polls, of_sight, of_walk, of_serves, of_client, of_clients, of_looks, of_round, marks_of}
 
@@ -188,26 +188,34 @@ module _ {T E W : Type 0} (calls : E → Option (List ToldCall)) (stores : T →
       let heard : Goes marks mid (lent answers.edge answers.mid) = subst (λ ms. Goes ms mid (lent answers.edge answers.mid)) (append-nil marks) given in
       subst (λ (r : RoundLauncher T E W). Goes marks mid r) (sym answers.noted) (record { are = heard.are }))
 
-  client : (label : List ℕ) (job conn : ℕ) (answer : HandedIn) (old new : RoundLauncher T E W) (t : TellsCame calls stores holds stamped label job conn answer old new) →
+  client_on : (label : List ℕ) (job conn : ℕ) (answer : HandedIn) (old new : RoundLauncher T E W) (t : TellsCame calls stores holds stamped label job conn answer old new) →
       Goes (of_client calls stores holds stamped label job conn answer old new t) old new
-  client label job conn handed.Dropped old new is = same is
-  client label job conn handed.Heard old new t = tells (event_if_label label (journaled.OfJob label (happens.Came conn))) None old new t
-  client label job conn (handed.Refused refusal) old new came =
+  client_on label job conn handed.Dropped old new is = same is
+  client_on label job conn handed.Heard old new t = tells (event_if_label label (journaled.OfJob label (happens.Came conn))) None old new t
+  client_on label job conn (handed.Refused refusal) old new came =
       let heard = tells (event_if_label label (journaled.OfJob label (happens.Came conn))) (Some refusal) old came.0 came.2 in
       subst (λ (r : RoundLauncher T E W). Goes (of_tells calls stores holds stamped (event_if_label label (journaled.OfJob label (happens.Came conn))) (Some refusal) old came.0 came.2) old r) (sym came.4)
       (subst (λ ms. Goes ms old (lent came.1 came.0)) (append-nil (of_tells calls stores holds stamped (event_if_label label (journaled.OfJob label (happens.Came conn))) (Some refusal) old came.0 came.2))
       (then_ {ys = []} heard (lent_on came.1 came.0)))
 
-  clients : {conn : ℕ} {old : RoundLauncher T E W} {conn' : ℕ} {new : RoundLauncher T E W} (g : rounds.Gathers AsksEdge (ComesIn calls stores holds stamped) conn old conn' new) → Goes (of_clients calls stores holds stamped g) old new
-  clients {old = old} rounds.nobody = nothing old
-  clients {old = old} (rounds.asked {new = new} more a) = subst (λ ms. Goes ms old new) (append-nil (of_clients calls stores holds stamped more)) (then_ {ys = []} (clients more) (asked a))
-  clients (rounds.came {conn = conn} {job = job} {answer = answer} {mid = mid} {new = new} more comes) =
-      then_ (clients more) (then_ {xs = []} (lent_on comes.edge mid) (client comes.label job conn answer (lent comes.edge mid) new comes.handed))
+  took : (Accepts : ℕ → E → E → Type 0) {job : ℕ} {old mid new : RoundLauncher T E W} → TakesClient Accepts job old mid → rounds.Asks AsksEdge mid new → Goes [] old new
+  took Accepts {old = old} {mid = mid} takes a = then_ {xs = []} {ys = []} (subst (λ (r : RoundLauncher T E W). Goes [] old r) (sym takes.2) (lent_on takes.0 old)) (asks a)
+
+  clients : (Accepts : ℕ → E → E → Type 0) (Holds : ℕ → ℕ → List ℕ → Bool → E → E → Type 0) {desk : rounds.Desk} {old : RoundLauncher T E W} {desk' : rounds.Desk} {new : RoundLauncher T E W}
+      (g : rounds.Gathers AsksEdge (TakesClient Accepts) (ComesIn calls stores holds stamped Holds) desk old desk' new) → Goes (of_clients calls stores holds stamped Accepts Holds g) old new
+  clients Accepts Holds {old = old} rounds.nobody = nothing old
+  clients Accepts Holds {old = old} (rounds.asked {new = new} more a) = subst (λ ms. Goes ms old new) (append-nil (of_clients calls stores holds stamped Accepts Holds more)) (then_ {ys = []} (clients Accepts Holds more) (asked a))
+  clients Accepts Holds {old = old} (rounds.taken {new = new} more t w a) = subst (λ ms. Goes ms old new) (append-nil (of_clients calls stores holds stamped Accepts Holds more)) (then_ {ys = []} (clients Accepts Holds more) (took Accepts t a))
+  clients Accepts Holds (rounds.heard more grows) = clients Accepts Holds more
+  clients Accepts Holds (rounds.went more gone) = clients Accepts Holds more
+  clients Accepts Holds (rounds.came {client = client} {answer = answer} {desk = desk} {mid = mid} {new = new} more is set comes) =
+      then_ (clients Accepts Holds more) (then_ {xs = []} (lent_on comes.edge mid) (client_on comes.label client.origin.job desk.conn answer (lent comes.edge mid) new comes.handed))
 
   ended : {marks : List (Mark T)} {a : RoundLauncher T E W} (b c d : RoundLauncher T E W) → Goes marks a b → rounds.Asks AsksEdge b c → rounds.Asks AsksEdge c d → Goes marks a d
   ended {marks} {a} b c d goes first second = subst (λ ms. Goes ms a d) (append-nil marks) (then_ {ys = []} goes (then_ {xs = []} {ys = []} (asks first) (asks second)))
 
-  module _ (Finds : ℕ → Option (ℕ × ℕ) → E → E → Type 0) (Looks : List ℕ → Result Obs EdgeFault → E → E → Type 0) where
+  module _ (Finds : ℕ → Option (ℕ × ℕ) → E → E → Type 0) (Looks : List ℕ → Result Obs EdgeFault → E → E → Type 0)
+      (Accepts : ℕ → E → E → Type 0) (Holds : ℕ → ℕ → List ℕ → Bool → E → E → Type 0) where
     looks_start : (at : Option (List ℕ)) (old : RoundLauncher T E W) (from : List ℕ) (started : RoundLauncher T E W) → looks.Starts ListsNext (DoesPath calls stores holds stamped Looks) at old from started → Goes [] old started
     looks_start (Some path) old from started b = same b.1
     looks_start None old from started b = put b.1.0 old started b.1.1
@@ -218,21 +226,21 @@ module _ {T E W : Type 0} (calls : E → Option (List ToldCall)) (stores : T →
         then_ {xs = []} {ys = []} (looks_start at old from b.started b.starts)
         (subst (λ (r : RoundLauncher T E W). Goes [] b.started r) (sym b.asks.1) (record { are = record { table = refl; store = refl; journal = inl refl } }))
 
-    looks_all : (polled : RoundLauncher T E W) (old : rounds.Left (RoundLauncher T E W)) (looked : RoundLauncher T E W) (new : rounds.Left (RoundLauncher T E W)) (s : rounds.Sees (launcher calls stores holds stamped Finds Looks) polled old looked new) →
-        Goes (of_looks calls stores holds stamped Finds Looks polled old looked new s) polled looked
+    looks_all : (polled : RoundLauncher T E W) (old : rounds.Left (RoundLauncher T E W)) (looked : RoundLauncher T E W) (new : rounds.Left (RoundLauncher T E W)) (s : rounds.Sees (launcher calls stores holds stamped Finds Looks Accepts Holds) polled old looked new) →
+        Goes (of_looks calls stores holds stamped Finds Looks Accepts Holds polled old looked new s) polled looked
     looks_all polled old looked new (inl early) = same early.1
     looks_all polled old looked new (inr due) = let all = due.3 in
         then_ {xs = []} (looks_begin old.walk polled old.known all.from all.first all.begun all.begins) (then_ {xs = []} (questions Looks all.asks) (walk Looks all.walks.walk))
 
-    round : (old new : rounds.Left (RoundLauncher T E W)) (r : rounds.IsRound (launcher calls stores holds stamped Finds Looks) old new) → Goes (of_round calls stores holds stamped Finds Looks old new r) old.host new.host
+    round : (old new : rounds.Left (RoundLauncher T E W)) (r : rounds.IsRound (launcher calls stores holds stamped Finds Looks Accepts Holds) old new) → Goes (of_round calls stores holds stamped Finds Looks Accepts Holds old new r) old.host new.host
     round old new r =
         then_ {xs = []} {b = r.waited} (asks r.waits)
         (then_ {b = r.begun} (begins r.waited r.begun r.begins)
         (then_ {b = r.polled} (polls_all Finds r.polls)
         (then_ {b = r.looked} (looks_all r.polled old r.looked new r.looks)
         (then_ {b = r.serves.first} (serves r.serves.serves)
-        (then_ {b = r.serves.mid} (clients r.serves.gathers) (ended r.serves.last r.served new.host (serves r.serves.again) r.serves.asks r.tells))))))
+        (then_ {b = r.serves.mid} (clients Accepts Holds r.serves.gathers) (ended r.serves.last r.served new.host (serves r.serves.again) r.serves.asks r.tells))))))
 
-    pub rounds_go : {first last : rounds.Left (RoundLauncher T E W)} (rs : rounds.AreRounds (launcher calls stores holds stamped Finds Looks) first last) → Goes (marks_of calls stores holds stamped Finds Looks rs) first.host last.host
+    pub rounds_go : {first last : rounds.Left (RoundLauncher T E W)} (rs : rounds.AreRounds (launcher calls stores holds stamped Finds Looks Accepts Holds) first last) → Goes (marks_of calls stores holds stamped Finds Looks Accepts Holds rs) first.host last.host
     rounds_go {first = first} rounds.no_round = nothing first.host
     rounds_go (rounds.one_round {mid = mid} {new = new} more r) = then_ (rounds_go more) (round mid new r)

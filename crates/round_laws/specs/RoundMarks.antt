@@ -18,13 +18,14 @@ use Rattle.live_loop.specs.Children as children
 use Rattle.live_loop.specs.Looks as looks
 use Rattle.live_loop.specs.Rounds as rounds
 use Rattle.jobd.specs.declared.round_launcher.RoundLauncher.{RoundLauncher}
-use Rattle.jobd.specs.Launches.{lent, AsksEdge, ListsNext, HeardReading, Reads, ReadsIf, HeardIf, Begins, Gives, Tells, TellsEnd, PollsFrom, DoesPath, TellsCame, ComesIn, AnswersLine}
+use Rattle.jobd.specs.Launches.{lent, AsksEdge, ListsNext, HeardReading, Reads, ReadsIf, HeardIf, Begins, Gives, Tells, TellsEnd, PollsFrom, DoesPath, TakesClient, TellsCame, ComesIn, AnswersLine}
 use Rattle.round_laws.specs.Marks.{Mark, Spared, turned}
 
 module _ {T E W : Type 0} (calls : E → Option (List ToldCall)) (stores : T → Option (List StoreCall))
     (holds : T → List Setting → Type 0) (stamped : T → List Stamp → Type 0)
     (Finds : ℕ → Option (ℕ × ℕ) → E → E → Type 0)
-    (Looks : List ℕ → Result Obs EdgeFault → E → E → Type 0) where
+    (Looks : List ℕ → Result Obs EdgeFault → E → E → Type 0) (Accepts : ℕ → E → E → Type 0)
+    (Holds : ℕ → ℕ → List ℕ → Bool → E → E → Type 0) where
   -- what a round asks of the launcher of `jobd`, and hands in to it
   abbrev pub launcher : rounds.Launcher (RoundLauncher T E W)
   launcher = record {
@@ -35,7 +36,8 @@ module _ {T E W : Type 0} (calls : E → Option (List ToldCall)) (stores : T →
     Begun = Begins calls stores holds stamped;
     Polled = PollsFrom calls stores holds stamped Finds;
     Asked = AsksEdge;
-    Came = ComesIn calls stores holds stamped;
+    Taken = TakesClient Accepts;
+    Came = ComesIn calls stores holds stamped Holds;
   }
 
 module _ {T E W : Type 0} (calls : E → Option (List ToldCall)) (stores : T → Option (List StoreCall))
@@ -129,30 +131,35 @@ module _ {T E W : Type 0} (calls : E → Option (List ToldCall)) (stores : T →
   of_client label job conn (handed.Refused refusal) old new came =
       of_tells (event_if_label label (journaled.OfJob label (happens.Came conn))) (Some refusal) old came.0 came.2
 
-  abbrev pub of_clients : {conn : ℕ} {old : RoundLauncher T E W} {conn' : ℕ} {new : RoundLauncher T E W} →
-      rounds.Gathers AsksEdge (ComesIn calls stores holds stamped) conn old conn' new → List (Mark T)
-  of_clients rounds.nobody = []
-  of_clients (rounds.asked gathers asks) = of_clients gathers
-  of_clients (rounds.came {conn = conn} {job = job} {answer = answer} {mid = mid} {new = new} gathers comes) =
-      of_clients gathers ++ of_client comes.label job conn answer (lent comes.edge mid) new comes.handed
+  abbrev pub of_clients : (Accepts : ℕ → E → E → Type 0) (Holds : ℕ → ℕ → List ℕ → Bool → E → E → Type 0)
+      {desk : rounds.Desk} {old : RoundLauncher T E W} {desk' : rounds.Desk} {new : RoundLauncher T E W} →
+      rounds.Gathers AsksEdge (TakesClient Accepts) (ComesIn calls stores holds stamped Holds) desk old desk' new → List (Mark T)
+  of_clients Accepts Holds rounds.nobody = []
+  of_clients Accepts Holds (rounds.asked gathers asks) = of_clients Accepts Holds gathers
+  of_clients Accepts Holds (rounds.taken gathers takes welcomes asks) = of_clients Accepts Holds gathers
+  of_clients Accepts Holds (rounds.heard gathers grows) = of_clients Accepts Holds gathers
+  of_clients Accepts Holds (rounds.went gathers gone) = of_clients Accepts Holds gathers
+  of_clients Accepts Holds (rounds.came {client = client} {answer = answer} {desk = desk} {mid = mid} {new = new} gathers is set comes) =
+      of_clients Accepts Holds gathers ++ of_client comes.label client.origin.job desk.conn answer (lent comes.edge mid) new comes.handed
 
   -- ---- whole rounds
 
-  module _ (Finds : ℕ → Option (ℕ × ℕ) → E → E → Type 0) (Looks : List ℕ → Result Obs EdgeFault → E → E → Type 0) where
+  module _ (Finds : ℕ → Option (ℕ × ℕ) → E → E → Type 0) (Looks : List ℕ → Result Obs EdgeFault → E → E → Type 0)
+      (Accepts : ℕ → E → E → Type 0) (Holds : ℕ → ℕ → List ℕ → Bool → E → E → Type 0) where
     abbrev pub of_looks : (polled : RoundLauncher T E W) (old : rounds.Left (RoundLauncher T E W)) (looked : RoundLauncher T E W) (new : rounds.Left (RoundLauncher T E W)) →
-        rounds.Sees (launcher calls stores holds stamped Finds Looks) polled old looked new → List (Mark T)
+        rounds.Sees (launcher calls stores holds stamped Finds Looks Accepts Holds) polled old looked new → List (Mark T)
     of_looks polled old looked new (inl early) = []
     of_looks polled old looked new (inr due) = of_walk Looks due.3.walks.walk
 
     abbrev pub of_round : (old new : rounds.Left (RoundLauncher T E W)) →
-        rounds.IsRound (launcher calls stores holds stamped Finds Looks) old new → List (Mark T)
+        rounds.IsRound (launcher calls stores holds stamped Finds Looks Accepts Holds) old new → List (Mark T)
     of_round old new round = of_begins round.waited round.begun round.begins
         ++ (of_polls Finds round.polls.over
         ++ (of_looks round.polled old round.looked new round.looks
-        ++ (of_serves round.serves.serves ++ (of_clients round.serves.gathers ++ of_serves round.serves.again))))
+        ++ (of_serves round.serves.serves ++ (of_clients Accepts Holds round.serves.gathers ++ of_serves round.serves.again))))
 
     -- all that they hand in, round after round
     abbrev pub marks_of : {first last : rounds.Left (RoundLauncher T E W)} →
-        rounds.AreRounds (launcher calls stores holds stamped Finds Looks) first last → List (Mark T)
+        rounds.AreRounds (launcher calls stores holds stamped Finds Looks Accepts Holds) first last → List (Mark T)
     marks_of rounds.no_round = []
     marks_of (rounds.one_round {mid = mid} {new = new} more round) = marks_of more ++ of_round mid new round

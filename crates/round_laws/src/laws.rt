@@ -24,9 +24,9 @@ use std::io::Write;
 /// Any rounds are turns, one after another, between which only the edge was asked: those of what each round found, in its order.
 pub fn rounds_are_turns<T: SettingStore, E: RoundEdge, W: Write>(round: &RoundLauncher<T, E, W>)
     ensures { (first last : Left (Launcher T E W)) →
-        (rounds : AreRounds (launcher E.told T.told T.holds T.stamped E.Finds E.Looks) first last) →
+        (rounds : AreRounds (launcher E.told T.told T.holds T.stamped E.Finds E.Looks E.Accepts E.Holds) first last) →
         AreTurns T.holds (snapshot E.told T.told first.host.host)
-        (turns_in (marks_of E.told T.told T.holds T.stamped E.Finds E.Looks rounds))
+        (turns_in (marks_of E.told T.told T.holds T.stamped E.Finds E.Looks E.Accepts E.Holds rounds))
         (snapshot E.told T.told last.host.host) }
 {
     let _ = round;
@@ -55,9 +55,9 @@ pub fn rounds_decide_as_one<T: SettingStore, E: RoundEdge, W: Write>(round: &Rou
         (new : IsNew header calls stores journal (stands E.told T.told first.host.host)
         (T.holds before) (T.holds first.host.host.store)) →
         first.host.at ≡ first.host.host.table.reading → IsEmpty first.known →
-        (rounds : AreRounds (launcher E.told T.told T.holds T.stamped E.Finds E.Looks) first last) →
-        HeardReadings (marks_of E.told T.told T.holds T.stamped E.Finds E.Looks rounds) →
-        Decides new.machine (marks_of E.told T.told T.holds T.stamped E.Finds E.Looks rounds) }
+        (rounds : AreRounds (launcher E.told T.told T.holds T.stamped E.Finds E.Looks E.Accepts E.Holds) first last) →
+        HeardReadings (marks_of E.told T.told T.holds T.stamped E.Finds E.Looks E.Accepts E.Holds rounds) →
+        Decides new.machine (marks_of E.told T.told T.holds T.stamped E.Finds E.Looks E.Accepts E.Holds rounds) }
 {
     let _ = round;
 }

@@ -17,7 +17,7 @@ pub fn round<R: System, T: SettingStore, E: RoundEdge, W: Write>(
     alloc: Global,
     live: &mut Live<RoundLauncher<T, E, W>>,
 ) -> Result<bool, ServeFault>
-    ensures { OnOk result (IsRound (launcher E.told T.told T.holds T.stamped E.Finds E.Looks)
+    ensures { OnOk result (IsRound (launcher E.told T.told T.holds T.stamped E.Finds E.Looks E.Accepts E.Holds)
         (left_in live.old) (left_in live.new)) }
 {
     live_loop::round(rt, alloc, live)

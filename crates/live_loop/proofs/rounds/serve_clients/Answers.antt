@@ -1,7 +1,6 @@
 -- All clients in order.
-use Rattle.std.proofs.Common.{◌∙◌}
 use Rattle.live_loop.specs.Rounds.{nobody}
-use Rattle.live_loop.proofs.RoundsLemmas.{asks_one, gathers_append, gathers_asks, gathers_same}
+use Rattle.live_loop.proofs.RoundsLemmas.{asks_one, gathers_append, gathers_same}
 use Rattle.live_loop.proofs.rounds.serve_clients.Goals as goal
 
 pub returns-clause-serves : goal.returns-clause-serves
@@ -11,10 +10,9 @@ returns-clause-serves g c = record {
   mid = c.gather-is_sending.new.host;
   gathers = gathers_same
       (gathers_append
-      (gathers_same (gathers_asks nobody c.accept.ensures.asks)
-      (c.accept.ensures.conn ∙ c.serve_control-was_asking.ensures.kept.conn))
+      (gathers_append (gathers_same nobody c.serve_control-was_asking.ensures.kept.desk) c.accept.ensures.gathers)
       c.gather-is_sending.ensures)
-      c.serve_again-is_asking.ensures.kept.conn;
+      c.serve_again-is_asking.ensures.kept.desk;
   last = c.serve_again-is_asking.new.live.host;
   again = c.serve_again-is_asking.ensures.serves;
   asks = asks_one c.forward-is_taking.ensures;

@@ -7,7 +7,7 @@ use Rattle.live_loop.proofs.telling.tell.Goals as goal
 pub loop-init : goal.loop-init
 loop-init g c = record {
   asks = nothing;
-  kept = record { child = refl; sights = refl; conn = refl };
+  kept = record { child = refl; sights = refl; desk = refl };
 }
 
 pub returns-in_default-clause-asks : goal.returns-in_default-clause-asks
@@ -22,7 +22,7 @@ loop-preserved g c = record {
   kept = record {
     child = c.next_notice.ensures.kept.child ∙ c.loop.invariant.kept.child;
     sights = c.next_notice.ensures.kept.sights ∙ c.loop.invariant.kept.sights;
-    conn = c.next_notice.ensures.kept.conn ∙ c.loop.invariant.kept.conn;
+    desk = c.next_notice.ensures.kept.desk ∙ c.loop.invariant.kept.desk;
   };
 }
 

@@ -4,4 +4,4 @@ use Rattle.round_laws.proofs.laws.rounds_are_turns.Goals as goal
 
 pub returns : goal.returns
 returns g c = λ first last rounds.
-    (rounds_go g.E.Edge.told g.T.SettingStore.told g.T.SettingStore.holds g.T.SettingStore.stamped g.E.RoundEdge.Finds g.E.PathEdge.Looks rounds).are
+    (rounds_go g.E.Edge.told g.T.SettingStore.told g.T.SettingStore.holds g.T.SettingStore.stamped g.E.RoundEdge.Finds g.E.PathEdge.Looks g.E.RoundEdge.Accepts g.E.RoundEdge.Holds rounds).are

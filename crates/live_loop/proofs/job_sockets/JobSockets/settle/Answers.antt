@@ -1,6 +1,7 @@
 -- Nothing is asked, or one is let go.
-use Rattle.live_loop.specs.Rounds.{nobody}
-use Rattle.live_loop.proofs.RoundsLemmas.{gathers_asks, gathers_same}
+use Rattle.std.proofs.Common.{refl}
+use Rattle.live_loop.specs.Rounds.{nobody, went}
+use Rattle.live_loop.proofs.RoundsLemmas.{desk_same, gathers_asks, gathers_same}
 use Rattle.live_loop.proofs.job_sockets.JobSockets.settle.Goals as goal
 
 pub returns-in-Waits : goal.returns-in-Waits
@@ -10,4 +11,4 @@ pub returns-in-MayGoOn : goal.returns-in-MayGoOn
 returns-in-MayGoOn g c = nobody
 
 pub returns-in-Lost : goal.returns-in-Lost
-returns-in-Lost g c = gathers_same (gathers_asks nobody c.let_go.ensures.asks) c.let_go.ensures.conn
+returns-in-Lost g c = gathers_asks (gathers_same (went nobody c.let_go.ensures.gone) (desk_same c.let_go.ensures.conn refl)) c.let_go.ensures.asks
