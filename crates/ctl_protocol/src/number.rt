@@ -1,17 +1,19 @@
 //! Numbers of a line's JSON text.
 
-ghost use Rattle.std.specs.Prelude.{◌≡◌, ◌==◌, ◌<◌, length, slice_index, true, false, option_map, IsTrue};
+ghost use Rattle.std.specs.Prelude.{◌≡◌, ◌==◌, ◌<◌, length, slice_index, true, false, Some, option_map, IfSome, IsTrue};
+ghost use Rattle.serde_json.specs.Data.{unsigned as whole};
 ghost use Rattle.serde_json.specs.View.{number_view};
 ghost use Rattle.serde_json.specs.Read.{number_of, number_from, float_of};
 
-use fast_float::Numeral;
+use fast_float::{Numeral, parse_u64};
 use serde_json::Number;
 
-fn has_minus(bytes: &[u8]) -> bool
-    ensures value { result ≡ (slice_index bytes.now 0 == 45) }
+fn begins_with(bytes: &[u8], sign: u8) -> bool
+    requires { 0 < sign }
+    ensures value { result ≡ (slice_index bytes.now 0 == sign) }
     ensures len { IsTrue result → 0 < length bytes.now }
 {
-    !bytes.is_empty() && bytes[0] == b'-'
+    !bytes.is_empty() && bytes[0] == sign
 }
 
 fn nearest(negative: bool, numeral: &Numeral<'_>) -> Option<Number>
@@ -38,14 +40,36 @@ fn negative(numeral: &Numeral<'_>) -> Option<Number>
     }
 }
 
+fn number_from(bytes: &[u8]) -> Option<Number>
+    ensures { option_map number_view result ≡ number_of bytes.now }
+{
+    if begins_with(bytes, b'-') {
+        negative(&Numeral::scan(&bytes[1..]))
+    } else {
+        unsigned(&Numeral::scan(bytes))
+    }
+}
+
+/// The number that digits alone write, read at one go. None of any other text, and of a number that does not fit.
+fn plain_number(bytes: &[u8]) -> Option<u64>
+    ensures { IfSome result (λ n. number_of bytes.now ≡ Some (whole n)) }
+{
+    if begins_with(bytes, b'+') {
+        return None;
+    }
+    match parse_u64(bytes) {
+        Ok(n) => Some(n),
+        Err(_) => None,
+    }
+}
+
 /// The number that a text of JSON's grammar writes, or None, if it is too large for a float.
 pub(crate) fn number_in(text: &str) -> Option<Number>
     ensures { option_map number_view result ≡ number_of text.now }
 {
     let bytes = text.as_bytes();
-    if has_minus(bytes) {
-        negative(&Numeral::scan(&bytes[1..]))
-    } else {
-        unsigned(&Numeral::scan(bytes))
+    match plain_number(bytes) {
+        Some(n) => Number::from_u128(n as u128),
+        None => number_from(bytes),
     }
 }
