@@ -20,6 +20,9 @@ pub(crate) const PATIENCE: u64 = 500;
 
 const LEAST: u64 = 8;
 
+/// How many milliseconds questions may wait altogether for answers that don't come. Half of the time that passes is given back.
+const SPARE: u64 = 1_000;
+
 /// A place that hung.
 #[derive(Drop)]
 struct HungPlace<P: OpenProcess + Drop> {
@@ -51,6 +54,9 @@ impl<P: OpenProcess + Drop> HungPlace<P> {
 pub struct Hung<P: OpenProcess + Drop> {
     alloc: Global,
     places: Vec<HungPlace<P>>,
+    // What is left of the time for answers that don't come, at that moment.
+    spare: u64,
+    counted: u64,
 }
 
 impl<P: OpenProcess + Drop> Hung<P> {
@@ -58,7 +64,26 @@ impl<P: OpenProcess + Drop> Hung<P> {
         Hung {
             alloc,
             places: Vec::new(alloc),
+            spare: SPARE,
+            counted: 0,
         }
+    }
+
+    /// Gives back half of the time that has passed until this moment of `up`.
+    pub(crate) fn go_on(&mut self, up: u64) {
+        let gained = up.saturating_sub(self.counted) / 2;
+        self.counted = self.counted.saturating_add(gained.saturating_mul(2));
+        self.spare = self.spare.saturating_add(gained).min(SPARE);
+    }
+
+    /// So many milliseconds were waited for an answer that did not come.
+    pub(crate) fn spend(&mut self, waited: u64) {
+        self.spare = self.spare.saturating_sub(waited);
+    }
+
+    /// Whether no time is left to wait for an answer that may not come.
+    pub(crate) fn is_spent(&self) -> bool {
+        self.spare < LEAST
     }
 
     /// Whether the path is not to be asked about at this moment of `up`: it hung, and its helper is left or it is left in peace; or as many
@@ -79,8 +104,14 @@ impl<P: OpenProcess + Drop> Hung<P> {
         is_shut || (left >= MOST && may_hang(rt, self.alloc, path))
     }
 
-    /// How many milliseconds are waited for an answer about the path.
+    /// How many milliseconds are waited for an answer about the path: less if others hung just before.
     pub(crate) fn patience(&self, path: &str) -> u64 {
+        self.own_patience(path)
+            .min(self.spare.saturating_sub(PATIENCE).max(LEAST))
+    }
+
+    // The patience by what came of the path itself.
+    fn own_patience(&self, path: &str) -> u64 {
         let mut patience = PATIENCE;
         for one in self.places.iter() {
             if one.place.covers(path) {
@@ -109,16 +140,23 @@ impl<P: OpenProcess + Drop> Hung<P> {
         }
     }
 
-    /// No answer came about the path, and the helper is ended and left. From now on its place is left in peace, and a start there waits half
-    /// as long. Without memory, or past as many places as there is room for, it is forgotten.
+    /// No answer came about the path in so many milliseconds, and the helper is ended and left. From now on its place is left in peace, and
+    /// a start there waits half as long, unless this wait was cut short by others. Without memory, or past as many places as there is room
+    /// for, it is forgotten.
     pub(crate) fn hangs<R: AllocGlobal + Files>(
         &mut self,
         rt: &R,
         path: &str,
         child: Child<P>,
         up: u64,
+        waited: u64,
     ) {
-        let patience = (self.patience(path) / 2).max(LEAST);
+        let own = self.own_patience(path);
+        let patience = if waited < own {
+            own
+        } else {
+            (own / 2).max(LEAST)
+        };
         let place = match place_of(rt, self.alloc, path) {
             Ok(place) => place,
             Err(_) => {

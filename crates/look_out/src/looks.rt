@@ -286,7 +286,7 @@ impl<P: OpenProcess + Drop> Looks<P> {
             let Helper { mut child, socket } = helper;
             let _ = child.kill();
             drop(socket);
-            hung.hangs(rt, path, child, up);
+            hung.hangs(rt, path, child, up, PATIENCE);
         }
         self.decide(Seen::Silent);
         for at in self.batch.next..self.batch.entries.len() {

@@ -70,9 +70,9 @@ impl<P: OpenProcess + Drop> Openings<P> {
         }
     }
 
-    /// Asks all questions at this moment of `up`, and waits half a second at most, or less where one hung before. The answers take the
-    /// place of what stood there. Who gave no answer in time is kept no longer: what it says late is nobody's answer, and what it held
-    /// is held no longer.
+    /// Asks all questions at this moment of `up`, and waits half a second at most, or less where one hung before. All waits that end without
+    /// an answer take a second at most, and half of the time after that; then none is asked. The answers take the place of what stood
+    /// there. Who gave no answer in time is kept no longer: what it says late is nobody's answer, and what it held is held no longer.
     pub fn ask<R: AllocGlobal + Clock + Files + Net + Processes<Started = P>>(
         &mut self,
         rt: &R,
@@ -86,6 +86,7 @@ impl<P: OpenProcess + Drop> Openings<P> {
         ensures held { result ≡ Asked.Answered → (self.new ≡ true) × (length answers.new.items ≡ length questions.now) }
     {
         answers.clear();
+        hung.go_on(up);
         if let Some(at) = first_shut(rt, hung, questions, up) {
             return Asked::StillHangs(at);
         }
@@ -110,7 +111,8 @@ impl<P: OpenProcess + Drop> Openings<P> {
             }
             Err(error) if is_late(&error) => {
                 let at = answers.len();
-                self.give_up(rt, hung, path_at(questions, at), up);
+                hung.spend(patience);
+                self.give_up(rt, hung, path_at(questions, at), up, patience);
                 Asked::Hangs(at)
             }
             Err(error) if !(self.has_started && self.is_known) && is_of_system(&error) => {
@@ -194,14 +196,21 @@ impl<P: OpenProcess + Drop> Openings<P> {
     }
 
     // Ends the look-out, which hangs at the path, and does not wait for that.
-    fn give_up<R: AllocGlobal + Files>(&mut self, rt: &R, hung: &mut Hung<P>, path: &str, up: u64)
+    fn give_up<R: AllocGlobal + Files>(
+        &mut self,
+        rt: &R,
+        hung: &mut Hung<P>,
+        path: &str,
+        up: u64,
+        waited: u64,
+    )
         ensures { self.new ≡ false }
     {
         if let Some(helper) = self.helper.take() {
             let Helper { mut child, socket } = helper;
             let _ = child.kill();
             drop(socket);
-            hung.hangs(rt, path, child, up);
+            hung.hangs(rt, path, child, up, waited);
         }
     }
 
@@ -332,7 +341,9 @@ fn first_shut<P: OpenProcess + Drop, R: AllocGlobal + Files>(
 ) -> Option<usize> {
     let mut at = 0usize;
     for question in questions {
-        if question.asks != Asks::Forget && hung.is_shut(rt, question.path, up) {
+        if question.asks != Asks::Forget
+            && (hung.is_spent() || hung.is_shut(rt, question.path, up))
+        {
             return Some(at);
         }
         at = at.saturating_add(1);
