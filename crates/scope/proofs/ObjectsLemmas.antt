@@ -1,13 +1,13 @@
 -- An object for each cause, and one more.
-use Rattle.std.proofs.Common.{◌≡◌, ℕ, ◌+◌, ◌<◌, ◌≤◌, List, [], ◌∷◌, ◌++◌, length, take, get_or, refl, sym, ap, ◌∙◌, subst, codes, false, string_bytes, append-nil, append_assoc}
+use Rattle.std.proofs.Common.{◌≡◌, ℕ, ◌+◌, ◌<◌, ◌≤◌, List, [], ◌∷◌, ◌++◌, length, take, get_or, refl, sym, ap, ◌∙◌, subst, codes, append-nil, append_assoc}
 use Rattle.std.proofs.lemmas.List.{take_more, take_all}
+use Rattle.json_lines.specs.declared.Field.{Field}
+use Rattle.json_lines.specs.Objects.{IsObject, TellsObject}
 use Rattle.run_times.specs.declared.ink.Ink.{Ink}
 use Rattle.run_times.specs.Written.{Adds}
-use Rattle.run_times.proofs.GrowingLemmas.{adds_none, adds_on}
+use Rattle.run_times.proofs.GrowingLemmas.{adds_on}
 use Rattle.scope.specs.declared.journal.telling.JobCause.{JobCause}
-use Rattle.history_model.specs.declared.reasons.Reasons.{Reasons}
-use Rattle.scope.specs.Causes.{AreCauses}
-use Rattle.scope.specs.CauseObjects.{IsCause, IsCauseList, AreMore, TellsCause, TellsMore, TellsCauses}
+use Rattle.scope.specs.CauseObjects.{kind_text, IsCause, AreMore, TellsCause, TellsMore, TellsCauses}
 
 more_more : (causes : List JobCause) (cause : JobCause) (text one : List ℕ) → AreMore causes text → IsCause cause one → AreMore (causes ++ cause ∷ []) (text ++ (codes "," ++ one))
 more_more [] cause text one none is =
@@ -40,12 +40,6 @@ told_all causes at a b over told = subst (λ cs. TellsMore cs a b) (take_all at 
 pub told_first : (first : JobCause) (more : List JobCause) (a b c : Ink) → TellsCause first a b → TellsMore more b c → TellsCauses (first ∷ more) a c
 told_first first more a b c (one, is, added) (others, are, on) = (one ++ others, (one, others, is, are, refl), adds_on one others a b c added on)
 
-pub told_none : (a : Ink) → TellsCauses [] a a
-told_none a = ([], refl, adds_none a)
-
--- the list that is written from nothing
-pub list_of : (reasons : Reasons) (causes : List JobCause) (a b c d : Ink) → AreCauses reasons causes → string_bytes a.text ≡ [] → Adds (codes "[") a b → TellsCauses causes b c
-    → Adds (codes "]") c d → d.is_refused ≡ false → IsCauseList reasons (string_bytes d.text)
-list_of reasons causes a b c d are empty opened (objects, so, added) closed well =
-    let all : Adds (codes "[" ++ (objects ++ codes "]")) a d = adds_on (codes "[") (objects ++ codes "]") a b d opened (adds_on objects (codes "]") b c d added closed) in
-    (causes, are, (objects, so, all.added well ∙ ap (λ t. t ++ (codes "[" ++ (objects ++ codes "]"))) empty))
+-- by the word of its kind
+pub cause_of : (cause : JobCause) (kind : List ℕ) (fields : List Field) (a b : Ink) → kind ≡ kind_text cause → TellsObject (codes "kind") kind fields a b → TellsCause cause a b
+cause_of cause kind fields a b same (text, is, added) = (text, (fields, subst (λ k. IsObject (codes "kind") k fields text) same is), added)

@@ -1,4 +1,4 @@
-use Rattle.std.proofs.Common.{◌≡◌, ◌++◌, [], refl, sym, subst, codes}
+use Rattle.std.proofs.Common.{◌++◌, [], refl, sym, subst, codes}
 use Rattle.std.specs.Fmt.{decimal}
 use Rattle.run_times.specs.Written.{Adds}
 use Rattle.run_times.proofs.GrowingLemmas.{adds, adds_on}

@@ -37,12 +37,9 @@ pub(crate) fn causes_list(page: &mut Page<'_>, told: &ToldJob<'_>) -> Result<Str
 fn put_causes(page: &mut Page<'_>, told: &ToldJob<'_>, causes: &[JobCause])
     ensures { TellsCauses causes.now page.old.ink page.new.ink }
 {
-    match causes {
-        [] => {}
-        [first, more @ ..] => {
-            put_cause(page, told, *first);
-            put_more(page, told, more);
-        }
+    if let Some((first, more)) = causes.split_first() {
+        put_cause(page, told, *first);
+        put_more(page, told, more);
     }
 }
 

@@ -1,8 +1,6 @@
-use Rattle.std.proofs.Common.{subst, codes}
-use Rattle.json_lines.specs.Objects.{IsObject}
+use Rattle.scope.proofs.ObjectsLemmas.{cause_of}
 use Rattle.scope.proofs.objects.causes.put_cause.Goals as goal
 
 pub returns : goal.returns
 returns c =
-    let (text, is, added) = c.put_object.ensures in
-    (text, (_, subst (λ kind. IsObject (codes "kind") kind _ text) c.kind_of.ensures is), added)
+    cause_of c.args.cause c.kind_of.result.now c.fields_of.result c.args.page.now.ink c.put_object.new.page.ink c.kind_of.ensures c.put_object.ensures
