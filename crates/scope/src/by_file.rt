@@ -1,6 +1,8 @@
 //! What is told of a launcher by its own file on how it stands: the table of `status`, and why each job runs or not.
 
 use crate::clock::now;
+use crate::objects::status::status_objects;
+use crate::objects::why::standing_objects;
 use crate::texts::standing::{failing_in, standing_text};
 use crate::texts::unknown::unknown_in;
 use exit_status::{BAD_CLOCK, BAD_FILE, DIFFERS};
@@ -71,6 +73,11 @@ fn tell(
 ) -> io::Result<u8> {
     let labels = of.words.as_slice();
     let status = match of.task {
+        Task::Why if of.is_json => {
+            let (text, count) = standing_objects(alloc, standing, of, second)?;
+            put_made(host, Ok(text))?;
+            if of.is_failing && count > 0 { FAILS } else { 0 }
+        }
         Task::Why if of.is_failing => {
             let (text, count) = failing_in(alloc, standing, labels, of.is_utc, second)?;
             put_made(host, Ok(text))?;
@@ -85,6 +92,10 @@ fn tell(
         }
         Task::Metrics => {
             put_made(host, samples_text(alloc, standing, labels, second))?;
+            0
+        }
+        _ if of.is_json => {
+            put_made(host, status_objects(alloc, standing, of, second))?;
             0
         }
         _ => {

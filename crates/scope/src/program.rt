@@ -178,6 +178,7 @@ fn ended_by(
         zone: &named.zone,
         zone_line: named.line,
         from,
+        is_json: of.is_json,
     };
     let files = files_at(host, of.words.as_slice())?;
     let mut source = HostFiles { host };

@@ -95,6 +95,32 @@ pub(crate) fn add_coming(
     add_since(page, "TERM for its run", term, last);
 }
 
+/// The second at which the job starts by the clocks alone, also one that is over: then the start has been due since. One at the end of the throttle is
+/// told as by `add_coming`.
+pub(crate) fn start_second(
+    facts: &JobFacts<'_>,
+    entries: &[Entry],
+    zone: &Zone,
+    last: Reading,
+    now: Reading,
+    throttle: Option<(u64, u64)>,
+) -> Option<u64>
+    requires up { last.up ≤ MAX_UP }
+    requires wall { last.wall ≤ MAX_WALL }
+{
+    match start_when(
+        &facts.reasons,
+        facts.spawns_from,
+        entries,
+        zone,
+        last,
+        now.wall,
+    ) {
+        StartWhen::Since(at) | StartWhen::At(at) => Some(shown(at, throttle)),
+        StartWhen::Never => None,
+    }
+}
+
 fn shown(at: u64, throttle: Option<(u64, u64)>) -> u64 {
     match throttle {
         Some((end, told)) if end == at => told,
