@@ -10,6 +10,7 @@ use crate::clocks::{StartWhen, gone_on, within_limits};
 use crate::head::add_head;
 use crate::rows::{Next, Row, ShownState, row_of, word_of};
 use crate::standing::Standing;
+use crate::throttles::second_told;
 use calendar_due::Zone;
 use history_model::{Ended, JobState, MAX_WALL, Reading, Text};
 use run_times::picture::columns_of;
@@ -238,14 +239,14 @@ fn end_text(row: &Row<'_>, around: Around<'_>) -> Result<String, AllocError> {
     put_last(&mut ink, row.last, WIDTHS[3]);
     put_count(&mut ink, Some(row.starts), WIDTHS[4]);
     put_count(&mut ink, Some(row.failures), WIDTHS[5]);
-    put_next(&mut ink, around, row.next);
+    put_next(&mut ink, around, row);
     ink.into_text()
 }
 
-fn put_next(ink: &mut Ink, around: Around<'_>, next: Next) {
-    let what = match next {
+fn put_next(ink: &mut Ink, around: Around<'_>, row: &Row<'_>) {
+    let what = match row.next {
         Next::Clock(StartWhen::At(second)) => {
-            put_moment(ink, around, second, 0);
+            put_moment(ink, around, second_told(row.throttle, second), 0);
             return;
         }
         Next::Clock(StartWhen::Since(_)) => "due",
