@@ -14,8 +14,8 @@ pub told : (is_json : Type 0) (read ts : List Token) (found : Option (Bor (List 
     IfSome found (λ label. BeginsWithLabel read label.now) →
     (found ≡ None → (label : List ℕ) → BeginsWithLabel read label → ⊥) →
     IfSome found (λ label. is_json × BeginsWithLabel ts label.now)
-    × (found ≡ None → (label : List ℕ) → is_json → BeginsWithLabel ts label → ⊥)
+    × (found ≡ None → (label : List ℕ) → is_json × BeginsWithLabel ts label → ⊥)
 told is_json read ts found are holds named unnamed = (
   both is_json ts found holds (subst (λ ts. IfSome found (λ label. BeginsWithLabel ts label.now)) are named),
-  λ none label is begins. unnamed none label (subst (λ ts. BeginsWithLabel ts label) (sym are) begins),
+  λ none label is. unnamed none label (subst (λ ts. BeginsWithLabel ts label) (sym are) is.1),
 )

@@ -1,10 +1,8 @@
 //! The labels of lines, told without a tree of what they say.
 
-ghost use Rattle.std.specs.Prelude.{◌≡◌, ◌∷◌, ℕ, List, true, false, None, IfOk, IfSome, IsSome};
+ghost use Rattle.std.specs.Prelude.{◌≡◌, ◌∷◌, ℕ, List, true, false, None, IfOk, IfSome};
 ghost use Rattle.json.specs.Token.{Token, begin_object, key};
-ghost use Rattle.json.specs.Json.{document};
-ghost use Rattle.json.specs.Lex.{tokens};
-ghost use Rattle.status_file.specs.Fronts.{BeginsWithLabel};
+ghost use Rattle.status_file.specs.Fronts.{BeginsWithLabel, IsLineOf};
 
 use json::{Reader, Scratch, Token as Read, is_valid};
 use std::alloc::{AllocError, Global};
@@ -26,10 +24,9 @@ impl LineRoom {
     /// The label of the job of a line, without its newline: of one that is JSON and begins as the launcher writes it. None tells nothing of another line:
     /// it has to be read. An error for want of memory.
     pub fn label_in<'a>(&'a mut self, line: &'a str) -> Result<Option<&'a str>, AllocError>
-        ensures named { IfOk result (λ found. IfSome found (λ label.
-            IsSome (document line.now) × BeginsWithLabel (tokens line.now) label.now)) }
+        ensures named { IfOk result (λ found. IfSome found (λ label. IsLineOf line.now label.now)) }
         ensures unnamed { IfOk result (λ found. found ≡ None → (label : List ℕ) →
-            IsSome (document line.now) → BeginsWithLabel (tokens line.now) label → ⊥) }
+            IsLineOf line.now label → ⊥) }
     {
         if !is_valid(line, &mut self.scratch)? {
             return Ok(None);

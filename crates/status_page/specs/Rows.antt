@@ -1,12 +1,14 @@
 -- What the table of `status` says of a job.
+use Rattle.std.specs.List.{list_any}
 use Rattle.std.specs.Option.{option_map}
-use Rattle.std.specs.Prelude.{◌≡◌, ◌⊎◌, ℕ, Bool, true, false, List, [], ◌∷◌, ◌++◌, codes, cond, ◌==◌, Option, Some, None, is_some}
+use Rattle.std.specs.Prelude.{◌≡◌, ◌⊎◌, ℕ, Bool, true, false, List, [], ◌∷◌, ◌++◌, codes, cond, length, ◌==◌, ◌||◌, Option, Some, None, is_some}
 use Rattle.history_model.specs.declared.Ended.{Ended}
 use Rattle.history_model.specs.declared.Entry.{Entry}
 use Rattle.history_model.specs.declared.Reading.{Reading}
 use Rattle.history_model.specs.declared.reasons.Reasons.{Reasons}
 use Rattle.history_model.specs.Calendar.{Zone}
 use Rattle.history_model.specs.Items.{History}
+use Rattle.history_model.specs.Search.{is_same_text}
 use Rattle.history_model.specs.NextRun.{looked_ahead}
 use Rattle.history_model.specs.Texts.{state_text}
 use Rattle.run_times.specs.declared.ink.Ink.{Ink}
@@ -29,6 +31,10 @@ use Rattle.status_page.specs.declared.rows.ShownState.TheVariants.{Is, Unknown}
 use Rattle.status_page.specs.declared.throttles.ThrottleEnd.{ThrottleEnd}
 use Rattle.status_page.specs.Clocks.{StartsSo}
 use Rattle.status_page.specs.Throttles.{EndsSo, throttled_by}
+
+-- the label is one of those that are named, or none is
+abbrev pub is_asked : List (List ℕ) → List ℕ → Bool
+is_asked labels label = (length labels == 0) || list_any (is_same_text label) labels
 
 -- the state of a job by its facts; of a launcher that is gone none is known
 abbrev pub state_shown : Bool → Reasons → ShownState

@@ -1,5 +1,9 @@
 //! A status file that is read whole: where it is, its lines, and whether its launcher lives.
 
+ghost use Rattle.std.specs.Prelude.{◌≡◌, false, IfOk, IfSome};
+ghost use Rattle.status_file.specs.Fronts.{IsLineOf};
+ghost use Rattle.status_page.specs.Rows.{is_asked};
+
 use crate::life::{Life, life_of};
 use crate::table::is_asked;
 use calendar_due::Zone;
@@ -231,7 +235,9 @@ fn other_label(
     line: &[u8],
     asked: &[Text],
     room: &mut LineRoom,
-) -> Result<Option<Text>, AllocError> {
+) -> Result<Option<Text>, AllocError>
+    ensures { IfOk result (λ found. IfSome found (λ label. IsLineOf line.now label × (is_asked asked.now label ≡ false))) }
+{
     let Ok(text) = std::str::from_utf8(line) else {
         return Ok(None);
     };

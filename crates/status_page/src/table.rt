@@ -1,9 +1,9 @@
 //! The table of `status`: a head, and a line for each job.
 
-ghost use Rattle.std.specs.Prelude.{◌≤◌, ◌++◌, ◌∷◌, ℕ, List, []};
+ghost use Rattle.std.specs.Prelude.{◌≡◌, ◌≤◌, ◌++◌, ◌∷◌, ℕ, List, []};
 ghost use Rattle.history_model.specs.declared.TheConstants.{MAX_UP, MAX_WALL};
 ghost use Rattle.run_times.specs.Written.{Adds};
-ghost use Rattle.status_page.specs.Rows.{state_word, TellsRows};
+ghost use Rattle.status_page.specs.Rows.{is_asked, state_word, TellsRows};
 
 use crate::cells::cut_in_the_middle;
 use crate::clocks::{StartWhen, gone_on, within_limits};
@@ -136,14 +136,10 @@ pub(crate) fn row_in<'a>(
 }
 
 /// Whether the label is one of those that are named, or none is.
-pub fn is_asked(labels: &[Text], label: &str) -> bool {
-    let mut is_named = labels.is_empty();
-    for named in labels {
-        if named.as_str() == label {
-            is_named = true;
-        }
-    }
-    is_named
+pub fn is_asked(labels: &[Text], label: &str) -> bool
+    ensures { result ≡ is_asked labels.now label.now }
+{
+    labels.is_empty() || labels.iter().any(|named| label == named.as_str())
 }
 
 // How many columns the labels have: what is left of the width, and no more than the longest has.
