@@ -60,14 +60,11 @@ last_refused n = refused_at n.run n.refused
 
 -- when a job is throttled no longer, by its last start and its last refused one; of one that is not
 -- throttled there is no such moment
-abbrev pub ThrottleEndsAt : JobStatus → Option ℕ → Reading → Option ThrottleEnd → Type 0
-ThrottleEndsAt j None at end = end ≡ None
-ThrottleEndsAt j (Some until) at None = ⊥
-ThrottleEndsAt j (Some until) at (Some end) =
-    EndsSo (throttled_by j.note.started (last_refused j.note) j.keys.throttle_interval until) until at end
-
 abbrev pub EndsThrottle : JobStatus → Reading → Option ThrottleEnd → Type 0
-EndsThrottle j at end = ThrottleEndsAt j j.facts.reasons.throttled_until at end
+EndsThrottle j at None = j.facts.reasons.throttled_until ≡ None
+EndsThrottle j at (Some end) =
+    (until : ℕ) × (j.facts.reasons.throttled_until ≡ Some until)
+    × EndsSo (throttled_by j.note.started (last_refused j.note) j.keys.throttle_interval until) until at end
 
 -- when the clocks alone start it, for each past of which these are the facts
 abbrev pub StartsBy : Zone → JobFacts → List Entry → Reading → ℕ → StartWhen → Type 0
