@@ -1,6 +1,8 @@
 //! The table of `status`: a head, and a line for each job.
 
 ghost use Rattle.std.specs.Prelude.{◌≡◌, ◌≤◌, ◌++◌, ◌∷◌, ℕ, List, []};
+ghost use Rattle.std.specs.List.{list_any};
+ghost use Rattle.history_model.specs.Search.{is_same_text};
 ghost use Rattle.history_model.specs.declared.TheConstants.{MAX_UP, MAX_WALL};
 ghost use Rattle.run_times.specs.Written.{Adds};
 ghost use Rattle.status_page.specs.Rows.{is_asked, state_word, TellsRows};
@@ -139,7 +141,13 @@ pub(crate) fn row_in<'a>(
 pub fn is_asked(labels: &[Text], label: &str) -> bool
     ensures { result ≡ is_asked labels.now label.now }
 {
-    labels.is_empty() || labels.iter().any(|named| label == named.as_str())
+    labels.is_empty() || is_named(labels, label)
+}
+
+fn is_named(labels: &[Text], label: &str) -> bool
+    ensures { result ≡ list_any (is_same_text label.now) labels.now }
+{
+    labels.iter().any(|named| label == named.as_str())
 }
 
 // How many columns the labels have: what is left of the width, and no more than the longest has.
