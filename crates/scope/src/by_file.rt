@@ -38,6 +38,19 @@ pub(crate) fn file_asked(host: &HostRuntime, of: &ScopeCommand) -> io::Result<Op
     }
 }
 
+/// What is wrong with words that name both a launcher's file and a journal, or a moment of one, if they do.
+pub(crate) fn clash_of(of: &ScopeCommand) -> Option<&'static str> {
+    if of.status_file.is_none() {
+        None
+    } else if !of.journals.as_slice().is_empty() {
+        Some("jobscope: why: --status-file and --journal can't stand together\n")
+    } else if of.moments.at.is_some() {
+        Some("jobscope: why: --status-file and --at can't stand together\n")
+    } else {
+        None
+    }
+}
+
 /// Writes what is asked of the file at the path. 65 if it can't be read, is not whole or is no status file, or if it has no job of a label that is
 /// named; 2 if failing jobs are asked for, and there is one; 71 if the clock can't be read.
 pub(crate) fn tell_by_file(
@@ -53,7 +66,7 @@ pub(crate) fn tell_by_file(
     let Some(second) = second else {
         return Ok(BAD_CLOCK);
     };
-    match read_standing(host, alloc, path) {
+    match read_standing(host, alloc, path, of.words.as_slice()) {
         Ok(standing) => {
             let told = tell(host, alloc, of, path, &standing, second);
             drop(standing);

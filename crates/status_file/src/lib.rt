@@ -8,6 +8,7 @@ pub const VERSION: &str = "0.2.0";
 
 mod facts;
 mod fields;
+mod front;
 mod jobs;
 mod line;
 mod names;
@@ -18,6 +19,7 @@ mod status;
 mod write;
 
 pub use facts::{JobFacts, facts_of};
+pub use front::LineRoom;
 pub use jobs::{add_jobs, job_count};
 pub use line::StatusText;
 pub use names::state_name;

@@ -6,7 +6,7 @@ ghost use Rattle.scope.specs.CauseObjects.{kind_text, TellsCause, TellsCauses, T
 use crate::journal::telling::{JobCause, causes};
 use crate::objects::lines::{NONE, moment_of, text_of};
 use crate::texts::by_facts::{OrderWhen, kill_when, term_when};
-use crate::texts::causes::throttle_end;
+use crate::texts::causes::throttle_of;
 use crate::texts::told::ToldJob;
 use crate::texts::words::asked_name;
 use history_model::{Act, DemandKind, StandingChild};
@@ -97,7 +97,7 @@ fn fields_of<'a>(told: &ToldJob<'a>, cause: JobCause) -> [Field<'a>; MOST] {
             fields[1] = Field("run", run);
         }
         JobCause::Throttled(up) => {
-            let end = throttle_end(told.job, told.keys.throttle_interval, up, told.at);
+            let end = throttle_of(told.job, told.keys.throttle_interval, up, told.at).told;
             fields[0] = Field("until", Moment(end));
             fields[1] = Field("left_ms", Number(up.saturating_sub(told.at.up)));
         }

@@ -29,7 +29,7 @@ pub(crate) fn standing_text(
     let last = reading_of(standing);
     let mut page = Page::new(alloc, &zone, told_as_of(standing, last, second));
     add_head(&mut page, standing, second);
-    if standing.jobs().is_empty() {
+    if standing.is_empty() {
         page.ink.put("\nNo job is loaded.\n");
     }
     let clock = gone_on(last, second);

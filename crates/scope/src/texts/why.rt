@@ -6,7 +6,7 @@ use crate::journal::labels::{DisabledBy, KnownLabel};
 use crate::journal::reader::OpenJournal;
 use crate::journal::run::JobRun;
 use crate::texts::cause_lines::add_causes;
-use crate::texts::causes::throttle_end;
+use crate::texts::causes::throttle_of;
 use crate::texts::coming::calendar_next;
 use crate::texts::since::{add_coming, reasons_then};
 use crate::texts::told::ToldJob;
@@ -15,9 +15,9 @@ use calendar_due::Zone;
 use history_model::{Reading, Reasons, Refusal};
 use job_defs::Def;
 use run_times::Filling::{Number, Span, Text, Time};
-use run_times::{Page, coming_second};
+use run_times::Page;
 use status_file::{JobFacts, JobKeys};
-use status_page::within_limits;
+use status_page::{ThrottleEnd, within_limits};
 use std::alloc::{AllocError, Global};
 
 /// For each loaded job, or for those named: its state, a line for each thing that keeps it from a start or wants it, how it ended
@@ -182,15 +182,14 @@ pub(crate) fn add_stand(
     add_causes(page, told)
 }
 
-/// The second at which the throttle ends, as the clock counts it, and the one that is told for it.
+/// The end of the throttle, as of the last reading.
 pub(crate) fn throttle_shown(
     told: &ToldJob<'_>,
     facts: &JobFacts<'_>,
     last: Reading,
-) -> Option<(u64, u64)> {
+) -> Option<ThrottleEnd> {
     let up = facts.reasons.throttled_until?;
-    let shown = throttle_end(told.job, told.keys.throttle_interval, up, last);
-    Some((coming_second(last, up), shown))
+    Some(throttle_of(told.job, told.keys.throttle_interval, up, last))
 }
 
 /// The facts, but that a throttle which is over by then is left out.
