@@ -89,7 +89,7 @@ def children_of(pid):
     found = []
     try:
         tasks = os.listdir(f"/proc/{pid}/task")
-    except FileNotFoundError:
+    except (FileNotFoundError, ProcessLookupError):
         return found
     for task in tasks:
         for child in text_at(f"/proc/{pid}/task/{task}/children").split():
