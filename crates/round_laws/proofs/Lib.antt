@@ -4,3 +4,4 @@ pub mod QuietLemmas
 pub mod SeenLemmas
 pub mod RoundQuietLemmas
 pub mod DecidingLemmas
+pub mod FollowingLemmas
