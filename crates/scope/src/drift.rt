@@ -33,8 +33,8 @@ struct Placed {
 enum Standing<'a> {
     /// The two are one JSON value.
     Same,
-    /// These keys differ.
-    Changed(&'a [&'a str]),
+    /// Keys differ.
+    Changed,
     /// Nothing of its label is loaded.
     New,
     /// Nothing of its label is loaded, since a setting or its own `Disabled` says so.
@@ -243,11 +243,11 @@ fn put_files<'a>(
         let before = filed.get(..index).unwrap_or(&[]);
         let is_twice = of_label(before, file.label.as_str()).is_some();
         let is_other = match of_label(loaded, file.label.as_str()) {
-            _ if is_twice => put_standing(file, Standing::Twice, report),
+            _ if is_twice => put_standing(file, Standing::Twice, &[], report),
             Some(job) => put_compared(alloc, file, job, report)?,
             None => {
                 let standing = absent(alloc, journal, file, filed, loaded, renamed)?;
-                put_standing(file, standing, report)
+                put_standing(file, standing, &[], report)
             }
         };
         differs = is_other || differs;
@@ -256,19 +256,19 @@ fn put_files<'a>(
 }
 
 // Puts the line of a file of whose label this job is loaded. Whether the two differ.
-fn put_compared(
+fn put_compared<'x>(
     alloc: Global,
-    file: &Placed,
-    job: &Placed,
+    file: &'x Placed,
+    job: &'x Placed,
     report: &mut Report<'_>,
 ) -> Result<bool, AllocError> {
     let keys = changed_keys(alloc, &file.def, &job.def)?;
     let standing = if keys.is_empty() {
         Standing::Same
     } else {
-        Standing::Changed(keys.as_slice())
+        Standing::Changed
     };
-    let differs = put_standing(file, standing, report);
+    let differs = put_standing(file, standing, keys.as_slice(), report);
     drop(keys);
     Ok(differs)
 }
@@ -308,16 +308,20 @@ fn is_renamed(alloc: Global, file: &Placed, job: &Placed) -> Result<bool, AllocE
     Ok(is_label)
 }
 
-// Puts the line of a file. Whether it differs from what is loaded.
-fn put_standing(file: &Placed, standing: Standing<'_>, report: &mut Report<'_>) -> bool {
-    let nothing: &[&str] = &[];
-    let (word, keys, was) = match standing {
-        Standing::Same => ("same", nothing, ""),
-        Standing::Changed(keys) => ("changed", keys, ""),
-        Standing::New => ("new", nothing, ""),
-        Standing::Disabled => ("disabled", nothing, ""),
-        Standing::Renamed(label) => ("renamed", nothing, label),
-        Standing::Twice => ("twice", nothing, ""),
+// Puts the line of a file, with the keys that differ. Whether it differs from what is loaded.
+fn put_standing(
+    file: &Placed,
+    standing: Standing<'_>,
+    keys: &[&str],
+    report: &mut Report<'_>,
+) -> bool {
+    let (word, was) = match standing {
+        Standing::Same => ("same", ""),
+        Standing::Changed => ("changed", ""),
+        Standing::New => ("new", ""),
+        Standing::Disabled => ("disabled", ""),
+        Standing::Renamed(label) => ("renamed", label),
+        Standing::Twice => ("twice", ""),
     };
     put_told(
         word,

@@ -82,46 +82,57 @@ fn kind_of(cause: JobCause) -> &'static str
 
 // What is told of a cause beside its kind.
 fn fields_of<'a>(told: &ToldJob<'a>, cause: JobCause) -> [Field<'a>; MOST] {
-    let mut fields = [NONE; MOST];
     match cause {
-        JobCause::Removing => {
-            if let Some((asked, at)) = told.asked {
-                fields[0] = Field("by", Text(asked_name(asked)));
-                fields[1] = Field("asked", Moment(at.wall));
-            }
+        JobCause::PathState => both(
+            Field("path", text_of(told.facts.path)),
+            Field("exists", flag_value(told.keys.path_exists)),
+        ),
+        // A path of `PathState` is named in place of a folder.
+        JobCause::QueueDirectories if !told.facts.reasons.wants.path_state => {
+            both(Field("path", text_of(told.facts.path)), NONE)
         }
-        JobCause::Child(child) => fields = child_fields(told, child),
+        _ => plain_fields(told, cause),
+    }
+}
+
+// The same of a cause that names no path.
+fn plain_fields<'a>(told: &ToldJob<'a>, cause: JobCause) -> [Field<'a>; MOST] {
+    match cause {
+        JobCause::Removing => match told.asked {
+            Some((asked, at)) => both(
+                Field("by", Text(asked_name(asked))),
+                Field("asked", Moment(at.wall)),
+            ),
+            None => both(NONE, NONE),
+        },
+        JobCause::Child(child) => child_fields(told, child),
         JobCause::Awaited(act) => {
             let (order, run) = order_of(act);
-            fields[0] = Field("order", Text(order));
-            fields[1] = Field("run", run);
+            both(Field("order", Text(order)), Field("run", run))
         }
         JobCause::Throttled(up) => {
             let end = throttle_of(told.job, told.keys.throttle_interval, up, told.at).told;
-            fields[0] = Field("until", Moment(end));
-            fields[1] = Field("left_ms", Number(up.saturating_sub(told.at.up)));
+            let left = up.saturating_sub(told.at.up);
+            both(Field("until", Moment(end)), Field("left_ms", Number(left)))
         }
-        JobCause::Demand => fields[0] = Field("by", demand_value(told.facts.demand)),
-        JobCause::Connections(count) => fields[0] = Field("count", Number(count as u64)),
+        JobCause::Demand => both(Field("by", demand_value(told.facts.demand)), NONE),
+        JobCause::Connections(count) => both(Field("count", Number(count as u64)), NONE),
         JobCause::SuccessfulExit => {
-            fields[0] = Field("value", flag_value(told.keys.successful_exit));
+            both(Field("value", flag_value(told.keys.successful_exit)), NONE)
         }
-        JobCause::Crashed => fields[0] = Field("value", flag_value(told.keys.crashed)),
-        JobCause::PathState => {
-            fields[0] = Field("path", text_of(told.facts.path));
-            fields[1] = Field("exists", flag_value(told.keys.path_exists));
-        }
-        // A path of `PathState` is named in place of a folder.
-        JobCause::QueueDirectories if !told.facts.reasons.wants.path_state => {
-            fields[0] = Field("path", text_of(told.facts.path));
-        }
-        JobCause::QueueDirectories
+        JobCause::Crashed => both(Field("value", flag_value(told.keys.crashed)), NONE),
+        JobCause::PathState
+        | JobCause::QueueDirectories
         | JobCause::LaunchSpent
         | JobCause::RunsSpent
         | JobCause::NotWanted
-        | JobCause::KeepAlive => {}
+        | JobCause::KeepAlive => both(NONE, NONE),
     }
-    fields
+}
+
+// These two fields, and no other.
+fn both<'a>(first: Field<'a>, second: Field<'a>) -> [Field<'a>; MOST] {
+    [first, second, NONE, NONE, NONE, NONE, NONE, NONE, NONE]
 }
 
 // The run that lives, and what was asked and ordered for its end.

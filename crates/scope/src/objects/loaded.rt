@@ -14,14 +14,7 @@ use std::str::from_utf8;
 pub(crate) fn put_loaded(page: &mut Page<'_>, label: &str, def: &Def, text: &str, at: Reading) {
     match (unheeded(page.alloc, def), on_one_line(page.alloc, text)) {
         (Ok(unheeded), Ok(definition)) => {
-            let fields = [
-                Field("loaded", Moment(at.wall)),
-                Field("output", text_of(def.standard_out_path())),
-                Field("errors", text_of(def.standard_error_path())),
-                Field("not_acted_on", Json(unheeded.as_str())),
-                Field("definition", Json(definition.as_str())),
-            ];
-            put_line(page, "label", label, &fields);
+            put_lists(page, label, def, unheeded.as_str(), definition.as_str(), at);
             drop(unheeded);
             drop(definition);
         }
@@ -31,6 +24,25 @@ pub(crate) fn put_loaded(page: &mut Page<'_>, label: &str, def: &Def, text: &str
             page.ink.refuse();
         }
     }
+}
+
+// Adds the line with these two texts of JSON.
+fn put_lists<'x>(
+    page: &mut Page<'_>,
+    label: &str,
+    def: &'x Def,
+    unheeded: &'x str,
+    definition: &'x str,
+    at: Reading,
+) {
+    let fields = [
+        Field("loaded", Moment(at.wall)),
+        Field("output", text_of(def.standard_out_path())),
+        Field("errors", text_of(def.standard_error_path())),
+        Field("not_acted_on", Json(unheeded)),
+        Field("definition", Json(definition)),
+    ];
+    put_line(page, "label", label, &fields);
 }
 
 fn unheeded(alloc: Global, def: &Def) -> Result<String, AllocError> {

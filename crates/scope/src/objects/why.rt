@@ -1,6 +1,7 @@
 //! Why each job of a journal or of a status file stands as it does, an object a job.
 
 use crate::age::{AsOf, clock_as_of, reading_as_of};
+use crate::journal::job::Record;
 use crate::journal::labels::KnownLabel;
 use crate::journal::reader::OpenJournal;
 use crate::objects::causes::causes_list;
@@ -116,13 +117,32 @@ fn put_living(
     }
     match causes_list(page, told) {
         Ok(list) => {
-            let mut whole = beside;
-            whole.causes = Json(list.as_str());
-            put_job(page, label, told.job, &whole, around);
+            put_whole(page, label, told, beside, list.as_str(), around);
             drop(list);
         }
         Err(_) => page.ink.refuse(),
     }
+}
+
+// Adds the line of a job with this list of its causes.
+fn put_whole<'x>(
+    page: &mut Page<'_>,
+    label: &str,
+    told: &ToldJob<'_>,
+    beside: Beside<'x>,
+    list: &'x str,
+    around: Around,
+) {
+    let whole = Beside {
+        state: beside.state,
+        causes: Json(list),
+        fault: beside.fault,
+        reason: beside.reason,
+        next: beside.next,
+        is_disabled: beside.is_disabled,
+        known: beside.known,
+    };
+    put_job(page, label, told.job, &whole, around);
 }
 
 /// An object for each job of the file, or for each of those named, in order, or for those alone that fail; and how many fail.
@@ -183,19 +203,34 @@ fn put_status(
     beside.state = state_name(state_of(&job.facts.reasons));
     match line.calendar(page.alloc) {
         Ok(entries) => {
-            let zone = page.zone;
-            let told = told_of(page, job, &record, entries.as_slice());
-            let of = Clocks {
-                entries: entries.as_slice(),
-                zone,
-                last,
-                clock,
-            };
-            put_living(page, job.label, &job.facts, &told, beside, of, around);
+            let entries_of = entries.as_slice();
+            put_standing(page, job, &record, entries_of, beside, last, clock, around);
             drop(entries);
         }
         Err(_) => page.ink.refuse(),
     }
+}
+
+// Adds the line of a job of a launcher that may live.
+fn put_standing(
+    page: &mut Page<'_>,
+    job: &JobStatus<'_>,
+    record: &Record,
+    entries: &[Entry],
+    beside: Beside<'_>,
+    last: Reading,
+    clock: Reading,
+    around: Around,
+) {
+    let zone = page.zone;
+    let told = told_of(page, job, record, entries);
+    let of = Clocks {
+        entries,
+        zone,
+        last,
+        clock,
+    };
+    put_living(page, job.label, &job.facts, &told, beside, of, around);
 }
 
 // What the system said of the last start, if it refused that.

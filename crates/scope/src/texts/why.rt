@@ -123,7 +123,13 @@ fn add_label(page: &mut Page<'_>, label: &str, known: KnownLabel) {
     }
 }
 
-fn add_job(page: &mut Page<'_>, journal: &OpenJournal, label: &str, job: &KeptJob, clock: Reading) {
+fn add_job<'x>(
+    page: &mut Page<'_>,
+    journal: &'x OpenJournal,
+    label: &str,
+    job: &'x KeptJob,
+    clock: Reading,
+) {
     let (Some(def), Some(facts)) = (&job.def, journal.facts(label)) else {
         let form = "\n$ is not loaded: it was removed at $.\n";
         page.add(form, &[Text(label), Time(job.record.gone.wall)]);
