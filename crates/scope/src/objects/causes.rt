@@ -3,13 +3,14 @@
 ghost use Rattle.std.specs.Prelude.{◌≡◌, IfOk, string_bytes};
 ghost use Rattle.scope.specs.CauseObjects.{kind_text, TellsCause, TellsCauses, TellsMore, IsCauseList};
 
+use crate::journal::job::JobRequest;
 use crate::journal::telling::{JobCause, causes};
 use crate::objects::lines::{NONE, moment_of, text_of};
 use crate::texts::by_facts::{OrderWhen, kill_when, term_when};
 use crate::texts::causes::throttle_of;
 use crate::texts::told::ToldJob;
 use crate::texts::words::asked_name;
-use history_model::{Act, DemandKind, StandingChild};
+use history_model::{Act, DemandKind, Reading, StandingChild};
 use json_lines::Value::{Absent, Flag, Moment, Number, Text};
 use json_lines::{Field, Value, put_object};
 use run_times::{Ink, Page, coming_second};
@@ -82,57 +83,75 @@ fn kind_of(cause: JobCause) -> &'static str
 
 // What is told of a cause beside its kind.
 fn fields_of<'a>(told: &ToldJob<'a>, cause: JobCause) -> [Field<'a>; MOST] {
-    match cause {
-        JobCause::PathState => both(
-            Field("path", text_of(told.facts.path)),
-            Field("exists", flag_value(told.keys.path_exists)),
-        ),
-        // A path of `PathState` is named in place of a folder.
-        JobCause::QueueDirectories if !told.facts.reasons.wants.path_state => {
-            both(Field("path", text_of(told.facts.path)), NONE)
-        }
-        _ => plain_fields(told, cause),
+    if let JobCause::Child(child) = cause {
+        return child_fields(told, child);
     }
+    let path = match cause {
+        JobCause::PathState => told.facts.path,
+        // A path of `PathState` is named in place of a folder.
+        JobCause::QueueDirectories if !told.facts.reasons.wants.path_state => told.facts.path,
+        _ => None,
+    };
+    let (first, value) = first_of(told, cause);
+    let (second, more) = second_of(told, cause);
+    [
+        Field("path", text_of(path)),
+        Field(first, value),
+        Field(second, more),
+        NONE,
+        NONE,
+        NONE,
+        NONE,
+        NONE,
+        NONE,
+    ]
 }
 
-// The same of a cause that names no path.
-fn plain_fields<'a>(told: &ToldJob<'a>, cause: JobCause) -> [Field<'a>; MOST] {
+// The first key of a cause behind that of its path.
+fn first_of(told: &ToldJob<'_>, cause: JobCause) -> (&'static str, Value<'static>) {
     match cause {
-        JobCause::Removing => match told.asked {
-            Some((asked, at)) => both(
-                Field("by", Text(asked_name(asked))),
-                Field("asked", Moment(at.wall)),
-            ),
-            None => both(NONE, NONE),
-        },
-        JobCause::Child(child) => child_fields(told, child),
-        JobCause::Awaited(act) => {
-            let (order, run) = order_of(act);
-            both(Field("order", Text(order)), Field("run", run))
-        }
+        JobCause::Removing => ("by", asked_by(told.asked)),
+        JobCause::Awaited(act) => ("order", Text(order_of(act).0)),
         JobCause::Throttled(up) => {
-            let end = throttle_of(told.job, told.keys.throttle_interval, up, told.at).told;
-            let left = up.saturating_sub(told.at.up);
-            both(Field("until", Moment(end)), Field("left_ms", Number(left)))
+            let end = throttle_of(told.job, told.keys.throttle_interval, up, told.at);
+            ("until", Moment(end.told))
         }
-        JobCause::Demand => both(Field("by", demand_value(told.facts.demand)), NONE),
-        JobCause::Connections(count) => both(Field("count", Number(count as u64)), NONE),
-        JobCause::SuccessfulExit => {
-            both(Field("value", flag_value(told.keys.successful_exit)), NONE)
-        }
-        JobCause::Crashed => both(Field("value", flag_value(told.keys.crashed)), NONE),
-        JobCause::PathState
+        JobCause::Demand => ("by", demand_value(told.facts.demand)),
+        JobCause::Connections(count) => ("count", Number(count as u64)),
+        JobCause::SuccessfulExit => ("value", flag_value(told.keys.successful_exit)),
+        JobCause::Crashed => ("value", flag_value(told.keys.crashed)),
+        JobCause::PathState => ("exists", flag_value(told.keys.path_exists)),
+        JobCause::Child(_)
         | JobCause::QueueDirectories
         | JobCause::LaunchSpent
         | JobCause::RunsSpent
         | JobCause::NotWanted
-        | JobCause::KeepAlive => both(NONE, NONE),
+        | JobCause::KeepAlive => ("", Absent),
     }
 }
 
-// These two fields, and no other.
-fn both<'a>(first: Field<'a>, second: Field<'a>) -> [Field<'a>; MOST] {
-    [first, second, NONE, NONE, NONE, NONE, NONE, NONE, NONE]
+// The second one.
+fn second_of(told: &ToldJob<'_>, cause: JobCause) -> (&'static str, Value<'static>) {
+    match cause {
+        JobCause::Removing => ("asked", asked_at(told.asked)),
+        JobCause::Awaited(act) => ("run", order_of(act).1),
+        JobCause::Throttled(up) => ("left_ms", Number(up.saturating_sub(told.at.up))),
+        _ => ("", Absent),
+    }
+}
+
+fn asked_by(asked: Option<(JobRequest, Reading)>) -> Value<'static> {
+    match asked {
+        Some((word, _)) => Text(asked_name(word)),
+        None => Absent,
+    }
+}
+
+fn asked_at(asked: Option<(JobRequest, Reading)>) -> Value<'static> {
+    match asked {
+        Some((_, at)) => Moment(at.wall),
+        None => Absent,
+    }
 }
 
 // The run that lives, and what was asked and ordered for its end.
