@@ -1,12 +1,13 @@
 #!/usr/bin/env bash
-# Tries wrong bodies alone, each against the contracts of its crate: the prover has to refuse every one.
+# Tries wrong bodies, each against the contracts of its crate: the prover has to refuse every one.
 #
 #   tests/wrong_bodies.sh [--gate] [--only-stale] [CRATE..]
 #   tests/wrong_bodies.sh --stale
 #
 # A wrong body is an edit of tests/wrong_bodies/CRATE/, or one part of a joined edit there. With --gate those of crates/CRATE/must-fail/ are tried
 # too, each of which is a wrong body of its own. Without CRATE those of each crate are.
-# RT_JOBS says how many are tried side by side (as many as there are processors and memory allows). One line a wrong body, at the end:
+# Those of different functions are tried at one go, and by the proofs of these functions alone (tests/try_bodies.py says why that tells of each);
+# what is not refused so is tried by the check of the whole crate. RT_JOBS says by how many jobs (as many as there are processors). One line a wrong body:
 #
 #   refused CRATE/NAME by src/FILE:LINE ..       a goal of the code's own contracts is open
 #   refused CRATE/NAME by its goal: ..           the same, and the tactic that answers this goal finds no proof
@@ -77,9 +78,9 @@ for crate in "$@"; do
   [ -z "$(ls "$room/crates/$crate/must-fail")" ] || tried+=("$crate")
 done
 said=$room/said
-{ [ ${#tried[@]} = 0 ] || python3 "$room/tests/try_bodies.py" "${tried[@]}" 2>&1 || true; } | sed -nE \
+{ [ ${#tried[@]} = 0 ] || python3 "$room/tests/try_bodies.py" "${tried[@]}" 2>&1 || true; } | sed -unE \
   -e 's,^(rt: )?must-fail ([^:]*)\.edit: refused\, as it must be: (note: )?(\./)?(src/.{0\,140}).*,refused \2 by \5,p;t' \
-  -e 's,^(rt: )?must-fail ([^:]*)\.edit: refused\, as it must be: (\./)?(proofs/[^ ]*Answers\.antt:[0-9:]+ error: `[^`]*`: `(search|grind|omega)`: .{0\,80}).*,refused \2 by its goal: \4,p;t' \
+  -e 's,^(rt: )?must-fail ([^:]*)\.edit: refused\, as it must be: (\./)?(proofs/[^ ]*Answers\.antt:[0-9:]+ error: `[^`]*`: `(search|grind|omega)`(:| found no proof).{0\,80}).*,refused \2 by its goal: \4,p;t' \
   -e 's,^(rt: )?must-fail ([^:]*)\.edit: refused\, as it must be ?:?(.*),refused \2 elsewhere:\3,p;t' \
   -e 's,^(rt: )?must-fail ([^:]*)\.edit: (.*),NOT REFUSED \2: \3,p;t' \
   -e '/NOT PROVED/p' \
