@@ -63,7 +63,7 @@ if [ $# = 0 ]; then
 fi
 room=$(mktemp -d "${TMPDIR:-/tmp}/wrong-bodies-XXXXXX")
 trap 'rm -rf "$room"' EXIT
-[ -z "$stale" ] || python3 "$top/tests/body_results.py" stale > "$room/stale" || true
+[ -z "$stale" ] || python3 "$top/tests/body_results.py" stale "$@" > "$room/stale" || true
 mkdir "$room/tools" "$room/tests"
 cp "$top"/{crates.txt,HANDLES} "$room/"
 cp "$top"/tools/{kit,lanes,check_crate,proofs_kept}.py "$room/tools/"
