@@ -6,12 +6,14 @@
 What earlier runs on this machine proved of the crates below is not proved again, and no program is compiled or run. A function's proof takes of the
 others their contracts alone. So wrong bodies of different functions are tried at one go, by one check of these functions: a goal that is open
 within one of them is open for the wrong body there, whatever stands in the others. So it is with a written answer that no longer proves its goal. (If
-a goal is open anywhere else, all are tried alone.) Which edits can be tried so, `Edit.place` says. What no goal refuses there is tried alone: by a check of its functions, and if that refuses nothing by one of
-the whole crate. This takes some 3 s of a processor for a wrong body that is tried with others, and 10 to 60 s for one that is tried alone. RT_JOBS is
-the number of jobs of a check at one go, and of the checks side by side that try one body each.
+a goal is open anywhere else, all are tried alone.) Which edits can be tried so, `Edit.place` says. What no goal refuses there is tried alone: by a
+check of its functions, and if that refuses nothing by one of the whole crate. This takes some 3 s of a processor for a wrong body that is tried with
+others, and 10 to 60 s for one that is tried alone. RT_JOBS is the number of jobs of a check at one go, and of the checks side by side that try one
+body each.
 
-That the crate as it stands is proved, without which a refusal says nothing, is taken from an earlier run or checked. With a kit whose rt keeps nothing
-(13b), tools/check_crate.py tries each alone, over what tools/proofs_kept.py keeps.
+It begins with what tools/check_crate.py kept of the crate, if it did. That the crate as it stands is proved, without which a refusal says nothing, is
+taken from an earlier run or checked. With a kit whose rt keeps nothing (13b), tools/check_crate.py tries each alone, over what tools/proofs_kept.py
+keeps.
 """
 import bisect
 import contextlib
@@ -166,7 +168,10 @@ class Trial:
     def __init__(self, rt, crate, is_proved, jobs):
         self.rt, self.crate, self.is_proved, self.jobs = rt, crate, is_proved, jobs
         self.blank = {os.path.relpath(path, crate.folder): text for path, text in rt.rtlib.blanked(crate.folder).items()}
-        self.kept = tempfile.mkdtemp(prefix="kept-", dir=TOP)
+        self.kept = f"{TOP}/kept-{crate.name}"
+        if os.path.isdir(f"{TOP}/begun-{crate.name}"):
+            rt.linked(f"{TOP}/begun-{crate.name}", self.kept)
+        os.makedirs(self.kept, exist_ok=True)
         # rt's own judgement of a try takes what a check of the functions came to, by the folder over which it was made
         self.at_hand, self.checked = {}, rt.checked
         rt.checked = lambda crate, texts, flags, kept: self.at_hand.pop(kept, None) or self.checked(crate, texts, flags, kept)

@@ -76,6 +76,7 @@ for crate in "$@"; do
   mkdir -p "$room/crates/$crate/must-fail"
   part_edits "$crate" "$room/crates/$crate/must-fail"
   [ -z "$(ls "$room/crates/$crate/must-fail")" ] || tried+=("$crate")
+  [ ! -d "$top/crates/$crate/out/incremental" ] || ln -s "$top/crates/$crate/out/incremental" "$room/begun-$crate"
 done
 said=$room/said
 { [ ${#tried[@]} = 0 ] || python3 "$room/tests/try_bodies.py" "${tried[@]}" 2>&1 || true; } | sed -unE \
