@@ -11,6 +11,7 @@
 #
 #   refused CRATE/NAME by src/FILE:LINE ..       a goal of the code's own contracts is open
 #   refused CRATE/NAME by its goal: ..           the same, and the tactic that answers this goal finds no proof
+#   refused CRATE/NAME at its answer: ..         the goal is another one with it, and the answer that is written for the goal proves it no longer
 #   refused CRATE/NAME elsewhere: ..             a proof or a definition is refused first: look whether a clause says it
 #   NOT REFUSED CRATE/NAME ..                    the contract is too weak, or the edit can't be read
 #
@@ -82,6 +83,7 @@ said=$room/said
 { [ ${#tried[@]} = 0 ] || python3 "$room/tests/try_bodies.py" "${tried[@]}" 2>&1 || true; } | sed -unE \
   -e 's,^(rt: )?must-fail ([^:]*)\.edit: refused\, as it must be: (note: )?(\./)?(src/.{0\,140}).*,refused \2 by \5,p;t' \
   -e 's,^(rt: )?must-fail ([^:]*)\.edit: refused\, as it must be: (\./)?(proofs/[^ ]*Answers\.antt:[0-9:]+ error: `[^`]*`: `(search|grind|omega)`(:| found no proof).{0\,80}).*,refused \2 by its goal: \4,p;t' \
+  -e 's,^(rt: )?must-fail ([^:]*)\.edit: refused\, as it must be: (\./)?(proofs/[^ ]*Answers\.antt:[0-9:]+ error: `(returns|loop|[a-z0-9_]+-requires)[^`]*`: .*),refused \2 at its answer: \4,p;t' \
   -e 's,^(rt: )?must-fail ([^:]*)\.edit: refused\, as it must be ?:?(.*),refused \2 elsewhere:\3,p;t' \
   -e 's,^(rt: )?must-fail ([^:]*)\.edit: (.*),NOT REFUSED \2: \3,p;t' \
   -e '/NOT PROVED/p' \
