@@ -55,7 +55,9 @@ def again(step, pause):
 
 
 def is_held(client):
-    """Whether the launcher has not closed its end, whatever waits to be read."""
+    """Whether the launcher has not closed its end, whatever waits to be read. One that could not be replaced is held no longer."""
+    if client.fileno() < 0:
+        return False
     poll = select.poll()
     poll.register(client, select.POLLRDHUP)
     return not poll.poll(0)

@@ -72,6 +72,7 @@ complete -c jobscope -n '__fish_seen_subcommand_from next' -l all -d "Each comin
 complete -c jobscope -n '__fish_seen_subcommand_from next why log runs picture show drift' -l journal -r -F -d 'The journal'
 complete -c jobscope -n '__fish_seen_subcommand_from status metrics why log runs picture show' -a '(__jobscope_labels)'
 complete -c jobscope -n '__fish_seen_subcommand_from status why log runs picture show' -l utc -d 'Show times in UTC'
+complete -c jobscope -n '__fish_seen_subcommand_from check next status why runs show drift' -l json -d 'Write objects of JSON'
 complete -c jobscope -n '__fish_seen_subcommand_from picture' -l html -d 'Write a page that stands alone'
 complete -c jobscope -n '__fish_seen_subcommand_from log' -s f -d 'Go on as the journal grows'
 complete -c jobscope -n '__fish_seen_subcommand_from log runs picture' -l since -x -d 'From this moment on, as yesterday or -2h'

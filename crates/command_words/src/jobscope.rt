@@ -44,6 +44,7 @@ fn command_in(
             is_failing: is_set(found, "failing"),
             follows: is_set(found, "follow"),
             is_page: is_set(found, "html"),
+            is_json: is_set(found, "json"),
             has_user: is_set(found, "system"),
             is_utc: is_set(found, "utc"),
             count: number_of(found, "count"),

@@ -70,6 +70,8 @@ pub struct ScopeCommand {
     pub follows: bool,
     /// The picture is a page that stands alone.
     pub is_page: bool,
+    /// What is told is told as objects of JSON, a line each.
+    pub is_json: bool,
     /// The lines of a crontab have a user's field.
     pub has_user: bool,
     /// Times are shown in UTC, and not in the journal's zone; of definitions, if no zone is named: in UTC, and not in the machine's.

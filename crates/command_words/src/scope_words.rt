@@ -79,6 +79,13 @@ const NOW: Argument = Argument {
     help: "Take this second of Unix time for now, and not the clock's",
 };
 
+const JSON: Argument = Argument {
+    id: "json",
+    form: Form::Switch,
+    value: "",
+    help: "Write objects of JSON",
+};
+
 const CHECK: &[Argument] = &[
     Argument {
         id: "strict",
@@ -86,6 +93,7 @@ const CHECK: &[Argument] = &[
         value: "",
         help: "Fail at a warning too",
     },
+    JSON,
     Argument {
         id: "now",
         form: Form::Value { required: false },
@@ -115,6 +123,7 @@ const NEXT: &[Argument] = &[
     ZONE_FILE,
     ZONE_UTC,
     JOURNAL,
+    JSON,
     Argument {
         id: "all",
         form: Form::Switch,
@@ -136,7 +145,7 @@ const STATUS_FILE: Argument = Argument {
     help: "The launcher's file on how it stands; where absent, that of JOBD_STATUS_FILE",
 };
 
-const STATUS: &[Argument] = &[STATUS_FILE, LABELS, UTC, NOW];
+const STATUS: &[Argument] = &[STATUS_FILE, LABELS, UTC, JSON, NOW];
 
 const METRICS: &[Argument] = &[STATUS_FILE, LABELS, NOW];
 
@@ -145,6 +154,7 @@ const WHY: &[Argument] = &[
     JOURNAL,
     LABELS,
     UTC,
+    JSON,
     Argument {
         id: "failing",
         form: Form::Switch,
@@ -160,7 +170,7 @@ const WHY: &[Argument] = &[
     NOW,
 ];
 
-const RUNS: &[Argument] = &[JOURNAL, LABELS, UTC, SINCE, UNTIL, NOW];
+const RUNS: &[Argument] = &[JOURNAL, LABELS, UTC, JSON, SINCE, UNTIL, NOW];
 
 const LOG: &[Argument] = &[
     JOURNAL,
@@ -192,9 +202,9 @@ const PICTURE: &[Argument] = &[
     NOW,
 ];
 
-const SHOW: &[Argument] = &[JOURNAL, LABELS, UTC];
+const SHOW: &[Argument] = &[JOURNAL, LABELS, UTC, JSON];
 
-const DRIFT: &[Argument] = &[JOURNAL, PATHS];
+const DRIFT: &[Argument] = &[JOURNAL, JSON, PATHS];
 
 const INTO: Argument = Argument {
     id: "into",

@@ -7,11 +7,11 @@ use crate::settings::{SettingFault, Settings, settings_of};
 use ctl_protocol::{LoadRequest, Request};
 use exit_status::{NO_MEMORY, USAGE};
 use files_and_process::path_files::{Found, Kind, files_at};
-use history_model::{Ask, Text, TextRef};
+use history_model::{Ask, KeyName, Reason, Refusal, Text, TextRef};
 use launchctl_words::{Command, Paths, WordFault, Words, explain, read_words, read_words_beside};
 use std::alloc::Global;
 use std::fs::{Files, metadata};
-use std::io;
+use std::io::{self, IsTerminal};
 use std::net::Net;
 use std::rt::Env;
 
@@ -19,6 +19,17 @@ use std::rt::Env;
 const SOCKET: &str = "jobd.sock";
 
 const PACKAGED: &str = "/run/jobd/jobd.sock";
+
+/// Whether somebody reads at once what is told on the standard error.
+pub trait Watched {
+    fn is_watched(&self) -> bool;
+}
+
+impl Watched for HostRuntime {
+    fn is_watched(&self) -> bool {
+        self.stderr().is_terminal()
+    }
+}
 
 /// What is done with each file.
 #[derive(Clone, Copy)]
@@ -88,12 +99,12 @@ fn task_of(command: &Command) -> Task<'_> {
 /// in their order, and a file's fault leaves out that file alone.
 ///
 /// A reply's text goes to the standard output at code 0, else to the standard error, behind a line that names its file if
-/// there are several. A fault is one line on the standard error that names what it is about, and the reason. If the standard
+/// there are several. Below that of a faulty definition a terminal is told what says where the fault is. A fault is one line on the standard error that names what it is about, and the reason. If the standard
 /// output's reader has gone, nothing is told and the status is [`crate::READER_GONE`].
 ///
 /// Of the environment, `JOBD_SOCKET` is the control socket if the words name none, and `JOBCTL_TIMEOUT` the seconds for which
 /// an answer is waited (30 if absent, 0 for ever); after them the status is 69. One that can't be read: 64.
-pub fn jobctl<R: Net + Files + Env + Print + Eprint + AllocGlobal + Clone + Drop>(
+pub fn jobctl<R: Net + Files + Env + Print + Eprint + Watched + AllocGlobal + Clone + Drop>(
     rt: &R,
     alloc: Global,
     words: &[String],
@@ -168,7 +179,7 @@ fn explain_words<R: Print + Eprint>(rt: &R, alloc: Global, words: &[String]) -> 
     }
 }
 
-fn hand_in<R: Net + Files + Print + Eprint + AllocGlobal + Clone + Drop>(
+fn hand_in<R: Net + Files + Print + Eprint + Watched + AllocGlobal + Clone + Drop>(
     rt: &R,
     alloc: Global,
     session: &mut Session,
@@ -193,7 +204,7 @@ fn hand_in<R: Net + Files + Print + Eprint + AllocGlobal + Clone + Drop>(
     drop(files);
 }
 
-fn hand_in_one<R: Net + Files + Print + Eprint>(
+fn hand_in_one<R: Net + Files + Print + Eprint + Watched>(
     rt: &R,
     alloc: Global,
     session: &mut Session,
@@ -217,9 +228,18 @@ fn hand_in_one<R: Net + Files + Print + Eprint>(
         Ok(text) => {
             let answer = session.ask(rt, alloc, &request_with(deed, &text), name);
             drop(text);
-            answer
+            point_out(rt, deed, path, answer?);
+            Ok(())
         }
         Err(fault) => Err(fault),
+    }
+}
+
+// A terminal is told what says where a faulty definition has its fault.
+fn point_out<R: Eprint + Watched>(rt: &R, deed: Deed, path: &str, code: u8) {
+    let is_faulty = code == Refusal::BadDefinition(Reason::NotJson, KeyName::NoKey).code();
+    if is_faulty && matches!(deed, Deed::Load { .. }) && rt.is_watched() {
+        let _written = eprintln!(rt; "jobctl: `jobscope check {path}` says where");
     }
 }
 

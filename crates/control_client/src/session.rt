@@ -46,18 +46,19 @@ impl Session {
         }
     }
 
-    /// Asks this and prints the reply's text, behind the name if there are both.
+    /// Asks this and prints the reply's text, behind the name if there are both. Gives the reply's code.
     pub(crate) fn ask<R: Net + Print + Eprint>(
         &mut self,
         rt: &R,
         alloc: Global,
         request: &Request<'_>,
         name: Option<&str>,
-    ) -> Result<(), Fault> {
+    ) -> Result<u8, Fault> {
         let line = request_of(alloc, request)?;
         let reply = self.exchange(rt, alloc, line.as_slice())?;
         self.note(reply.code);
-        print(rt, &reply, name)
+        print(rt, &reply, name)?;
+        Ok(reply.code)
     }
 
     /// Asks this, prints the reply's text, and tells what kept the request from its reply.
@@ -68,7 +69,7 @@ impl Session {
         request: &Request<'_>,
     ) {
         match self.ask(rt, alloc, request, None) {
-            Ok(()) => {}
+            Ok(_) => {}
             Err(fault) => self.fail(rt, "request", &fault),
         }
     }

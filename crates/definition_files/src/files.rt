@@ -22,6 +22,8 @@ pub struct Asked<'a> {
     pub zone_line: &'a str,
     /// The second of Unix time from which on the clock is looked at.
     pub from: u64,
+    /// What is told is told as objects of JSON, a line each.
+    pub is_json: bool,
 }
 
 /// What a file of definitions came to.

@@ -13,5 +13,5 @@ mod verdict;
 pub use coming::calendar_after;
 pub use files::{Asked, Contents, DefinitionSource, HostFiles};
 pub use folder::laid_out;
-pub use starts::{coming_starts, tell_clockless};
+pub use starts::{coming_starts, put_start, tell_clockless};
 pub use verdict::Verdict;

@@ -9,10 +9,13 @@ use crate::files::{Asked, Contents, DefinitionSource};
 use crate::verdict::{Verdict, Verdicts};
 use calendar_due::Zone;
 use files_and_process::path_files::Found;
+use history_model::Reading;
 use job_defs::{Def, DefFault, read_def};
-use run_times::Ink;
+use json_lines::{Field, Value, put_line};
+use run_times::Filling::Moment;
 use run_times::Piece::{Number, Text};
 use run_times::telling::{Outcome, tell_line, tell_of};
+use run_times::{Filling, Ink, Page};
 use std::alloc::{AllocError, Global};
 
 /// A definition, and when the clock wants it next: by an entry of its calendar, and by its interval.
@@ -185,16 +188,48 @@ fn starts_text(
     of: &Asked<'_>,
     jobs: &mut Vec<Job>,
 ) -> Result<String, AllocError> {
-    let mut ink = Ink::new(alloc);
-    ink.put(of.zone_line);
+    let now = Reading {
+        up: 0,
+        wall: of.from,
+    };
+    let mut page = Page::new(alloc, of.zone, now);
+    if !of.is_json {
+        page.ink.put(of.zone_line);
+    }
     for _ in 0..count {
         let index = soonest(jobs.as_slice());
-        match jobs.get_mut(index) {
-            Some(job) => add_start(alloc, of.from, of.zone, job, &mut ink),
-            None => break,
+        let Some(job) = jobs.get_mut(index) else {
+            break;
+        };
+        let second = second_of(job);
+        let every = interval_of(job, second);
+        if of.is_json {
+            put_start(&mut page, job.def.label(), second, of.from, every);
+        } else {
+            add_start(&mut page, job.def.label(), second, every);
         }
+        go_on(job, second, of.zone);
     }
-    ink.into_text()
+    page.into_text()
+}
+
+// The seconds of the interval that is over at the second, if one is.
+fn interval_of(job: &Job, second: u64) -> Option<u32> {
+    if job.by_interval == Some(second) {
+        job.def.start_interval()
+    } else {
+        None
+    }
+}
+
+// The next start is the one behind this second.
+fn go_on(job: &mut Job, second: u64, zone: &Zone) {
+    if job.by_interval == Some(second) {
+        job.by_interval = interval_after(job.def.start_interval().unwrap_or(0), second);
+    }
+    if job.by_calendar == Some(second) {
+        job.by_calendar = calendar_after(job.def.calendar(), zone, second);
+    }
 }
 
 // The place of the job that the clock wants first, of several the first; the place behind the jobs if it wants none.
@@ -220,27 +255,30 @@ fn second_of(job: &Job) -> u64 {
     by_calendar.min(by_interval)
 }
 
-// Adds the job's next start, and goes on to the one after.
-fn add_start(alloc: Global, from: u64, zone: &Zone, job: &mut Job, ink: &mut Ink) {
-    let second = second_of(job);
-    ink.put_moment(alloc, zone, second);
-    ink.put("  ");
-    ink.put_plain(job.def.label());
-    ink.put("  in ");
-    ink.put_span(second.saturating_sub(from).saturating_mul(1000), false);
-    if job.by_interval == Some(second) {
-        let every = job.def.start_interval().unwrap_or(0);
-        ink.put_all(&[
-            Text(" (each "),
-            Number(u64::from(every)),
-            Text(" s from a load at "),
-        ]);
-        ink.put_moment(alloc, zone, from);
-        ink.put(")");
-        job.by_interval = interval_after(every, second);
+// Adds the line of a start. An interval is counted from the page's second.
+fn add_start(page: &mut Page<'_>, label: &str, second: u64, every: Option<u32>) {
+    let from = page.now.wall;
+    page.add("$  $  in ", &[Moment(second), Filling::Text(label)]);
+    let left = second.saturating_sub(from).saturating_mul(1000);
+    page.ink.put_span(left, false);
+    if let Some(every) = every {
+        let form = " (each $ s from a load at $)";
+        page.add(form, &[Filling::Number(u64::from(every)), Moment(from)]);
     }
-    ink.put("\n");
-    if job.by_calendar == Some(second) {
-        job.by_calendar = calendar_after(job.def.calendar(), zone, second);
-    }
+    page.ink.put("\n");
+}
+
+/// Adds a start as an object: the label, when it comes, how far that is from now, and the seconds of the interval that is over then, if one is.
+pub fn put_start(page: &mut Page<'_>, label: &str, second: u64, now: u64, every: Option<u32>) {
+    let left = second.saturating_sub(now).saturating_mul(1000);
+    let every = match every {
+        Some(every) => Value::Number(u64::from(every)),
+        None => Value::Absent,
+    };
+    let fields = [
+        Field("start", Value::Moment(second)),
+        Field("left_ms", Value::Number(left)),
+        Field("interval_seconds", every),
+    ];
+    put_line(page, "label", label, &fields);
 }

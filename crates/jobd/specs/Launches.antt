@@ -41,6 +41,10 @@ abbrev pub AsksEdge : {T E W : Type 0} → RoundLauncher T E W → RoundLauncher
 AsksEdge {E = E} old new = ((edge : E) × (new ≡ lent edge old))
     ⊎ ((edge : E) × (new ≡ record old { host = record old.host { edge = edge; journal = reported old.host.journal } }))
 
+-- The edge took a client that waited at the sockets of the job; nothing was handed in.
+abbrev pub TakesClient : {T E W : Type 0} → (ℕ → E → E → Type 0) → ℕ → RoundLauncher T E W → RoundLauncher T E W → Type 0
+TakesClient {E = E} Accepts job old new = (edge : E) × Accepts job old.host.edge edge × (new ≡ lent edge old)
+
 -- what a look gives, if the system did not refuse it
 abbrev pub seen_by : Result Obs EdgeFault → Option Obs
 seen_by (Ok obs) = Some obs
@@ -198,10 +202,6 @@ module _ {T E W : Type 0} (calls : E → Option (List ToldCall)) (stores : T →
 
   -- ---- clients
 
-  -- The edge took a client that waited at the sockets of the job; nothing was handed in.
-  abbrev pub TakesClient : (ℕ → E → E → Type 0) → ℕ → RoundLauncher T E W → RoundLauncher T E W → Type 0
-  TakesClient Accepts job old new = (edge : E) × Accepts job old.host.edge edge × (new ≡ lent edge old)
-
   -- What became of a client under this number: the edge did not hold it, and nothing was handed in; or the job heard that it came; or the
   -- launcher refused it, and it was closed under this number.
   abbrev pub TellsCame : List ℕ → ℕ → ℕ → HandedIn →
@@ -218,7 +218,7 @@ module _ {T E W : Type 0} (calls : E → Option (List ToldCall)) (stores : T →
   pub record ComesIn (Holds : ℕ → ℕ → List ℕ → Bool → E → E → Type 0) (conn job : ℕ) (request : List ℕ) (answer : HandedIn)
       (old new : RoundLauncher T E W) : Type 0 where
     pub edge : E
-    pub holds : Holds conn job request (is_held answer) old.host.edge edge
+    pub given : Holds conn job request (is_held answer) old.host.edge edge
     pub label : List ℕ
     pub its : IsLabelOf old.host.table job label
     pub handed : TellsCame label job conn answer (lent edge old) new

@@ -2,5 +2,9 @@ pub mod TurnsLemmas
 pub mod HearingLemmas
 pub mod QuietLemmas
 pub mod SeenLemmas
+pub mod StepsLemmas
+pub mod SpansLemmas
+pub mod TurnQuietLemmas
 pub mod RoundQuietLemmas
 pub mod DecidingLemmas
+pub mod FollowingLemmas

@@ -1,3 +1,4 @@
 pub mod Marks
 pub mod RoundMarks
 pub mod Hearing
+pub mod Following

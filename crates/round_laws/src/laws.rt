@@ -10,9 +10,10 @@ ghost use Rattle.launcher.specs.Journals.{JournalState};
 ghost use Rattle.launcher_laws.specs.Lasting.{Lasts};
 ghost use Rattle.launcher_laws.specs.TurnRuns.{AreTurns, Snapshot};
 ghost use Rattle.live_loop.specs.Looks.{IsEmpty};
-ghost use Rattle.live_loop.specs.Rounds.{AreRounds, Left};
+ghost use Rattle.live_loop.specs.Rounds.{AreRounds, IsNew as IsNobodyYet, Left};
 ghost use Rattle.outside.specs.Stores.{StoreCall};
 ghost use Rattle.jobd.specs.declared.round_launcher.RoundLauncher.{RoundLauncher as Launcher};
+ghost use Rattle.round_laws.specs.Following.{AreFollowed, deeds_of};
 ghost use Rattle.round_laws.specs.Hearing.{DecideAsOne, Decides, HeardReadings, lines_of};
 ghost use Rattle.round_laws.specs.Marks.{Mark, snapshot, turns_in};
 ghost use Rattle.round_laws.specs.RoundMarks.{launcher, marks_of};
@@ -58,6 +59,21 @@ pub fn rounds_decide_as_one<T: SettingStore, E: RoundEdge, W: Write>(round: &Rou
         (rounds : AreRounds (launcher E.told T.told T.holds T.stamped E.Finds E.Looks E.Accepts E.Holds) first last) →
         HeardReadings (marks_of E.told T.told T.holds T.stamped E.Finds E.Looks E.Accepts E.Holds rounds) →
         Decides new.machine (marks_of E.told T.told T.holds T.stamped E.Finds E.Looks E.Accepts E.Holds rounds) }
+{
+    let _ = round;
+}
+
+/// Over any rounds of a new loop each client of a job's socket is followed from its coming to its number. The edge took it at a socket of its
+/// job. It was handed in at most once: for that job, with all that was read of its request in between and nothing else, at most 65,536 bytes, and
+/// under the number behind that of the client before. The edge was given its connection under that number, and then the job heard of it, as
+/// `ComesIn` says.
+pub fn each_client_is_followed<T: SettingStore, E: RoundEdge, W: Write>(
+    round: &RoundLauncher<T, E, W>,
+)
+    ensures { (first last : Left (Launcher T E W)) → IsNobodyYet first.desk →
+        (rounds : AreRounds (launcher E.told T.told T.holds T.stamped E.Finds E.Looks E.Accepts E.Holds) first last) →
+        AreFollowed (launcher E.told T.told T.holds T.stamped E.Finds E.Looks E.Accepts E.Holds)
+        (deeds_of (launcher E.told T.told T.holds T.stamped E.Finds E.Looks E.Accepts E.Holds) rounds) }
 {
     let _ = round;
 }

@@ -3,4 +3,5 @@ pub mod EndedLemmas
 pub mod FactsLemmas
 pub mod HearingLemmas
 pub mod LineLemmas
+pub mod ObjectsLemmas
 pub mod ReadingLemmas

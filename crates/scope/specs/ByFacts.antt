@@ -1,8 +1,6 @@
 -- What the texts say of a job by its facts, as plain values.
-use Rattle.std.specs.Prelude.{◌≡◌, ℕ, ◌+◌, ◌*◌, ◌<◌, Bool, true, false, nat_le, is_none, is_some, if◌then◌else◌}
-use Rattle.history_model.specs.declared.TheConstants.{SECOND}
+use Rattle.std.specs.Prelude.{◌≡◌, ℕ, ◌<◌, Bool, true, false, nat_le, is_none, is_some, if◌then◌else◌}
 use Rattle.history_model.specs.declared.Ask.TheVariants.{Start, Kickstart}
-use Rattle.history_model.specs.declared.Reading.{Reading}
 use Rattle.history_model.specs.declared.reasons.Reasons.{Reasons}
 use Rattle.history_model.specs.Items.{Item, Asked, History}
 use Rattle.history_model.specs.Demands.{fires}
@@ -11,8 +9,6 @@ use Rattle.scope.specs.declared.texts.by_facts.OrderWhen.{OrderWhen}
 use Rattle.scope.specs.declared.texts.by_facts.OrderWhen.TheVariants.{Never, AtOnce, At}
 use Rattle.scope.specs.declared.texts.by_facts.StartWord.{StartWord}
 use Rattle.scope.specs.declared.texts.by_facts.StartWord.TheVariants as words
-use Rattle.scope.specs.declared.texts.by_facts.ThrottleBy.{ThrottleBy}
-use Rattle.scope.specs.declared.texts.by_facts.ThrottleBy.TheVariants.{Order, Refusal, Unknown}
 
 -- an order that may be given at these moments of `up` comes so, if nothing but readings happens:
 -- never; at this moment already; or from a later one on, and not before
@@ -39,9 +35,3 @@ tells_stop r = if is_some r.child then true else is_none r.awaited
 pub record AsksBy (past : History) (word : StartWord) : Type 0 where
   pub demands : fires (item_asked word) past ≡ true
   pub plain : tells_stop (reasons_of past) ≡ true → is_start word ≡ fires (Asked Start) past
-
--- the event to which the throttle is put down has just this moment for the throttle's end
-abbrev pub ThrottlesBy : ℕ → ℕ → ThrottleBy → Type 0
-ThrottlesBy throttle until (Order at) = until ≡ at.up + SECOND * throttle
-ThrottlesBy throttle until (Refusal at) = until ≡ at.up + SECOND
-ThrottlesBy throttle until Unknown = Unit {0}

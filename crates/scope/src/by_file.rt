@@ -1,6 +1,8 @@
 //! What is told of a launcher by its own file on how it stands: the table of `status`, and why each job runs or not.
 
 use crate::clock::now;
+use crate::objects::status::status_objects;
+use crate::objects::why::standing_objects;
 use crate::texts::standing::{failing_in, standing_text};
 use crate::texts::unknown::unknown_in;
 use exit_status::{BAD_CLOCK, BAD_FILE, DIFFERS};
@@ -36,6 +38,19 @@ pub(crate) fn file_asked(host: &HostRuntime, of: &ScopeCommand) -> io::Result<Op
     }
 }
 
+/// What is wrong with words that name both a launcher's file and a journal, or a moment of one, if they do.
+pub(crate) fn clash_of(of: &ScopeCommand) -> Option<&'static str> {
+    if of.status_file.is_none() {
+        None
+    } else if !of.journals.as_slice().is_empty() {
+        Some("jobscope: why: --status-file and --journal can't stand together\n")
+    } else if of.moments.at.is_some() {
+        Some("jobscope: why: --status-file and --at can't stand together\n")
+    } else {
+        None
+    }
+}
+
 /// Writes what is asked of the file at the path. 65 if it can't be read, is not whole or is no status file, or if it has no job of a label that is
 /// named; 2 if failing jobs are asked for, and there is one; 71 if the clock can't be read.
 pub(crate) fn tell_by_file(
@@ -51,7 +66,7 @@ pub(crate) fn tell_by_file(
     let Some(second) = second else {
         return Ok(BAD_CLOCK);
     };
-    match read_standing(host, alloc, path) {
+    match read_standing(host, alloc, path, of.words.as_slice()) {
         Ok(standing) => {
             let told = tell(host, alloc, of, path, &standing, second);
             drop(standing);
@@ -71,6 +86,11 @@ fn tell(
 ) -> io::Result<u8> {
     let labels = of.words.as_slice();
     let status = match of.task {
+        Task::Why if of.is_json => {
+            let (text, count) = standing_objects(alloc, standing, of, second)?;
+            put_made(host, Ok(text))?;
+            if of.is_failing && count > 0 { FAILS } else { 0 }
+        }
         Task::Why if of.is_failing => {
             let (text, count) = failing_in(alloc, standing, labels, of.is_utc, second)?;
             put_made(host, Ok(text))?;
@@ -85,6 +105,10 @@ fn tell(
         }
         Task::Metrics => {
             put_made(host, samples_text(alloc, standing, labels, second))?;
+            0
+        }
+        _ if of.is_json => {
+            put_made(host, status_objects(alloc, standing, of, second))?;
             0
         }
         _ => {

@@ -1,6 +1,8 @@
 //! How files of definitions differ from what is loaded.
 
 use crate::journal::reader::OpenJournal;
+use crate::objects::drift::put_drift;
+use calendar_due::Zone;
 use ctl_protocol::LINE_LIMIT;
 use definition_files::{Contents, DefinitionSource, HostFiles};
 use exit_status::{BAD_FILE, DIFFERS};
@@ -9,8 +11,9 @@ use history_model::{KeyName, Text};
 use job_defs::{DefFault, read_def};
 use json_kinds::kinds::is_among;
 use json_kinds::{json_value, key_name};
+use launchctl_words::ScopeCommand;
 use run_times::telling::{Outcome, tell_of};
-use run_times::{Ink, Piece};
+use run_times::{Ink, Page};
 use serde_json::{Map, Value};
 use std::alloc::{AllocError, Global};
 
@@ -30,8 +33,8 @@ struct Placed {
 enum Standing<'a> {
     /// The two are one JSON value.
     Same,
-    /// These keys differ.
-    Changed(&'a str),
+    /// Keys differ.
+    Changed,
     /// Nothing of its label is loaded.
     New,
     /// Nothing of its label is loaded, since a setting or its own `Disabled` says so.
@@ -42,30 +45,42 @@ enum Standing<'a> {
     Twice,
 }
 
+/// What is told: lines for people, or objects.
+#[derive(Drop)]
+struct Report<'a> {
+    page: Page<'a>,
+    is_json: bool,
+}
+
 /// A line for each file, in order, and then one for each loaded job that no file has: how it stands, its label, the file, and the keys that
-/// differ or the label that it had, with tabs between. What can't be read, or is no definition, is told. The status is 65 if there is such a
+/// differ or the label that it had, with tabs between; or an object for each. What can't be read, or is no definition, is told. The status is 65 if there is such a
 /// file, else 2 if anything differs, else 0.
 pub(crate) fn drift_of(
     host: &HostRuntime,
     alloc: Global,
     journal: &OpenJournal,
-    paths: &[Text],
+    zone: &Zone,
+    of: &ScopeCommand,
 ) -> Result<Outcome, AllocError> {
     let mut filed = Vec::new(alloc);
     let mut loaded = Vec::new(alloc);
-    let read = add_filed(host, alloc, paths, &mut filed);
+    let read = add_filed(host, alloc, of.words.as_slice(), &mut filed);
     let known = add_loaded(alloc, journal, &mut loaded);
-    let mut ink = Ink::new(alloc);
+    let mut report = Report {
+        page: Page::new(alloc, zone, journal.table.reading()),
+        is_json: of.is_json,
+    };
     let put = put_all(
         alloc,
         journal,
         filed.as_slice(),
         loaded.as_slice(),
-        &mut ink,
+        &mut report,
     );
     drop(filed);
     drop(loaded);
-    match (read, known, put, ink.into_text()) {
+    let Report { page, .. } = report;
+    match (read, known, put, page.into_text()) {
         (Ok(are_read), Ok(()), Ok(differs), Ok(text)) => Ok(Outcome {
             text,
             status: match (are_read, differs) {
@@ -202,11 +217,11 @@ fn put_all(
     journal: &OpenJournal,
     filed: &[Placed],
     loaded: &[Placed],
-    ink: &mut Ink,
+    report: &mut Report<'_>,
 ) -> Result<bool, AllocError> {
     let mut renamed = Vec::new(alloc);
-    let files = put_files(alloc, journal, filed, loaded, &mut renamed, ink);
-    let jobs = put_jobs(filed, loaded, renamed.as_slice(), ink);
+    let files = put_files(alloc, journal, filed, loaded, &mut renamed, report);
+    let jobs = put_jobs(filed, loaded, renamed.as_slice(), report);
     drop(renamed);
     match files {
         Ok(differs) => Ok(differs || jobs),
@@ -221,18 +236,18 @@ fn put_files<'a>(
     filed: &[Placed],
     loaded: &'a [Placed],
     renamed: &mut Vec<&'a str>,
-    ink: &mut Ink,
+    report: &mut Report<'_>,
 ) -> Result<bool, AllocError> {
     let mut differs = false;
     for (index, file) in filed.iter().enumerate() {
         let before = filed.get(..index).unwrap_or(&[]);
         let is_twice = of_label(before, file.label.as_str()).is_some();
         let is_other = match of_label(loaded, file.label.as_str()) {
-            _ if is_twice => put_standing(file, Standing::Twice, ink),
-            Some(job) => put_compared(alloc, file, job, ink)?,
+            _ if is_twice => put_standing(file, Standing::Twice, &[], report),
+            Some(job) => put_compared(alloc, file, job, report)?,
             None => {
                 let standing = absent(alloc, journal, file, filed, loaded, renamed)?;
-                put_standing(file, standing, ink)
+                put_standing(file, standing, &[], report)
             }
         };
         differs = is_other || differs;
@@ -241,19 +256,19 @@ fn put_files<'a>(
 }
 
 // Puts the line of a file of whose label this job is loaded. Whether the two differ.
-fn put_compared(
+fn put_compared<'x>(
     alloc: Global,
-    file: &Placed,
-    job: &Placed,
-    ink: &mut Ink,
+    file: &'x Placed,
+    job: &'x Placed,
+    report: &mut Report<'_>,
 ) -> Result<bool, AllocError> {
     let keys = changed_keys(alloc, &file.def, &job.def)?;
     let standing = if keys.is_empty() {
         Standing::Same
     } else {
-        Standing::Changed(keys.as_str())
+        Standing::Changed
     };
-    let differs = put_standing(file, standing, ink);
+    let differs = put_standing(file, standing, keys.as_slice(), report);
     drop(keys);
     Ok(differs)
 }
@@ -285,74 +300,121 @@ fn absent<'a>(
 // Whether the file's definition differs from the loaded one in the label alone.
 fn is_renamed(alloc: Global, file: &Placed, job: &Placed) -> Result<bool, AllocError> {
     let keys = changed_keys(alloc, &file.def, &job.def)?;
-    let is_label = keys.as_str() == key_name(KeyName::Label);
+    let is_label = match keys.as_slice() {
+        [only] => *only == key_name(KeyName::Label),
+        _ => false,
+    };
     drop(keys);
     Ok(is_label)
 }
 
-// Puts the line of a file. Whether it differs from what is loaded.
-fn put_standing(file: &Placed, standing: Standing<'_>, ink: &mut Ink) -> bool {
-    let (word, more) = match standing {
+// Puts the line of a file, with the keys that differ. Whether it differs from what is loaded.
+fn put_standing(
+    file: &Placed,
+    standing: Standing<'_>,
+    keys: &[&str],
+    report: &mut Report<'_>,
+) -> bool {
+    let (word, was) = match standing {
         Standing::Same => ("same", ""),
-        Standing::Changed(keys) => ("changed", keys),
+        Standing::Changed => ("changed", ""),
         Standing::New => ("new", ""),
         Standing::Disabled => ("disabled", ""),
         Standing::Renamed(label) => ("renamed", label),
         Standing::Twice => ("twice", ""),
     };
-    put_line(word, file.label.as_str(), file.path.as_str(), more, ink);
+    put_told(
+        word,
+        file.label.as_str(),
+        file.path.as_str(),
+        keys,
+        was,
+        report,
+    );
     !matches!(standing, Standing::Same | Standing::Disabled)
 }
 
 // Puts a line for each loaded job that no file has and that is not renamed. Whether there is one.
-fn put_jobs(filed: &[Placed], loaded: &[Placed], renamed: &[&str], ink: &mut Ink) -> bool {
+fn put_jobs(
+    filed: &[Placed],
+    loaded: &[Placed],
+    renamed: &[&str],
+    report: &mut Report<'_>,
+) -> bool {
     let mut differs = false;
     for job in loaded {
         let label = job.label.as_str();
         if of_label(filed, label).is_none() && !is_among(renamed, label) {
-            put_line("unfiled", label, "-", "", ink);
+            put_told("unfiled", label, "", &[], "", report);
             differs = true;
         }
     }
     differs
 }
 
-fn put_line(word: &str, label: &str, path: &str, more: &str, ink: &mut Ink) {
-    let form = if more.is_empty() {
-        "$\t$\t$\n"
-    } else {
-        "$\t$\t$\t$\n"
-    };
-    let pieces = [
-        Piece::Text(word),
-        Piece::Text(label),
-        Piece::Text(path),
-        Piece::Text(more),
-    ];
-    ink.fill(form, &pieces);
+// Puts how a job stands: the word for it, its label, the file, the keys that differ, and the label that it had.
+fn put_told(
+    word: &'static str,
+    label: &str,
+    path: &str,
+    keys: &[&str],
+    was: &str,
+    report: &mut Report<'_>,
+) {
+    if report.is_json {
+        return put_drift(&mut report.page, word, label, path, keys, was);
+    }
+    let ink = &mut report.page.ink;
+    ink.put(word);
+    put_column(ink, label);
+    put_column(ink, if path.is_empty() { "-" } else { path });
+    if !was.is_empty() {
+        put_column(ink, was);
+    }
+    if let [first, more @ ..] = keys {
+        put_column(ink, *first);
+        for key in more {
+            ink.put(" ");
+            ink.put_plain(*key);
+        }
+    }
+    ink.put("\n");
+}
+
+fn put_column(ink: &mut Ink, text: &str) {
+    ink.put("\t");
+    ink.put_plain(text);
 }
 
 // The keys by which the one differs from the other, in byte order of those of the first, and then those that only the second has.
-fn changed_keys(alloc: Global, one: &Value, other: &Value) -> Result<String, AllocError> {
-    let mut ink = Ink::new(alloc);
+fn changed_keys<'a>(
+    alloc: Global,
+    one: &'a Value,
+    other: &'a Value,
+) -> Result<Vec<&'a str>, AllocError> {
+    let mut keys = Vec::new(alloc);
     if let (Some(one), Some(other)) = (one.as_object(), other.as_object()) {
-        add_keys(one, other, true, &mut ink);
-        add_keys(other, one, false, &mut ink);
+        add_keys(one, other, true, &mut keys)?;
+        add_keys(other, one, false, &mut keys)?;
     }
-    ink.into_text()
+    Ok(keys)
 }
 
 // Adds the keys of the one that the other lacks, and with `by_value` those whose values differ.
-fn add_keys(one: &Map<String, Value>, other: &Map<String, Value>, by_value: bool, ink: &mut Ink) {
+fn add_keys<'a>(
+    one: &'a Map<String, Value>,
+    other: &Map<String, Value>,
+    by_value: bool,
+    keys: &mut Vec<&'a str>,
+) -> Result<(), AllocError> {
     for (key, value) in one {
         let is_other = match other.get(key.as_str()) {
             Some(found) => by_value && found != value,
             None => true,
         };
         if is_other {
-            let front = if ink.text.is_empty() { "" } else { " " };
-            ink.put(front);
-            ink.put_plain(key.as_str());
+            keys.push(key.as_str())?;
         }
     }
+    Ok(())
 }

@@ -11,6 +11,7 @@ mod ended;
 mod journal;
 mod listener;
 mod log;
+mod objects;
 mod page;
 mod program;
 mod report;

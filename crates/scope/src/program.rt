@@ -1,6 +1,6 @@
 //! One run of the program: which subcommand runs, and what ends it.
 
-use crate::by_file::{file_asked, tell_by_file};
+use crate::by_file::{clash_of, file_asked, tell_by_file};
 use crate::clock::now;
 use crate::ended::{check_ended, cron_ended, next_ended, plist_ended};
 use crate::report::report;
@@ -57,6 +57,10 @@ fn run<W: Wait>(
     alloc: Global,
     command: &ScopeCommand,
 ) -> io::Result<u8> {
+    if let Some(text) = clash_of(command) {
+        tell_wrong(host, text);
+        return Ok(USAGE);
+    }
     match command.task {
         Task::Next => next(host, waits, alloc, command),
         Task::Check => by_zone(host, alloc, command),
@@ -178,6 +182,7 @@ fn ended_by(
         zone: &named.zone,
         zone_line: named.line,
         from,
+        is_json: of.is_json,
     };
     let files = files_at(host, of.words.as_slice())?;
     let mut source = HostFiles { host };

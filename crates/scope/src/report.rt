@@ -13,6 +13,8 @@ use crate::journal::reader::OpenJournal;
 use crate::journal::source::{INPUT, journal_paths, read_journal, tell_bad};
 use crate::listener::{JournalListener, zone_shown};
 use crate::log::follow;
+use crate::objects::runs::runs_objects;
+use crate::objects::why::why_objects;
 use crate::page::coming_of;
 use crate::texts::failing::failing_text;
 use crate::texts::log::is_named;
@@ -224,16 +226,19 @@ fn write_report(
     let zone = zone_shown(of, &listener.utc, &journal.zone);
     let labels = of.words.as_slice();
     let written = match of.task {
+        Task::Why if of.is_json => {
+            return put_objects(host, alloc, name, journal, zone, of, as_of);
+        }
         Task::Why if of.is_failing => {
             return put_failing(host, alloc, name, journal, zone, labels, as_of);
         }
         Task::Why => put_made(host, why_text(alloc, journal, zone, labels, as_of)),
-        Task::Runs => put_runs(host, alloc, name, journal, labels, as_of),
+        Task::Runs => put_runs(host, alloc, name, journal, zone, of, as_of),
         Task::Picture => paint(host, alloc, journal, zone, &listener.heard, of),
-        Task::Show => put_made(host, show_text(alloc, journal, zone, labels)),
+        Task::Show => put_made(host, show_text(alloc, journal, zone, labels, of.is_json)),
         Task::Next => put_next(host, alloc, name, journal, zone, of, as_of),
         Task::Drift => {
-            return put_outcome(&mut host.stdout(), drift_of(host, alloc, journal, labels));
+            return put_outcome(&mut host.stdout(), drift_of(host, alloc, journal, zone, of));
         }
         _ => Ok(()),
     };
@@ -265,19 +270,42 @@ fn put_failing(
     Ok(unknown.max(if count > 0 { FAILS } else { 0 }))
 }
 
+// Why each job stands as it does, as objects. The exit status is 2 if failing jobs are asked for, and there is one.
+fn put_objects(
+    host: &HostRuntime,
+    alloc: Global,
+    name: &str,
+    journal: &OpenJournal,
+    zone: &Zone,
+    of: &ScopeCommand,
+    as_of: AsOf,
+) -> io::Result<u8> {
+    let (text, count) = why_objects(alloc, journal, zone, of, as_of)?;
+    put_made(host, Ok(text))?;
+    let unknown = tell_unknown(host, alloc, name, journal, of.words.as_slice())?;
+    Ok(unknown.max(if of.is_failing && count > 0 { FAILS } else { 0 }))
+}
+
 fn put_runs(
     host: &HostRuntime,
     alloc: Global,
     name: &str,
     journal: &OpenJournal,
-    labels: &[Text],
+    zone: &Zone,
+    of: &ScopeCommand,
     as_of: AsOf,
 ) -> io::Result<()> {
     if journal.past.dropped > 0 {
         tell_of(host, name, &"medians are over the last 131072 runs");
     }
     let now = reading_as_of(as_of, journal.table.reading());
-    put_made(host, runs_table(alloc, &journal.past, now, labels))
+    let labels = of.words.as_slice();
+    let made = if of.is_json {
+        runs_objects(alloc, &journal.past, zone, now, labels)
+    } else {
+        runs_table(alloc, &journal.past, now, labels)
+    };
+    put_made(host, made)
 }
 
 // The coming starts, behind the second as of which the journal's end is seen.
@@ -298,6 +326,7 @@ fn put_next(
         now: clock_as_of(as_of, last).wall,
         count: of.count.unwrap_or(count),
         is_all: of.is_all,
+        is_json: of.is_json,
     };
     let ComingLines {
         text,

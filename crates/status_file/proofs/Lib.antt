@@ -1,3 +1,4 @@
 pub mod FactsLemmas
+pub mod FrontLemmas
 pub mod LinesLemmas
 pub mod JobsLemmas

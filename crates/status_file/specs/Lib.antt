@@ -1,5 +1,6 @@
 pub mod Facts
 pub mod States
 pub mod Tokens
+pub mod Fronts
 pub mod Lines
 pub mod Jobs

@@ -4,10 +4,11 @@
 #![tactic(auto)]
 
 /// The version of the programs, as the file VERSION of the repository has it.
-pub const VERSION: &str = "0.2.0";
+pub const VERSION: &str = "0.3.0";
 
 mod facts;
 mod fields;
+mod front;
 mod jobs;
 mod line;
 mod names;
@@ -18,6 +19,7 @@ mod status;
 mod write;
 
 pub use facts::{JobFacts, facts_of};
+pub use front::LineRoom;
 pub use jobs::{add_jobs, job_count};
 pub use line::StatusText;
 pub use names::state_name;

@@ -2,3 +2,4 @@ pub mod Clocks
 pub mod Failing
 pub mod Rows
 pub mod Samples
+pub mod Throttles

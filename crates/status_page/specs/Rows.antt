@@ -1,18 +1,23 @@
 -- What the table of `status` says of a job.
+use Rattle.std.specs.List.{list_any}
 use Rattle.std.specs.Option.{option_map}
-use Rattle.std.specs.Prelude.{◌≡◌, ◌⊎◌, ℕ, Bool, true, false, List, [], ◌∷◌, ◌++◌, codes, Option, Some, None, is_some}
+use Rattle.std.specs.Prelude.{◌≡◌, ◌⊎◌, ℕ, Bool, true, false, List, [], ◌∷◌, ◌++◌, codes, cond, length, ◌==◌, ◌||◌, Option, Some, None, is_some}
 use Rattle.history_model.specs.declared.Ended.{Ended}
 use Rattle.history_model.specs.declared.Entry.{Entry}
 use Rattle.history_model.specs.declared.Reading.{Reading}
 use Rattle.history_model.specs.declared.reasons.Reasons.{Reasons}
 use Rattle.history_model.specs.Calendar.{Zone}
 use Rattle.history_model.specs.Items.{History}
+use Rattle.history_model.specs.Search.{is_same_text}
 use Rattle.history_model.specs.NextRun.{looked_ahead}
 use Rattle.history_model.specs.Texts.{state_text}
 use Rattle.run_times.specs.declared.ink.Ink.{Ink}
 use Rattle.run_times.specs.Told.{IsTold}
 use Rattle.run_times.specs.Written.{Adds}
 use Rattle.status_file.specs.declared.facts.JobFacts.{JobFacts}
+use Rattle.status_file.specs.declared.status.JobNote.{JobNote}
+use Rattle.status_file.specs.declared.status.JobStatus.{JobStatus}
+use Rattle.status_file.specs.declared.status.RefusedStart.{RefusedStart}
 use Rattle.status_file.specs.declared.status.RunEnd.{RunEnd}
 use Rattle.status_file.specs.States.{state_by_reasons}
 use Rattle.status_page.specs.declared.clocks.StartWhen.{StartWhen}
@@ -23,7 +28,13 @@ use Rattle.status_page.specs.declared.rows.Next.TheVariants.{Nothing, Clock, Eve
 use Rattle.status_page.specs.declared.rows.Row.{Row}
 use Rattle.status_page.specs.declared.rows.ShownState.{ShownState}
 use Rattle.status_page.specs.declared.rows.ShownState.TheVariants.{Is, Unknown}
+use Rattle.status_page.specs.declared.throttles.ThrottleEnd.{ThrottleEnd}
 use Rattle.status_page.specs.Clocks.{StartsSo}
+use Rattle.status_page.specs.Throttles.{EndsSo, throttled_by}
+
+-- the label is one of those that are named, or none is
+abbrev pub is_asked : List (List ℕ) → List ℕ → Bool
+is_asked labels label = (length labels == 0) || list_any (is_same_text label) labels
 
 -- the state of a job by its facts; of a launcher that is gone none is known
 abbrev pub state_shown : Bool → Reasons → ShownState
@@ -38,6 +49,22 @@ process_shown false r = None
 -- how its last run ended
 abbrev pub last_shown : Option RunEnd → Option Ended
 last_shown end = option_map (λ it. it.how) end
+
+-- when its last start was refused, if that was
+abbrev pub refused_at : ℕ → Option RefusedStart → Option Reading
+refused_at run None = None
+refused_at run (Some start) = cond (start.run == run) (Some start.at) None
+
+abbrev pub last_refused : JobNote → Option Reading
+last_refused n = refused_at n.run n.refused
+
+-- when a job is throttled no longer, by its last start and its last refused one; of one that is not
+-- throttled there is no such moment
+abbrev pub EndsThrottle : JobStatus → Reading → Option ThrottleEnd → Type 0
+EndsThrottle j at None = j.facts.reasons.throttled_until ≡ None
+EndsThrottle j at (Some end) =
+    (until : ℕ) × (j.facts.reasons.throttled_until ≡ Some until)
+    × EndsSo (throttled_by j.note.started (last_refused j.note) j.keys.throttle_interval until) until at end
 
 -- when the clocks alone start it, for each past of which these are the facts
 abbrev pub StartsBy : Zone → JobFacts → List Entry → Reading → ℕ → StartWhen → Type 0

@@ -7,6 +7,8 @@ use Rattle.status_file.specs.declared.status.RunEnd.{RunEnd}
 use Rattle.status_page.specs.declared.clocks.StartWhen.TheVariants.{Never, Since, At}
 use Rattle.status_page.specs.declared.rows.Next.{Next}
 use Rattle.status_page.specs.declared.rows.Next.TheVariants.{Nothing, Clock, Event}
+use Rattle.status_page.specs.declared.throttles.ThrottleEnd.{ThrottleEnd}
+use Rattle.status_page.specs.Throttles.{second_told}
 
 -- whether the journal is open, if one is written
 abbrev pub journal_flag : JournalStatus → Option Bool
@@ -18,10 +20,10 @@ journal_flag (journals.Closed reason) = Some false
 abbrev pub end_second : Option RunEnd → Option ℕ
 end_second end = option_map (λ it. it.ended.wall) end
 
--- the second of the next start by the clocks alone, also of one that has been due since
-abbrev pub next_second : Next → Option ℕ
-next_second Nothing = None
-next_second (Clock Never) = None
-next_second (Clock (Since at)) = Some at
-next_second (Clock (At at)) = Some at
-next_second (Event words) = None
+-- the second that is told for the next start by the clocks alone, also for one that has been due since
+abbrev pub next_told : Option ThrottleEnd → Next → Option ℕ
+next_told throttle Nothing = None
+next_told throttle (Clock Never) = None
+next_told throttle (Clock (Since at)) = Some (second_told throttle at)
+next_told throttle (Clock (At at)) = Some (second_told throttle at)
+next_told throttle (Event words) = None

@@ -11,6 +11,7 @@ mod rows;
 mod samples;
 mod standing;
 mod table;
+mod throttles;
 mod width;
 
 pub use clocks::{
@@ -19,8 +20,9 @@ pub use clocks::{
 pub use failing::{Failing, Fault, LastEnd, add_failing, fault_of, is_crash, last_end_of};
 pub use head::add_head;
 pub use life::Life;
-pub use rows::{Next, Row, ShownState, row_of};
+pub use rows::{Next, Row, ShownState, last_refused, row_of};
 pub use samples::{journal_flag, sample_of, samples_text};
 pub use standing::{PACKAGES, Standing, Trouble, named_path, read_standing, tell_trouble};
 pub use table::{Look, is_asked, reading_of, table_text, told_as_of};
+pub use throttles::{ThrottleBy, ThrottleEnd, second_told, throttle_by, throttle_end};
 pub use width::{has_colour, width_of};

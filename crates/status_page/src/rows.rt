@@ -3,12 +3,13 @@
 ghost use Rattle.std.specs.Prelude.{◌≡◌, ◌≤◌};
 ghost use Rattle.history_model.specs.declared.TheConstants.{MAX_UP, MAX_WALL};
 ghost use Rattle.calendar_due.specs.ZoneRules.{minute_at};
-ghost use Rattle.status_page.specs.Rows.{last_shown, process_shown, state_shown, state_word, TellsNext};
+ghost use Rattle.status_page.specs.Rows.{last_refused, last_shown, process_shown, state_shown, state_word, EndsThrottle, TellsNext};
 
 use crate::clocks::{StartWhen, can_start_again, start_when};
+use crate::throttles::{ThrottleEnd, throttle_by, throttle_end};
 use calendar_due::Zone;
 use history_model::{Ended, Entry, JobState, Reading, Reasons};
-use status_file::{JobKeys, JobStatus, RunEnd, state_name, state_of};
+use status_file::{JobKeys, JobNote, JobStatus, RunEnd, state_name, state_of};
 
 /// How a job stands.
 #[derive(Clone, Copy)]
@@ -40,7 +41,10 @@ pub struct Row<'a> {
     pub last: Option<Ended>,
     pub starts: u64,
     pub failures: u64,
+    /// By the clocks as they count it: it is told by `second_told`.
     pub next: Next,
+    /// When it is throttled no longer, if it is.
+    pub throttle: Option<ThrottleEnd>,
 }
 
 /// The row of a job of a launcher that may live or is gone, told at a second. `at` is the launcher's reading.
@@ -62,6 +66,7 @@ pub fn row_of<'a>(
     ensures starts { result.starts ≡ job.now.note.starts }
     ensures failures { result.failures ≡ job.now.note.failures }
     ensures next { TellsNext may_live (minute_at zone.now) job.now.facts entries.now at second result.next }
+    ensures throttle { EndsThrottle job.now at result.throttle }
 {
     let reasons = &job.facts.reasons;
     Row {
@@ -73,6 +78,28 @@ pub fn row_of<'a>(
         starts: job.note.starts,
         failures: job.note.failures,
         next: next_of(job, entries, zone, may_live, at, second),
+        throttle: throttle_of(job, at),
+    }
+}
+
+fn throttle_of(job: &JobStatus<'_>, at: Reading) -> Option<ThrottleEnd>
+    ensures { EndsThrottle job.now at result }
+{
+    let Some(until) = job.facts.reasons.throttled_until else {
+        return None;
+    };
+    let refused = last_refused(&job.note);
+    let by = throttle_by(job.note.started, refused, job.keys.throttle_interval, until);
+    Some(throttle_end(by, until, at))
+}
+
+/// When its last start was refused, if that was.
+pub fn last_refused(note: &JobNote<'_>) -> Option<Reading>
+    ensures { result ≡ last_refused note.now }
+{
+    match &note.refused {
+        Some(start) if start.run == note.run => Some(start.at),
+        _ => None,
     }
 }
 

@@ -2,12 +2,13 @@
 
 ghost use Rattle.std.specs.Prelude.{◌≡◌, ◌≤◌, ◌-◌, is_some};
 ghost use Rattle.history_model.specs.declared.TheConstants.{MAX_UP, MAX_WALL};
-ghost use Rattle.status_page.specs.Samples.{end_second, journal_flag, next_second};
+ghost use Rattle.status_page.specs.Samples.{end_second, journal_flag, next_told};
 
 use crate::clocks::StartWhen;
 use crate::rows::{Next, Row};
 use crate::standing::Standing;
 use crate::table::{reading_of, row_in};
+use crate::throttles::{ThrottleEnd, second_told};
 use calendar_due::Zone;
 use history_model::{Reading, Text};
 use job_metrics::{JobSample, LauncherSample, metrics};
@@ -59,7 +60,7 @@ pub fn sample_of<'a>(row: &Row<'a>, note: &JobNote<'_>) -> JobSample<'a>
     ensures failures { result.failures ≡ row.now.failures - note.now.refusals }
     ensures refusals { result.refusals ≡ note.now.refusals }
     ensures last_end { result.last_end ≡ end_second note.now.last_end }
-    ensures next { result.next_start ≡ next_second row.now.next }
+    ensures next { result.next_start ≡ next_told row.now.throttle row.now.next }
 {
     JobSample {
         label: row.label,
@@ -68,7 +69,7 @@ pub fn sample_of<'a>(row: &Row<'a>, note: &JobNote<'_>) -> JobSample<'a>
         failures: row.failures.saturating_sub(note.refusals),
         refusals: note.refusals,
         last_end: end_second(note.last_end),
-        next_start: next_second(row.next),
+        next_start: next_told(row.throttle, row.next),
     }
 }
 
@@ -81,13 +82,13 @@ fn end_second(end: Option<RunEnd>) -> Option<u64>
     }
 }
 
-// The second of a start by the clocks alone, also of one that has been due since.
-fn next_second(next: Next) -> Option<u64>
-    ensures { result ≡ next_second next }
+// The second that is told for a start by the clocks alone, also for one that has been due since.
+fn next_told(throttle: Option<ThrottleEnd>, next: Next) -> Option<u64>
+    ensures { result ≡ next_told throttle next }
 {
     match next {
-        Next::Clock(StartWhen::Since(second)) => Some(second),
-        Next::Clock(StartWhen::At(second)) => Some(second),
+        Next::Clock(StartWhen::Since(second)) => Some(second_told(throttle, second)),
+        Next::Clock(StartWhen::At(second)) => Some(second_told(throttle, second)),
         _ => None,
     }
 }

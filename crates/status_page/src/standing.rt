@@ -1,6 +1,11 @@
 //! A status file that is read whole: where it is, its lines, and whether its launcher lives.
 
+ghost use Rattle.std.specs.Prelude.{◌≡◌, false, IfOk, IfSome};
+ghost use Rattle.status_file.specs.Fronts.{IsLineOf};
+ghost use Rattle.status_page.specs.Rows.{is_asked};
+
 use crate::life::{Life, life_of};
+use crate::table::is_asked;
 use calendar_due::Zone;
 use ctl_protocol::{ReadFault, read_header};
 use exit_status::BAD_FILE;
@@ -8,7 +13,7 @@ use files_and_process::path_files::read_file;
 use history_model::Text;
 use run_times::telling::{tell_line, tell_of};
 use run_times::{Ink, utc};
-use status_file::{LauncherStatus, StatusFault, StatusLine, read_line};
+use status_file::{LauncherStatus, LineRoom, StatusFault, StatusLine, read_line};
 use std::alloc::{AllocError, Global};
 use std::env::VarError;
 use std::io::ErrorKind;
@@ -21,37 +26,52 @@ pub const PACKAGES: &str = "/var/lib/jobd/status.jsonl";
 /// So many bytes a status file may have: some 8,000 for each of the most jobs that a launcher holds, and as much again.
 const LONGEST: usize = 16_777_216;
 
-/// A status file that was read.
+/// A status file that was read, as far as it is asked of.
 #[derive(Drop)]
 pub struct Standing {
-    lines: Vec<StatusLine>,
+    lines: Lines,
     pub life: Life,
+}
+
+/// The lines of a file.
+#[derive(Drop)]
+struct Lines {
+    // The launcher's, and those of the jobs that are asked for.
+    read: Vec<StatusLine>,
+    // The labels of all its jobs, if some are asked for by their labels.
+    labels: Vec<Text>,
+    // How many there are.
+    count: u64,
 }
 
 impl Standing {
     /// What it says of the launcher, which is its first line.
     pub fn launcher(&self) -> Option<LauncherStatus<'_>> {
-        self.lines.first()?.launcher().ok()
+        self.lines.read.first()?.launcher().ok()
     }
 
-    /// The lines of its jobs, by rising bytes of their labels.
+    /// The lines of the jobs that are asked for, by rising bytes of their labels.
     pub fn jobs(&self) -> &[StatusLine] {
-        match self.lines.as_slice() {
+        match self.lines.read.as_slice() {
             [_, jobs @ ..] => jobs,
             [] => &[],
         }
     }
 
-    /// Whether it has a job of this label.
+    /// The labels of all its jobs, by rising bytes, if some are asked for by their labels.
+    pub fn labels(&self) -> &[Text] {
+        self.lines.labels.as_slice()
+    }
+
+    /// Whether no job is loaded.
+    pub fn is_empty(&self) -> bool {
+        self.lines.count <= 1
+    }
+
+    /// Whether it has a job of this label, which was asked for.
     pub fn has(&self, label: &str) -> bool {
-        for line in self.jobs() {
-            if let Ok(job) = line.job() {
-                if job.label == label {
-                    return true;
-                }
-            }
-        }
-        false
+        let labels = self.labels();
+        !labels.is_empty() && is_asked(labels, label)
     }
 
     /// The zone of the launcher, or UTC.
@@ -104,27 +124,29 @@ pub fn named_path(host: &HostRuntime, named: &Option<Text>) -> Result<Option<Str
     }
 }
 
-/// Reads the file whole, and looks whether its launcher lives.
-pub fn read_standing(host: &HostRuntime, alloc: Global, path: &str) -> Result<Standing, Trouble> {
+/// Reads the file, and looks whether its launcher lives. If labels are named, the lines of their jobs are read, and each other line has to be JSON that begins
+/// with another label: what else such a line says is not looked at. If none is, all are read.
+pub fn read_standing(
+    host: &HostRuntime,
+    alloc: Global,
+    path: &str,
+    asked: &[Text],
+) -> Result<Standing, Trouble> {
     let bytes = match read_file(host, alloc, path, LONGEST) {
         Ok(Some(bytes)) => bytes,
         Ok(None) => return Err(Trouble::Long),
         Err(error) => return Err(Trouble::Read(error)),
     };
-    let lines = lines_of(alloc, bytes.as_slice());
+    let lines = lines_of(alloc, bytes.as_slice(), asked);
     drop(bytes);
     standing_of(host, alloc, lines?)
 }
 
 // The file of these lines, if they are as many as the first one says.
-fn standing_of(
-    host: &HostRuntime,
-    alloc: Global,
-    lines: Vec<StatusLine>,
-) -> Result<Standing, Trouble> {
-    let found = match lines.first() {
+fn standing_of(host: &HostRuntime, alloc: Global, lines: Lines) -> Result<Standing, Trouble> {
+    let found = match lines.read.first() {
         Some(first) => match first.launcher() {
-            Ok(launcher) if launcher.jobs.saturating_add(1) == lines.len() as u64 => {
+            Ok(launcher) if launcher.jobs.saturating_add(1) == lines.count => {
                 Ok(life_of(host, alloc, &launcher))
             }
             Ok(_) => Err(Trouble::NotWhole),
@@ -142,34 +164,86 @@ fn standing_of(
 }
 
 // The lines, each of which is the launcher's or a job's.
-fn lines_of(alloc: Global, bytes: &[u8]) -> Result<Vec<StatusLine>, Trouble> {
+fn lines_of(alloc: Global, bytes: &[u8], asked: &[Text]) -> Result<Lines, Trouble> {
     let Some(whole) = bytes.strip_suffix(b"\n") else {
         return Err(Trouble::NotWhole);
     };
-    let mut lines = Vec::new(alloc);
-    let mut number: u64 = 0;
+    let mut room = LineRoom::new(alloc);
+    let mut lines = Lines {
+        read: Vec::new(alloc),
+        labels: Vec::new(alloc),
+        count: 0,
+    };
     for line in whole.split(|byte| *byte == b'\n') {
-        number = number.saturating_add(1);
-        if let Err(trouble) = add_line(alloc, line, number, &mut lines) {
+        if let Err(trouble) = lines.add(alloc, line, asked, &mut room) {
             drop(lines);
+            drop(room);
             return Err(trouble);
         }
     }
+    drop(room);
     Ok(lines)
 }
 
-fn add_line(
+impl Lines {
+    fn add(
+        &mut self,
+        alloc: Global,
+        line: &[u8],
+        asked: &[Text],
+        room: &mut LineRoom,
+    ) -> Result<(), Trouble> {
+        self.count = self.count.saturating_add(1);
+        let is_first = self.count == 1;
+        let passed = if is_first || asked.is_empty() {
+            Ok(None)
+        } else {
+            other_label(alloc, line, asked, room)
+        };
+        let is_added = match passed {
+            Ok(Some(label)) => self.labels.push(label).is_ok(),
+            Ok(None) => match line_of(alloc, line, is_first) {
+                Ok(line) => self.add_read(alloc, line, !asked.is_empty()),
+                Err(fault) => return Err(Trouble::Line(self.count, fault)),
+            },
+            Err(_) => false,
+        };
+        if is_added {
+            Ok(())
+        } else {
+            Err(Trouble::NoMemory)
+        }
+    }
+
+    // A line that was read, with its label if labels are asked for. False: there was no memory.
+    fn add_read(&mut self, alloc: Global, line: StatusLine, is_asked: bool) -> bool {
+        let is_labelled = match line.job() {
+            Ok(job) if is_asked => match Text::copy_of(alloc, job.label) {
+                Ok(label) => self.labels.push(label).is_ok(),
+                Err(_) => false,
+            },
+            _ => true,
+        };
+        let is_pushed = self.read.push(line).is_ok();
+        is_labelled && is_pushed
+    }
+}
+
+// The label of a line that is none of those which are asked for: as it is told without a tree.
+fn other_label(
     alloc: Global,
     line: &[u8],
-    number: u64,
-    lines: &mut Vec<StatusLine>,
-) -> Result<(), Trouble> {
-    match line_of(alloc, line, number == 1) {
-        Ok(line) => match lines.push(line) {
-            Ok(()) => Ok(()),
-            Err(_) => Err(Trouble::NoMemory),
-        },
-        Err(fault) => Err(Trouble::Line(number, fault)),
+    asked: &[Text],
+    room: &mut LineRoom,
+) -> Result<Option<Text>, AllocError>
+    ensures { IfOk result (λ found. IfSome found (λ label. IsLineOf line.now label × (is_asked asked.now label ≡ false))) }
+{
+    let Ok(text) = std::str::from_utf8(line) else {
+        return Ok(None);
+    };
+    match room.label_in(text)? {
+        Some(label) if !is_asked(asked, label) => Ok(Some(Text::copy_of(alloc, label)?)),
+        _ => Ok(None),
     }
 }
 

@@ -1,15 +1,18 @@
 //! The table of `status`: a head, and a line for each job.
 
-ghost use Rattle.std.specs.Prelude.{◌≤◌, ◌++◌, ◌∷◌, ℕ, List, []};
+ghost use Rattle.std.specs.Prelude.{◌≡◌, ◌≤◌, ◌++◌, ◌∷◌, ℕ, List, []};
+ghost use Rattle.std.specs.List.{list_any};
+ghost use Rattle.history_model.specs.Search.{is_same_text};
 ghost use Rattle.history_model.specs.declared.TheConstants.{MAX_UP, MAX_WALL};
 ghost use Rattle.run_times.specs.Written.{Adds};
-ghost use Rattle.status_page.specs.Rows.{state_word, TellsRows};
+ghost use Rattle.status_page.specs.Rows.{is_asked, state_word, TellsRows};
 
 use crate::cells::cut_in_the_middle;
 use crate::clocks::{StartWhen, gone_on, within_limits};
 use crate::head::add_head;
 use crate::rows::{Next, Row, ShownState, row_of, word_of};
 use crate::standing::Standing;
+use crate::throttles::second_told;
 use calendar_due::Zone;
 use history_model::{Ended, JobState, MAX_WALL, Reading, Text};
 use run_times::picture::columns_of;
@@ -135,14 +138,16 @@ pub(crate) fn row_in<'a>(
 }
 
 /// Whether the label is one of those that are named, or none is.
-pub fn is_asked(labels: &[Text], label: &str) -> bool {
-    let mut is_named = labels.is_empty();
-    for named in labels {
-        if named.as_str() == label {
-            is_named = true;
-        }
-    }
-    is_named
+pub fn is_asked(labels: &[Text], label: &str) -> bool
+    ensures { result ≡ is_asked labels.now label.now }
+{
+    labels.is_empty() || is_named(labels, label)
+}
+
+fn is_named(labels: &[Text], label: &str) -> bool
+    ensures { result ≡ list_any (is_same_text label.now) labels.now }
+{
+    labels.iter().any(|named| label == named.as_str())
 }
 
 // How many columns the labels have: what is left of the width, and no more than the longest has.
@@ -238,14 +243,14 @@ fn end_text(row: &Row<'_>, around: Around<'_>) -> Result<String, AllocError> {
     put_last(&mut ink, row.last, WIDTHS[3]);
     put_count(&mut ink, Some(row.starts), WIDTHS[4]);
     put_count(&mut ink, Some(row.failures), WIDTHS[5]);
-    put_next(&mut ink, around, row.next);
+    put_next(&mut ink, around, row);
     ink.into_text()
 }
 
-fn put_next(ink: &mut Ink, around: Around<'_>, next: Next) {
-    let what = match next {
+fn put_next(ink: &mut Ink, around: Around<'_>, row: &Row<'_>) {
+    let what = match row.next {
         Next::Clock(StartWhen::At(second)) => {
-            put_moment(ink, around, second, 0);
+            put_moment(ink, around, second_told(row.throttle, second), 0);
             return;
         }
         Next::Clock(StartWhen::Since(_)) => "due",

@@ -4,6 +4,7 @@
 """
 import json
 import os
+import pty
 import select
 import signal
 import socket
@@ -111,9 +112,9 @@ def beside(listener, process, behaves, replies):
     return asked
 
 
-def run(stage, words, behaves=ANSWERS, replies="", env=None, output=None, name="jobd.sock", heeds_pipes=True):
-    """Runs `jobctl` with these words to its end, beside a launcher at the socket of this name; `output` is an open file, or else what is
-    printed is kept. It is started with SIGPIPE as it is in a shell, or with SIGPIPE ignored."""
+def run(stage, words, behaves=ANSWERS, replies="", env=None, output=None, errors=None, name="jobd.sock", heeds_pipes=True):
+    """Runs `jobctl` with these words to its end, beside a launcher at the socket of this name; `output` and `errors` are open files, or else
+    what is printed and told is kept. It is started with SIGPIPE as it is in a shell, or with SIGPIPE ignored."""
     listener = None
     if behaves != IS_MISSING:
         listener = socket.socket(socket.AF_UNIX)
@@ -126,7 +127,7 @@ def run(stage, words, behaves=ANSWERS, replies="", env=None, output=None, name="
     with open(stage.at("printed"), "wb") as printed, open(stage.at("told"), "wb") as told:
         process = subprocess.Popen(
             [*stage.given.jobctl, *(placed(stage, word) for word in words)], cwd=stage.folder, stdin=subprocess.DEVNULL,
-            stdout=printed if output is None else output, stderr=told, env={**around, **(env or {})}, restore_signals=heeds_pipes,
+            stdout=printed if output is None else output, stderr=told if errors is None else errors, env={**around, **(env or {})}, restore_signals=heeds_pipes,
         )
         try:
             asked = beside(listener, process, behaves, replies.encode())
@@ -389,10 +390,27 @@ def replies_are_heard_one_by_one(stage):
     expect(stage, ["list"], replies='{"code":255,"text":"b\\n"}\n', status=255, asked=LISTED, told=["b"])
 
 
+def a_terminal_is_told_what_says_where(stage):
+    """Below the refusal of a faulty definition a terminal is told what says where its fault is. Nothing stands below another refusal; a file gets
+    the refusal alone."""
+    make_files(stage)
+    faulty = '{"code":8,"text":"bad definition: BadType Program\\n"}\n'
+    refusal = "bad definition: BadType Program\n"
+    hint = placed(stage, "jobctl: `jobscope check @/bad.json` says where\n")
+    for replies, wanted in ((faulty, refusal + hint), ('{"code":4,"text":"already loaded\\n"}\n', "already loaded\n")):
+        terminal, ours = pty.openpty()
+        seen = run(stage, ["load", "@/bad.json"], replies=replies, errors=ours)
+        os.close(ours)
+        told = os.read(terminal, 65536).decode().replace("\r\n", "\n")
+        os.close(terminal)
+        check((seen.status, told) == (json.loads(replies)["code"], wanted), f"a terminal is told {told!r}, with {seen.status}")
+    expect(stage, ["load", "@/bad.json"], replies=faulty, asked=load(FILES["bad.json"]), status=8, told=[refusal.strip()])
+
+
 SCENES = [
     each_command_makes_its_request, texts_are_printed, a_folder_stands_for_its_files, a_file_may_be_faulty, a_reply_may_not_come,
     what_comes_may_be_no_reply, nobody_may_listen, words_may_be_no_command, the_output_may_be_refused, the_outputs_reader_may_have_gone,
     no_answer_may_come, the_launcher_may_have_no_room, the_environment_is_read, a_word_that_is_none_is_named,
     a_request_and_its_record_have_at_most_262144_bytes, the_longest_record_fits_a_line, a_reply_has_at_most_1048576_bytes,
-    replies_are_heard_one_by_one,
+    replies_are_heard_one_by_one, a_terminal_is_told_what_says_where,
 ]

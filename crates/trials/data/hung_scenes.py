@@ -42,8 +42,8 @@ class Withheld:
 
 
 class Honest:
-    """Asks for a list again and again, and keeps how long each took. A start waits half a second for its log at most, and meanwhile a list
-    waits too: each log of a disk is asked about by itself."""
+    """Asks for a list again and again, and keeps how long each took. A start waits half a second for its log at most, all starts a second, and
+    meanwhile a list waits too: each log of a disk is asked about by itself."""
 
     def __init__(self, launcher):
         self.launcher, self.times, self.is_over = launcher, [], False
@@ -67,8 +67,8 @@ class Honest:
 
 
 def paths_and_logs_without_an_answer(stage):
-    """64 watched paths and 20 logs get no answer: a client is answered meanwhile, a child's end is seen, a run is stopped, and what was
-    asked comes about once there are answers again."""
+    """64 watched paths and 34 logs get no answer, 14 of jobs that are due at once: a client is answered meanwhile, a child's end is seen, a run
+    is stopped, and what was asked comes about once there are answers again."""
     launcher = stage.serve()
     watched = [stage.at(f"watched{at}") for at in range(64)]
     launcher.load(shell_job("watcher", f"echo seen >> {stage.at('seen')}", WatchPaths=watched, ThrottleInterval=0))
@@ -76,6 +76,8 @@ def paths_and_logs_without_an_answer(stage):
     launcher.load(shell_job("stopped", "exec sleep 600", RunAtLoad=True))
     for at in range(20):
         launcher.load(shell_job(f"log{at}", f"echo {at}", StandardOutPath=stage.at(f"log{at}"), ThrottleInterval=1))
+    for at in range(14):
+        launcher.load(shell_job(f"each{at}", "true", StandardOutPath=stage.at(f"each{at}"), StartInterval=1, ThrottleInterval=1))
     for label in ("ends", "stopped"):
         launcher.tells(label, "state = running")
     time.sleep(1.5)

@@ -365,7 +365,7 @@ def jobscope_pictures(stage):
 
 
 # The launcher's files whose launcher lives when they are read: the process that plays.
-LIVING = ("living.jsonl", "cut.jsonl", "torn.jsonl", "lacking.jsonl", "waits.jsonl", "well.jsonl")
+LIVING = ("living.jsonl", "cut.jsonl", "torn.jsonl", "lacking.jsonl", "waits.jsonl", "well.jsonl", "rounded.jsonl", "others.jsonl")
 
 
 def jobscope_status(stage):

@@ -17,6 +17,7 @@ use crate::verdict::{Verdict, Verdicts};
 use files_and_process::path_files::Found;
 use history_model::{KeyName, Reason};
 use job_defs::Def;
+use json_kinds::reason_name;
 use run_times::Ink;
 use run_times::Piece::Text;
 use run_times::telling::Outcome;
@@ -30,6 +31,7 @@ struct Findings {
     labels: Vec<(String, String)>,
     has_warnings: bool,
     has_calendars: bool,
+    is_json: bool,
 }
 
 /// For each of the files a line if all is well with its definition, else a line for each finding. Each is read once. The status is 0 if
@@ -52,6 +54,7 @@ pub fn check_files<S: DefinitionSource>(
         labels: Vec::new(alloc),
         has_warnings: false,
         has_calendars: false,
+        is_json: of.is_json,
     };
     let checked = check_each(
         host,
@@ -93,11 +96,12 @@ fn outcome_of(
         ink,
         labels,
         has_calendars,
+        is_json,
         ..
     } = findings;
     drop(labels);
     let mut all = Ink::new(alloc);
-    if has_calendars {
+    if has_calendars && !is_json {
         all.put(zone_line);
     }
     all.put_made(ink.into_text());
@@ -186,7 +190,9 @@ fn check_bytes(
             further,
             ..
         } => {
-            put_refused(alloc, path, bytes, place, text, further, &mut findings.ink);
+            let lines = lines_of(alloc, path, bytes, findings.is_json);
+            put_refused(&lines, reason, place, text, further, &mut findings.ink);
+            drop(lines);
             let added = match reason {
                 Reason::NotJson => add_list(host, alloc, path, bytes, changes, findings),
                 _ => Ok(()),
@@ -201,18 +207,16 @@ fn check_bytes(
 
 // Adds the lines of a definition that is refused.
 fn put_refused(
-    alloc: Global,
-    path: &str,
-    bytes: &[u8],
+    lines: &Lines<'_>,
+    reason: Reason,
     place: Option<Place>,
     text: String,
     further: Vec<Remark>,
     ink: &mut Ink,
 ) {
-    let lines = lines_of(alloc, path, bytes);
-    lines.put(place, Grade::Error, text.as_str(), ink);
+    let code = reason_name(reason);
+    lines.put(place, Grade::Error, code, text.as_str(), ink);
     lines.put_all(further.as_slice(), ink);
-    drop(lines);
     drop(text);
     drop(further);
 }
@@ -258,10 +262,7 @@ fn add_shown(
         Ok(Checked::Loads { .. }) => "ok",
         _ => "refused",
     };
-    findings.ink.fill(
-        "$: note: it is a property list in XML: as JSON (jobscope plist) it would be $\n",
-        &[Text(path), Text(verdict)],
-    );
+    add_note(alloc, path, verdict, findings);
     let added = match checked {
         Ok(
             Checked::Loads {
@@ -286,27 +287,40 @@ fn add_shown(
         }
         Ok(
             Checked::Refused {
+                reason,
                 place,
                 text,
                 further,
                 ..
             },
         ) => {
-            put_refused(
-                alloc,
-                named.as_str(),
-                shown,
-                place,
-                text,
-                further,
-                &mut findings.ink,
-            );
+            let lines = lines_of(alloc, named.as_str(), shown, findings.is_json);
+            put_refused(&lines, reason, place, text, further, &mut findings.ink);
+            drop(lines);
             Ok(())
         }
         Err(error) => Err(error),
     };
     drop(named);
     added
+}
+
+// Adds what the JSON of a property list would come to.
+fn add_note(alloc: Global, path: &str, verdict: &'static str, findings: &mut Findings) {
+    let lines = lines_of(alloc, path, &[], findings.is_json);
+    let mut told = Ink::new(alloc);
+    told.put_all(&[
+        Text("it is a property list in XML: as JSON (jobscope plist) it would be "),
+        Text(verdict),
+    ]);
+    match told.into_text() {
+        Ok(told) => {
+            lines.put(None, Grade::Note, "", told.as_str(), &mut findings.ink);
+            drop(told);
+        }
+        Err(_) => findings.ink.refuse(),
+    }
+    drop(lines);
 }
 
 // Adds what is found of a definition that loads, behind the remarks on its text.
@@ -319,7 +333,7 @@ fn add_definition(
     remarks: &[Remark],
     findings: &mut Findings,
 ) -> Result<(), AllocError> {
-    let lines = lines_of(alloc, path, bytes);
+    let lines = lines_of(alloc, path, bytes, findings.is_json);
     let mut outside = Remarks::new(alloc, lines.text, lines.marks());
     add_missing(host, def, &mut outside);
     add_sockets(host, def, &mut outside);
@@ -397,10 +411,7 @@ fn add_loading(
     if has_warning(remarks) || has_warning(outside) {
         findings.has_warnings = true;
     } else {
-        findings.ink.put_plain(lines.path);
-        findings.ink.put(": ");
-        findings.ink.put_made(summary_of(alloc, def));
-        findings.ink.put("\n");
+        lines.put_well(summary_of(alloc, def), &mut findings.ink);
     }
     lines.put_all(remarks, &mut findings.ink);
     lines.put_all(outside, &mut findings.ink);

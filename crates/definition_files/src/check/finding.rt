@@ -1,7 +1,9 @@
 //! What is told of a definition.
 
-use run_times::Ink;
+use history_model::Reading;
+use json_lines::{Field, Value, put_line};
 use run_times::Piece::{Number, Text};
+use run_times::{Ink, Page, utc};
 use std::alloc::{AllocError, Global};
 
 /// A place in a text: its line, and its character in the line, both from 1.
@@ -32,6 +34,16 @@ pub struct Remark {
     pub text: String,
 }
 
+/// The word of a grade.
+pub(crate) fn grade_name(grade: Grade) -> &'static str {
+    match grade {
+        Grade::Error => "error",
+        Grade::Also => "also",
+        Grade::Warning => "warning",
+        Grade::Note => "note",
+    }
+}
+
 /// The line that tells a finding: `FILE:LINE:COLUMN: error: TEXT`, or without the place if there is none. The way to the place, by its
 /// keys, stands behind it in brackets, if there is one.
 pub fn finding_line(
@@ -42,12 +54,7 @@ pub fn finding_line(
     grade: Grade,
     text: &str,
 ) -> Result<String, AllocError> {
-    let word = match grade {
-        Grade::Error => "error",
-        Grade::Also => "also",
-        Grade::Warning => "warning",
-        Grade::Note => "note",
-    };
+    let word = grade_name(grade);
     let mut ink = Ink::new(alloc);
     ink.put_plain(file);
     if let Some(Place { line, column }) = place {
@@ -58,4 +65,42 @@ pub fn finding_line(
     }
     ink.fill(": $: $\n", &[Text(word), Text(text)]);
     ink.into_text()
+}
+
+/// The object that tells a finding, or with the word `ok` that all is well. Of an error the code is that of a load. What is empty is left out.
+pub(crate) fn finding_object<'x>(
+    alloc: Global,
+    file: &str,
+    place: Option<Place>,
+    way: &'x str,
+    severity: &'static str,
+    code: &'static str,
+    text: &'x str,
+) -> Result<String, AllocError> {
+    let zone = utc();
+    let mut page = Page::new(alloc, &zone, Reading { up: 0, wall: 0 });
+    let (line, column) = match place {
+        Some(Place { line, column }) => (Value::Number(line as u64), Value::Number(column as u64)),
+        None => (Value::Absent, Value::Absent),
+    };
+    let fields = [
+        Field("line", line),
+        Field("column", column),
+        Field("key", said(way)),
+        Field("severity", Value::Text(severity)),
+        Field("code", said(code)),
+        Field("text", Value::Text(text)),
+    ];
+    put_line(&mut page, "file", file, &fields);
+    let made = page.into_text();
+    drop(zone);
+    made
+}
+
+fn said(text: &str) -> Value<'_> {
+    if text.is_empty() {
+        Value::Absent
+    } else {
+        Value::Text(text)
+    }
 }

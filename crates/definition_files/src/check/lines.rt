@@ -1,6 +1,6 @@
 //! The lines that tell the findings of a file.
 
-use crate::check::finding::{Grade, Place, Remark, finding_line};
+use crate::check::finding::{Grade, Place, Remark, finding_line, finding_object, grade_name};
 use crate::check::outline::{Mark, MarkKind, Outline, outline_of};
 use crate::check::place::{key_at, offset_at};
 use run_times::Ink;
@@ -14,10 +14,17 @@ pub(crate) struct Lines<'a> {
     pub(crate) text: &'a str,
     outline: Result<Outline, AllocError>,
     is_one_line: bool,
+    /// A finding is an object.
+    is_json: bool,
 }
 
 /// The lines for the file at the path, with these bytes.
-pub(crate) fn lines_of<'a>(alloc: Global, path: &'a str, bytes: &'a [u8]) -> Lines<'a> {
+pub(crate) fn lines_of<'a>(
+    alloc: Global,
+    path: &'a str,
+    bytes: &'a [u8],
+    is_json: bool,
+) -> Lines<'a> {
     let text = std::str::from_utf8(bytes).unwrap_or("");
     Lines {
         alloc,
@@ -25,6 +32,7 @@ pub(crate) fn lines_of<'a>(alloc: Global, path: &'a str, bytes: &'a [u8]) -> Lin
         text,
         outline: outline_of(alloc, text),
         is_one_line: !text.trim_end().contains('\n'),
+        is_json,
     }
 }
 
@@ -37,19 +45,40 @@ impl Lines<'_> {
         }
     }
 
-    /// Adds the line of a finding. In a file of one line the keys that lead to the place stand behind it.
-    pub(crate) fn put(&self, place: Option<Place>, grade: Grade, told: &str, ink: &mut Ink) {
+    /// Adds the line of a finding, with the code of a load, if it has one. In a file of one line the keys that lead to the place stand behind it; in
+    /// an object they always stand.
+    pub(crate) fn put(
+        &self,
+        place: Option<Place>,
+        grade: Grade,
+        code: &'static str,
+        told: &str,
+        ink: &mut Ink,
+    ) {
         if self.outline.is_err() {
             ink.refuse();
         }
         let mut way = Ink::new(self.alloc);
         match place {
-            Some(place) if self.is_one_line => self.put_way(&place, &mut way),
+            Some(place) if self.is_one_line || self.is_json => self.put_way(&place, &mut way),
             _ => {}
         }
         match way.into_text() {
             Ok(way) => {
-                let line = finding_line(self.alloc, self.path, place, way.as_str(), grade, told);
+                let line = if self.is_json {
+                    let severity = grade_name(grade);
+                    finding_object(
+                        self.alloc,
+                        self.path,
+                        place,
+                        way.as_str(),
+                        severity,
+                        code,
+                        told,
+                    )
+                } else {
+                    finding_line(self.alloc, self.path, place, way.as_str(), grade, told)
+                };
                 drop(way);
                 ink.put_made(line);
             }
@@ -57,10 +86,27 @@ impl Lines<'_> {
         }
     }
 
+    /// Adds that all is well, and what the definition does.
+    pub(crate) fn put_well(&self, summary: Result<String, AllocError>, ink: &mut Ink) {
+        let Ok(summary) = summary else {
+            return ink.refuse();
+        };
+        if self.is_json {
+            let text = summary.as_str();
+            ink.put_made(finding_object(self.alloc, self.path, None, "", "ok", "", text));
+        } else {
+            ink.put_plain(self.path);
+            ink.put(": ");
+            ink.put(summary.as_str());
+            ink.put("\n");
+        }
+        drop(summary);
+    }
+
     /// Adds the lines of remarks.
     pub(crate) fn put_all(&self, remarks: &[Remark], ink: &mut Ink) {
         for remark in remarks {
-            self.put(remark.place, remark.grade, remark.text.as_str(), ink);
+            self.put(remark.place, remark.grade, "", remark.text.as_str(), ink);
         }
     }
 

@@ -150,16 +150,21 @@ fn depth_of(marks: &[Mark], index: usize) -> usize {
     }
 }
 
-/// The byte at the place: that of a text of one line.
+/// The byte at the place.
 pub(crate) fn offset_at(text: &str, place: &Place) -> usize {
+    let mut line: usize = 1;
     let mut column: usize = 0;
     let mut offset: usize = 0;
     for byte in text.as_bytes() {
         if *byte & 0xC0 != 0x80 {
             column = column.saturating_add(1);
         }
-        if column >= place.column {
+        if line >= place.line && column >= place.column {
             return offset;
+        }
+        if *byte == b'\n' {
+            line = line.saturating_add(1);
+            column = 0;
         }
         offset = offset.saturating_add(1);
     }

@@ -1,14 +1,13 @@
-//! What the texts say of a job by its facts, as plain values: when TERM and KILL come, by which word a client can ask for a start, and by what the job
-//! is throttled.
+//! What the texts say of a job by its facts, as plain values: when TERM and KILL come, and by which word a client can ask for a start.
 
-ghost use Rattle.std.specs.Prelude.{◌≡◌, ◌+◌, ℕ, Bool, true};
+ghost use Rattle.std.specs.Prelude.{◌≡◌, ℕ, Bool};
 ghost use Rattle.history_model.specs.NextMomentByFacts.{has_come};
 ghost use Rattle.history_model.specs.Items.{History};
 ghost use Rattle.history_model.specs.Reasons.{reasons_of};
 ghost use Rattle.job_core.specs.JobMoments.{AreMoments, may_kill_when, may_term_when};
-ghost use Rattle.scope.specs.ByFacts.{ComesSo, AsksBy, ThrottlesBy};
+ghost use Rattle.scope.specs.ByFacts.{ComesSo, AsksBy};
 
-use history_model::{Reading, Reasons, SECOND};
+use history_model::Reasons;
 use job_table::Moments;
 
 /// When an order comes, if nothing but readings happens.
@@ -66,43 +65,4 @@ pub(crate) fn start_word(reasons: &Reasons) -> StartWord
         None if reasons.awaited.is_none() => StartWord::Start,
         None => StartWord::Kickstart,
     }
-}
-
-/// By what a job is throttled.
-#[derive(Clone, Copy)]
-pub(crate) enum ThrottleBy {
-    /// By the start that was ordered at this reading.
-    Order(Reading),
-    /// By the one that was refused at this reading.
-    Refusal(Reading),
-    /// By an earlier one, which is not kept.
-    Unknown,
-}
-
-/// By what the job is throttled until this `up`, if its last start was ordered and its last refused one was refused at these readings, and
-/// `ThrottleInterval` is so many seconds.
-pub(crate) fn throttle_by(
-    ordered: Option<Reading>,
-    refused: Option<Reading>,
-    throttle: u32,
-    until: u64,
-) -> ThrottleBy
-    ensures { ThrottlesBy throttle until result }
-{
-    let length = SECOND * u64::from(throttle);
-    if let Some(at) = ordered {
-        if ends_at(at, length, until) {
-            return ThrottleBy::Order(at);
-        }
-    }
-    match refused {
-        Some(at) if ends_at(at, SECOND, until) => ThrottleBy::Refusal(at),
-        _ => ThrottleBy::Unknown,
-    }
-}
-
-fn ends_at(at: Reading, length: u64, until: u64) -> bool
-    ensures { result ≡ true → until ≡ at.up + length }
-{
-    at.up <= until && until - at.up == length
 }

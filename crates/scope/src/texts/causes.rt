@@ -2,14 +2,14 @@
 
 use crate::journal::job::{JobRequest, Record};
 use crate::journal::telling::JobCause;
-use crate::texts::by_facts::{OrderWhen, ThrottleBy, kill_when, term_when, throttle_by};
+use crate::texts::by_facts::{OrderWhen, kill_when, term_when};
 use crate::texts::told::{
     MOST_SENTENCES, NONE, SILENCE, Sentence, Sentences, ToldJob, alone, said_if,
 };
 use crate::texts::words::{asked_name, demand_words};
 use history_model::{DemandKind, Reading, StandingChild};
 use run_times::Filling::{Coming, Number, Span, Text, Time};
-use run_times::coming_second;
+use status_page::{ThrottleBy, ThrottleEnd, throttle_by, throttle_end};
 
 /// The sentences that end the line of a cause which names no path; of `NotWanted` none.
 pub(crate) fn sentences_of(told: &ToldJob<'_>, cause: JobCause) -> Sentences<'static> {
@@ -117,26 +117,20 @@ fn throttle_said(told: &ToldJob<'_>, up: u64) -> Sentences<'static> {
         ThrottleBy::Unknown => ("$ (in $).", 0),
     };
     let left = up.saturating_sub(told.at.up);
-    let end = Time(throttle_end(told.job, throttle, up, told.at));
+    let end = Time(throttle_of(told.job, throttle, up, told.at).told);
     let throttle = Number(u64::from(throttle));
     let mut said = [SILENCE; MOST_SENTENCES];
     said[0] = (form, [end, Span(left), Time(wall), throttle]);
     said
 }
 
-/// The second of `wall` that is shown for the end of a job's throttle at this `up`. It is counted from the start by which the job is throttled,
-/// so that it is the same whenever it is told; from the present reading, if that start is not kept, or if a clock was set since.
-pub(crate) fn throttle_end(job: &Record, throttle: u32, up: u64, now: Reading) -> u64 {
-    let from_now = coming_second(now, up);
-    let from_start = match throttle_by(job.ordered, job.refused_at(), throttle, up) {
-        ThrottleBy::Order(at) | ThrottleBy::Refusal(at) => coming_second(at, up),
-        ThrottleBy::Unknown => from_now,
-    };
-    if from_start.abs_diff(from_now) <= 1 {
-        from_start
-    } else {
-        from_now
-    }
+/// The end of a job's throttle at this `up`.
+pub(crate) fn throttle_of(job: &Record, throttle: u32, up: u64, now: Reading) -> ThrottleEnd {
+    throttle_end(
+        throttle_by(job.ordered, job.refused_at(), throttle, up),
+        up,
+        now,
+    )
 }
 
 fn demand_form(told: &ToldJob<'_>) -> &'static str {

@@ -8,7 +8,8 @@ use crate::writer::Writer;
 use calendar_due::Zone;
 use history_model::{Ended, Text};
 use run_times::Page;
-use status_page::{Failing, LastEnd, add_failing, fault_of, is_asked};
+use status_file::JobFacts;
+use status_page::{Failing, Fault, LastEnd, add_failing, fault_of, is_asked};
 use std::alloc::{AllocError, Global};
 
 /// A line for each loaded job of the journal, or of those named, that fails, and how many there are.
@@ -50,8 +51,7 @@ fn add_if_failing(
         return false;
     };
     let refused = job.record.refused_at();
-    let last = last_end_in(&job.record);
-    let Some(fault) = fault_of(may_live, &facts.reasons, refused.is_some(), last) else {
+    let Some(fault) = fault_in(&facts, &job.record, may_live) else {
         return false;
     };
     let ended = match &job.record.last {
@@ -71,8 +71,14 @@ fn add_if_failing(
     true
 }
 
-// How its last run ended.
-fn last_end_in(record: &Record) -> Option<LastEnd> {
+/// Why a job is told as failing, if it is, by what is kept of its past.
+pub(crate) fn fault_in(facts: &JobFacts<'_>, record: &Record, may_live: bool) -> Option<Fault> {
+    let is_refused = record.refused_at().is_some();
+    fault_of(may_live, &facts.reasons, is_refused, last_end_in(record))
+}
+
+/// How its last run ended.
+pub(crate) fn last_end_in(record: &Record) -> Option<LastEnd> {
     let run = record.last?;
     let how = match run.end {
         RunEnd::Code(code) => Ended::Code(code),

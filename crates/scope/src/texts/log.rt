@@ -5,7 +5,7 @@ use crate::journal::news::{News, What};
 use crate::journal::reader::OpenJournal;
 use crate::journal::run::JobRun;
 use crate::journal::waiting::Wait;
-use crate::texts::causes::throttle_end;
+use crate::texts::causes::throttle_of;
 use crate::texts::words::{asked_name, demand_words, end_words, refusal_name, refusal_words};
 use history_model::{DemandKind, Reading, Refusal, Wants};
 use pace::Signal;
@@ -66,7 +66,7 @@ fn until_of(journal: &OpenJournal, news: &News, now: Reading) -> u64 {
                 record,
                 ..
             },
-        ) => throttle_end(record, def.throttle_interval(), up, now),
+        ) => throttle_of(record, def.throttle_interval(), up, now).told,
         _ => coming_second(now, up),
     }
 }

@@ -4,7 +4,7 @@ use crate::age::{AsOf, add_head};
 use crate::journal::reader::OpenJournal;
 use crate::page::interval_end;
 use calendar_due::Zone;
-use definition_files::calendar_after;
+use definition_files::{calendar_after, put_start};
 use history_model::MAX_WALL;
 use job_defs::Def;
 use run_times::Filling::{Moment, Number, Text};
@@ -24,6 +24,8 @@ pub(crate) struct AskedStarts<'a> {
     pub(crate) count: u64,
     /// Each of them, and not the next of each job alone.
     pub(crate) is_all: bool,
+    /// Each as an object of JSON.
+    pub(crate) is_json: bool,
 }
 
 /// The starts, a line each, and how many jobs are loaded and how many of them the clocks never start.
@@ -141,13 +143,20 @@ fn starts_text(
 ) -> Result<String, AllocError> {
     let last = journal.table.reading();
     let mut page = Page::new(alloc, of.zone, last);
-    add_head(&mut page, of.as_of, last);
+    if !of.is_json {
+        add_head(&mut page, of.as_of, last);
+    }
     for _ in 0..of.count {
         let place = soonest(starts.as_slice());
         let Some(start) = starts.get_mut(place) else {
             break;
         };
-        add_start(&mut page, start, of.now);
+        let every = interval_of(start);
+        if of.is_json {
+            put_start(&mut page, start.label, start.at, of.now, every);
+        } else {
+            add_start(&mut page, start, of.now, every);
+        }
         start.at = match after(start, &journal.zone) {
             Some(at) if of.is_all => at,
             _ => u64::MAX,
@@ -171,12 +180,20 @@ fn soonest(starts: &[Start<'_>]) -> usize {
     found
 }
 
-fn add_start(page: &mut Page<'_>, start: &Start<'_>, now: u64) {
+// The seconds of the interval that is over then.
+fn interval_of(start: &Start<'_>) -> Option<u32> {
+    if start.is_interval {
+        start.def.start_interval()
+    } else {
+        None
+    }
+}
+
+fn add_start(page: &mut Page<'_>, start: &Start<'_>, now: u64, every: Option<u32>) {
     page.add("$  $  in ", &[Moment(start.at), Text(start.label)]);
     let left = start.at.saturating_sub(now).saturating_mul(1000);
     page.ink.put_span(left, false);
-    if start.is_interval {
-        let every = start.def.start_interval().unwrap_or(0);
+    if let Some(every) = every {
         page.add(" (each $ s)", &[Number(u64::from(every))]);
     }
     page.ink.put("\n");

@@ -23,23 +23,46 @@ pub(crate) fn runs_table(
     let lengths = lengths(alloc, past, now)?;
     let mut ink = Ink::new(alloc);
     ink.put(HEAD);
-    if labels.is_empty() {
-        for (label, job) in &past.jobs {
-            add_row(&mut ink, now, lengths.as_slice(), label.as_str(), job);
+    match asked_jobs(alloc, past, labels) {
+        Ok(jobs) => {
+            for (label, job) in &jobs {
+                add_row(&mut ink, now, lengths.as_slice(), *label, *job);
+            }
+            drop(jobs);
         }
-    }
-    for label in labels {
-        let label = label.as_str();
-        if let Some(job) = past.jobs.get(label) {
-            add_row(&mut ink, now, lengths.as_slice(), label, job);
-        }
+        Err(_) => ink.refuse(),
     }
     drop(lengths);
     ink.into_text()
 }
 
-// The job of each run that is kept, and how long it lived, in rising order.
-fn lengths(alloc: Global, past: &Past, now: Reading) -> Result<Vec<(u64, u64)>, AllocError> {
+/// The jobs of the rows: all, or those named, in the order of the words.
+pub(crate) fn asked_jobs<'a>(
+    alloc: Global,
+    past: &'a Past,
+    labels: &'a [Text],
+) -> Result<Vec<(&'a str, &'a KeptJob)>, AllocError> {
+    let mut jobs = Vec::new(alloc);
+    if labels.is_empty() {
+        for (label, job) in &past.jobs {
+            jobs.push((label.as_str(), job))?;
+        }
+    }
+    for label in labels {
+        let label = label.as_str();
+        if let Some(job) = past.jobs.get(label) {
+            jobs.push((label, job))?;
+        }
+    }
+    Ok(jobs)
+}
+
+/// The job of each run that is kept, and how long it lived, in rising order.
+pub(crate) fn lengths(
+    alloc: Global,
+    past: &Past,
+    now: Reading,
+) -> Result<Vec<(u64, u64)>, AllocError> {
     let mut lengths = Vec::new(alloc);
     for run in &past.runs {
         match run.end {
@@ -83,14 +106,22 @@ fn add_counts(ink: &mut Ink, totals: &Totals) {
 fn add_lengths(ink: &mut Ink, lengths: &[(u64, u64)], job: u64, totals: &Totals) {
     let has_ended = totals.shortest <= totals.longest;
     add_known(ink, has_ended, totals.shortest);
+    match median_of(lengths, job) {
+        Some(length) => add_seconds(ink, length),
+        None => ink.put("\t-"),
+    }
+    add_known(ink, has_ended, totals.longest);
+}
+
+/// The median of those of the job that are kept.
+pub(crate) fn median_of(lengths: &[(u64, u64)], job: u64) -> Option<u64> {
     let from = first_from(lengths, job);
     let to = first_from(lengths, job.saturating_add(1));
     let own = lengths.get(from..to).unwrap_or(&[]);
     match own.get(own.len().saturating_sub(1) / 2) {
-        Some((_, length)) => add_seconds(ink, *length),
-        None => ink.put("\t-"),
+        Some((_, length)) => Some(*length),
+        None => None,
     }
-    add_known(ink, has_ended, totals.longest);
 }
 
 // The span, if there is one.

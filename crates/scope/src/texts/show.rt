@@ -2,6 +2,7 @@
 
 use crate::journal::job::KeptJob;
 use crate::journal::reader::OpenJournal;
+use crate::objects::loaded::put_loaded;
 use calendar_due::Zone;
 use definition_files::laid_out;
 use job_defs::Def;
@@ -11,32 +12,36 @@ use std::alloc::{AllocError, Global};
 use std::str::from_utf8;
 
 /// For each loaded job, or for those of the named ones that are loaded: when it was loaded, where what it writes goes, what of its definition
-/// is not acted on, and the definition, a line for each member and item. Moments are shown in the zone.
+/// is not acted on, and the definition, a line for each member and item; or the same as an object. Moments are shown in the zone.
 pub(crate) fn show_text(
     alloc: Global,
     journal: &OpenJournal,
     zone: &Zone,
     labels: &[history_model::Text],
+    is_json: bool,
 ) -> Result<String, AllocError> {
     let mut page = Page::new(alloc, zone, journal.table.reading());
     if labels.is_empty() {
         for (label, job) in &journal.past.jobs {
-            add_job(&mut page, label.as_str(), job);
+            add_job(&mut page, label.as_str(), job, is_json);
         }
     }
     for label in labels {
         let label = label.as_str();
         if let Some(job) = journal.past.jobs.get(label) {
-            add_job(&mut page, label, job);
+            add_job(&mut page, label, job, is_json);
         }
     }
     page.into_text()
 }
 
-fn add_job(page: &mut Page<'_>, label: &str, job: &KeptJob) {
+fn add_job(page: &mut Page<'_>, label: &str, job: &KeptJob, is_json: bool) {
     let (Some(def), Some(text)) = (&job.def, &job.text) else {
         return;
     };
+    if is_json {
+        return put_loaded(page, label, def, text.as_str(), job.record.loaded);
+    }
     page.add(
         "$ was loaded at $.\n",
         &[Text(label), Moment(job.record.loaded.wall)],

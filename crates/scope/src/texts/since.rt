@@ -13,7 +13,7 @@ use job_table::Moments;
 use run_times::Filling::{Text, Time};
 use run_times::{Page, coming_second};
 use status_file::JobFacts;
-use status_page::{StartWhen, start_when};
+use status_page::{StartWhen, ThrottleEnd, second_told, start_when};
 
 /// When KILL came due for the run that lives: after this `up` of the last reading, and up to now.
 pub(crate) fn kill_since(moments: &Moments, last: u64, now: u64) -> Option<u64>
@@ -54,8 +54,7 @@ pub(crate) fn reasons_then(reasons: &Reasons, up: u64) -> Reasons
 }
 
 /// Adds when the job starts by the clocks alone, or what came due by them after the last reading and up to now. Of a job that waits for
-/// nothing but to be wanted, a start that comes was told among the ways. A start at the end of the throttle, the first of these two seconds, is told
-/// at the second one.
+/// nothing but to be wanted, a start that comes was told among the ways.
 pub(crate) fn add_coming(
     page: &mut Page<'_>,
     facts: &JobFacts<'_>,
@@ -64,7 +63,7 @@ pub(crate) fn add_coming(
     last: Reading,
     now: Reading,
     is_idle: bool,
-    throttle: Option<(u64, u64)>,
+    throttle: Option<ThrottleEnd>,
 )
     requires up { last.up ≤ MAX_UP }
     requires wall { last.wall ≤ MAX_WALL }
@@ -80,11 +79,11 @@ pub(crate) fn add_coming(
         StartWhen::Since(at) => {
             page.add(
                 "  By the clocks alone its start has been due since $.\n",
-                &[Time(shown(at, throttle))],
+                &[Time(second_told(throttle, at))],
             );
         }
         StartWhen::At(at) if !is_idle => {
-            let at = Time(shown(at, throttle));
+            let at = Time(second_told(throttle, at));
             page.add("  It starts at $, if nothing else happens.\n", &[at]);
         }
         _ => {}
@@ -95,10 +94,29 @@ pub(crate) fn add_coming(
     add_since(page, "TERM for its run", term, last);
 }
 
-fn shown(at: u64, throttle: Option<(u64, u64)>) -> u64 {
-    match throttle {
-        Some((end, told)) if end == at => told,
-        _ => at,
+/// The second at which the job starts by the clocks alone, also one that is over: then the start has been due since. One at the end of the throttle is
+/// told as by `add_coming`.
+pub(crate) fn start_second(
+    facts: &JobFacts<'_>,
+    entries: &[Entry],
+    zone: &Zone,
+    last: Reading,
+    now: Reading,
+    throttle: Option<ThrottleEnd>,
+) -> Option<u64>
+    requires up { last.up ≤ MAX_UP }
+    requires wall { last.wall ≤ MAX_WALL }
+{
+    match start_when(
+        &facts.reasons,
+        facts.spawns_from,
+        entries,
+        zone,
+        last,
+        now.wall,
+    ) {
+        StartWhen::Since(at) | StartWhen::At(at) => Some(second_told(throttle, at)),
+        StartWhen::Never => None,
     }
 }
 

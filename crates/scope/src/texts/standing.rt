@@ -11,8 +11,8 @@ use run_times::Filling::{Number, Text, Time};
 use run_times::Page;
 use status_file::{DisabledBy, JobNote, JobStatus, RunEnd as EndOfRun, StatusLine};
 use status_page::{
-    Failing, Standing, add_failing, add_head, fault_of, gone_on, is_asked, is_crash, last_end_of,
-    reading_of, told_as_of, within_limits,
+    Failing, Fault, Standing, add_failing, add_head, fault_of, gone_on, is_asked, is_crash,
+    last_end_of, reading_of, told_as_of, within_limits,
 };
 use std::alloc::{AllocError, Global};
 
@@ -29,7 +29,7 @@ pub(crate) fn standing_text(
     let last = reading_of(standing);
     let mut page = Page::new(alloc, &zone, told_as_of(standing, last, second));
     add_head(&mut page, standing, second);
-    if standing.jobs().is_empty() {
+    if standing.is_empty() {
         page.ink.put("\nNo job is loaded.\n");
     }
     let clock = gone_on(last, second);
@@ -84,14 +84,7 @@ fn add_living(
     clock: Reading,
 ) {
     let facts = &job.facts;
-    let told = ToldJob {
-        at: page.now,
-        facts: facts_then(facts, page.now.up),
-        asked: None,
-        job: record,
-        keys: job.keys,
-        calendar: calendar_next(entries, page.zone, page.now.wall),
-    };
+    let told = told_of(page, job, record, entries);
     let is_idle = add_stand(page, job.label, facts, &told);
     add_past(page, &job.note, record);
     add_disabled(page, job);
@@ -99,6 +92,23 @@ fn add_living(
     let end = throttle_shown(&told, facts, last);
     let zone = page.zone;
     add_coming(page, facts, entries, zone, last, clock, is_idle, end);
+}
+
+/// What is told of a job of a launcher that may live.
+pub(crate) fn told_of<'a>(
+    page: &Page<'_>,
+    job: &JobStatus<'a>,
+    record: &'a Record,
+    entries: &[Entry],
+) -> ToldJob<'a> {
+    ToldJob {
+        at: page.now,
+        facts: facts_then(&job.facts, page.now.up),
+        asked: None,
+        job: record,
+        keys: job.keys,
+        calendar: calendar_next(entries, page.zone, page.now.wall),
+    }
 }
 
 // That a job's launcher is gone, and which process its run had.
@@ -144,8 +154,8 @@ fn add_disabled(page: &mut Page<'_>, job: &JobStatus<'_>) {
     page.add(form, &[Text(job.label)]);
 }
 
-// What a launcher heard of a job, as it is kept of a journal.
-fn record_of(note: &JobNote<'_>, child: Option<StandingChild>) -> Record {
+/// What a launcher heard of a job, as it is kept of a journal.
+pub(crate) fn record_of(note: &JobNote<'_>, child: Option<StandingChild>) -> Record {
     let mut record = Record::new(0, note.since);
     record.starts = note.starts;
     record.ordered = note.started;
@@ -219,9 +229,7 @@ fn add_if_failing(page: &mut Page<'_>, standing: &Standing, job: &JobStatus<'_>)
         Some(start) if start.run == note.run => (Some(start.at), start.reason),
         _ => (None, None),
     };
-    let may_live = standing.life.may_live();
-    let reasons = &job.facts.reasons;
-    let Some(fault) = fault_of(may_live, reasons, refused.is_some(), last_end_of(note)) else {
+    let Some(fault) = file_fault(job, standing.life.may_live()) else {
         return false;
     };
     let ended = match note.last_end {
@@ -239,4 +247,14 @@ fn add_if_failing(page: &mut Page<'_>, standing: &Standing, job: &JobStatus<'_>)
         },
     );
     true
+}
+
+/// Why a job of a file is told as failing, if it is.
+pub(crate) fn file_fault(job: &JobStatus<'_>, may_live: bool) -> Option<Fault> {
+    let note = &job.note;
+    let is_refused = match &note.refused {
+        Some(start) => start.run == note.run,
+        None => false,
+    };
+    fault_of(may_live, &job.facts.reasons, is_refused, last_end_of(note))
 }

@@ -96,10 +96,8 @@ fn find_in<'a>(
     label: &str,
     near: &mut Near<'a>,
 ) -> Result<(), AllocError> {
-    for line in standing.jobs() {
-        if let Ok(job) = line.job() {
-            compare(alloc, label, job.label, near)?;
-        }
+    for other in standing.labels() {
+        compare(alloc, label, other.as_str(), near)?;
     }
     Ok(())
 }

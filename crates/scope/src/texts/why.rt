@@ -6,17 +6,18 @@ use crate::journal::labels::{DisabledBy, KnownLabel};
 use crate::journal::reader::OpenJournal;
 use crate::journal::run::JobRun;
 use crate::texts::cause_lines::add_causes;
-use crate::texts::causes::throttle_end;
+use crate::texts::causes::throttle_of;
 use crate::texts::coming::calendar_next;
 use crate::texts::since::{add_coming, reasons_then};
 use crate::texts::told::ToldJob;
 use crate::texts::words::{asked_name, end_words, refusal_words};
 use calendar_due::Zone;
 use history_model::{Reading, Reasons, Refusal};
+use job_defs::Def;
 use run_times::Filling::{Number, Span, Text, Time};
-use run_times::{Page, coming_second};
+use run_times::Page;
 use status_file::{JobFacts, JobKeys};
-use status_page::within_limits;
+use status_page::{ThrottleEnd, within_limits};
 use std::alloc::{AllocError, Global};
 
 /// For each loaded job, or for those named: its state, a line for each thing that keeps it from a start or wants it, how it ended
@@ -32,18 +33,52 @@ pub(crate) fn why_text(
     let mut page = Page::new(alloc, zone, reading_as_of(as_of, last));
     add_head(&mut page, as_of, last);
     let clock = clock_as_of(as_of, last);
-    if labels.is_empty() {
-        add_all(&mut page, journal, clock);
+    let asked = asked_labels(alloc, journal, labels)?;
+    match asked.first() {
+        Some(first) if journal.facts(*first).is_some() => {}
+        _ if labels.is_empty() => page.ink.put("\nNo job is loaded.\n"),
+        _ => {}
     }
-    for label in labels {
-        let label = label.as_str();
-        match journal.past.jobs.get(label) {
-            Some(job) => add_job(&mut page, journal, label, job, clock),
-            None if is_known(journal, label) => add_unloaded(&mut page, journal, label),
-            None => {}
+    for label in &asked {
+        match journal.past.jobs.get(*label) {
+            Some(job) => add_job(&mut page, journal, *label, job, clock),
+            None => add_unloaded(&mut page, journal, *label),
         }
     }
+    drop(asked);
     page.into_text()
+}
+
+/// The labels that are told: of those named the known ones; where none is named each that is loaded, and then each other of which something is known.
+pub(crate) fn asked_labels<'a>(
+    alloc: Global,
+    journal: &'a OpenJournal,
+    labels: &'a [history_model::Text],
+) -> Result<Vec<&'a str>, AllocError> {
+    let mut asked = Vec::new(alloc);
+    for label in labels {
+        if is_known(journal, label.as_str()) {
+            asked.push(label.as_str())?;
+        }
+    }
+    if labels.is_empty() {
+        add_labels(journal, &mut asked)?;
+    }
+    Ok(asked)
+}
+
+fn add_labels<'a>(journal: &'a OpenJournal, asked: &mut Vec<&'a str>) -> Result<(), AllocError> {
+    for (label, job) in &journal.past.jobs {
+        if job.def.is_some() {
+            asked.push(label.as_str())?;
+        }
+    }
+    for (label, _) in &journal.past.labels.items {
+        if journal.facts(label.as_str()).is_none() {
+            asked.push(label.as_str())?;
+        }
+    }
+    Ok(())
 }
 
 /// Whether something is told of the label: it is or was loaded, a setting disables it, or its last load was refused.
@@ -88,43 +123,19 @@ fn add_label(page: &mut Page<'_>, label: &str, known: KnownLabel) {
     }
 }
 
-fn add_all(page: &mut Page<'_>, journal: &OpenJournal, clock: Reading) {
-    let mut is_empty = true;
-    for (label, job) in &journal.past.jobs {
-        if job.def.is_some() {
-            add_job(page, journal, label.as_str(), job, clock);
-            is_empty = false;
-        }
-    }
-    if is_empty {
-        page.ink.put("\nNo job is loaded.\n");
-    }
-    for (label, _) in &journal.past.labels.items {
-        let label = label.as_str();
-        if journal.facts(label).is_none() {
-            match journal.past.jobs.get(label) {
-                Some(job) => add_job(page, journal, label, job, clock),
-                None => add_unloaded(page, journal, label),
-            }
-        }
-    }
-}
-
-fn add_job(page: &mut Page<'_>, journal: &OpenJournal, label: &str, job: &KeptJob, clock: Reading) {
+fn add_job<'x>(
+    page: &mut Page<'_>,
+    journal: &'x OpenJournal,
+    label: &str,
+    job: &'x KeptJob,
+    clock: Reading,
+) {
     let (Some(def), Some(facts)) = (&job.def, journal.facts(label)) else {
         let form = "\n$ is not loaded: it was removed at $.\n";
         page.add(form, &[Text(label), Time(job.record.gone.wall)]);
         return add_label(page, label, journal.past.labels.of(label));
     };
-    let entries = def.calendar();
-    let told = ToldJob {
-        at: page.now,
-        facts: facts_then(&facts, page.now.up),
-        asked: journal.past.asked_of(&job.record),
-        job: &job.record,
-        keys: JobKeys::of(def, facts.path),
-        calendar: calendar_next(entries, &journal.zone, page.now.wall),
-    };
+    let told = told_job(journal, job, def, &facts, page.now);
     let is_idle = add_stand(page, label, &facts, &told);
     add_past(page, &job.record);
     add_background(page, &job.record);
@@ -135,13 +146,31 @@ fn add_job(page: &mut Page<'_>, journal: &OpenJournal, label: &str, job: &KeptJo
     add_coming(
         page,
         &facts,
-        entries,
+        def.calendar(),
         &journal.zone,
         last,
         clock,
         is_idle,
         end,
     );
+}
+
+/// What is told of a loaded job, as of a reading.
+pub(crate) fn told_job<'a>(
+    journal: &'a OpenJournal,
+    job: &'a KeptJob,
+    def: &'a Def,
+    facts: &JobFacts<'a>,
+    at: Reading,
+) -> ToldJob<'a> {
+    ToldJob {
+        at,
+        facts: facts_then(facts, at.up),
+        asked: journal.past.asked_of(&job.record),
+        job: &job.record,
+        keys: JobKeys::of(def, facts.path),
+        calendar: calendar_next(def.calendar(), &journal.zone, at.wall),
+    }
 }
 
 /// Adds how the job stands, and a line for each thing that keeps it from a start or wants it. It says whether the only one is that nothing wants
@@ -159,15 +188,14 @@ pub(crate) fn add_stand(
     add_causes(page, told)
 }
 
-/// The second at which the throttle ends, as the clock counts it, and the one that is told for it.
+/// The end of the throttle, as of the last reading.
 pub(crate) fn throttle_shown(
     told: &ToldJob<'_>,
     facts: &JobFacts<'_>,
     last: Reading,
-) -> Option<(u64, u64)> {
+) -> Option<ThrottleEnd> {
     let up = facts.reasons.throttled_until?;
-    let shown = throttle_end(told.job, told.keys.throttle_interval, up, last);
-    Some((coming_second(last, up), shown))
+    Some(throttle_of(told.job, told.keys.throttle_interval, up, last))
 }
 
 /// The facts, but that a throttle which is over by then is left out.

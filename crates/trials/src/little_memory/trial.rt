@@ -35,6 +35,9 @@ const FILLER: usize = 4096;
 /// How many times a call is made at most.
 const ROUNDS: u32 = 4096;
 
+/// So many times a call has a little more than before; then the steps are greater, for a call that needs megabytes.
+const SMALL_STEPS: u32 = 128;
+
 /// How a call stood its trial.
 enum Verdict {
     /// It was refused memory so many times, each time answered so and left what it should, and then was made.
@@ -61,7 +64,12 @@ fn stand<T: Trial>(alloc: Global, hoard: &mut Hoard, trial: &mut T) -> Verdict {
         if answer == Answer::Made {
             return Verdict::Stood(refused);
         }
-        remaining = remaining.saturating_add(16 + remaining / 64);
+        let more = if refused < SMALL_STEPS {
+            remaining / 64
+        } else {
+            remaining / 16
+        };
+        remaining = remaining.saturating_add(16).saturating_add(more);
     }
     Verdict::NotTried
 }

@@ -1,0 +1,93 @@
+-- An object of JSON (RFC 8259) as it stands within a line.
+use Rattle.std.specs.Prelude.{◌≡◌, ℕ, Bool, true, false, List, [], ◌∷◌, ◌++◌, ◌||◌, ◌==◌, ◌+◌, ◌/◌, ◌%◌, if◌then◌else◌, nat_lt, codes, chars, encode_utf8}
+use Rattle.std.specs.Borrow.{Bor}
+use Rattle.std.specs.Fmt.{decimal}
+use Rattle.std.specs.List.{flat_map}
+use Rattle.plain_text.specs.Plain.{is_hidden}
+use Rattle.run_times.specs.declared.ink.Ink.{Ink}
+use Rattle.run_times.specs.Written.{Adds}
+use Rattle.json_lines.specs.declared.Field.{Field}
+use Rattle.json_lines.specs.declared.Value.{Value}
+use Rattle.json_lines.specs.declared.Value.TheVariants.{Absent, Flag, Number, Text, Moment, Json}
+
+-- the last hexadecimal digit of a number
+abbrev pub hex_digit : ℕ → ℕ
+hex_digit n = if nat_lt (n % 16) 10 then 0x30 + n % 16 else 0x57 + n % 16
+
+-- a character by its number, in four digits: \u202e
+abbrev pub escape : ℕ → List ℕ
+escape c =
+    codes "\\u" ++ (encode_utf8 (hex_digit (c / 4096)) ++ (encode_utf8 (hex_digit (c / 256))
+    ++ (encode_utf8 (hex_digit (c / 16)) ++ encode_utf8 (hex_digit c))))
+
+-- a character of a text: one that is hidden by its number, a quote and a backslash behind a backslash, any other as it is
+abbrev pub text_char : ℕ → List ℕ
+text_char c =
+    if is_hidden c then escape c
+    else if c == 0x5C || c == 0x22 then codes "\\" ++ encode_utf8 c
+    else encode_utf8 c
+
+-- a text between its quotes
+abbrev pub quoted : List ℕ → List ℕ
+quoted text = codes "\"" ++ (flat_map text_char (chars text) ++ codes "\"")
+
+abbrev pub flag_text : Bool → List ℕ
+flag_text true = codes "true"
+flag_text false = codes "false"
+
+-- the comma before a key, and the key
+abbrev pub front_of : List ℕ → List ℕ → List ℕ
+front_of key text = codes ",\"" ++ (key ++ (codes "\":" ++ text))
+
+-- a key with what stands there. Of a moment the key has some text, and the key with `_seconds` its second.
+abbrev pub IsMember : List ℕ → Value → List ℕ → Type 0
+IsMember key Absent text = text ≡ []
+IsMember key (Flag flag) text = text ≡ front_of key (flag_text flag)
+IsMember key (Number number) text = text ≡ codes ",\"" ++ (key ++ ([] ++ (codes "\":" ++ decimal number)))
+IsMember key (Text told) text = text ≡ front_of key [] ++ quoted told.now
+IsMember key (Json told) text = text ≡ front_of key told.now
+IsMember key (Moment second) text =
+    (shown : List ℕ) × (text ≡ front_of key (codes "\"") ++ (shown ++ (codes "\""
+    ++ (codes ",\"" ++ (key ++ (codes "_seconds" ++ (codes "\":" ++ decimal second)))))))
+
+-- it stands behind what was written before
+abbrev pub TellsMember : List ℕ → Value → Ink → Ink → Type 0
+TellsMember key value old new = (text : List ℕ) × IsMember key value text × Adds text old new
+
+-- a member for each of the fields, in order
+abbrev pub AreMembers : List Field → List ℕ → Type 0
+AreMembers [] text = text ≡ []
+AreMembers (field ∷ fields) text =
+    (one : List ℕ) × (others : List ℕ) × IsMember field.0.now field.1 one × AreMembers fields others
+    × (text ≡ one ++ others)
+
+abbrev pub TellsMembers : List Field → Ink → Ink → Type 0
+TellsMembers fields old new = (text : List ℕ) × AreMembers fields text × Adds text old new
+
+-- an object: the key with the name, and a member for each of the fields, in order
+abbrev pub IsObject : List ℕ → List ℕ → List Field → List ℕ → Type 0
+IsObject key name fields text =
+    (members : List ℕ) × AreMembers fields members
+    × (text ≡ (codes "{\"" ++ (key ++ codes "\":")) ++ (quoted name ++ (members ++ codes "}")))
+
+-- it stands behind what was written before
+abbrev pub TellsObject : List ℕ → List ℕ → List Field → Ink → Ink → Type 0
+TellsObject key name fields old new = (text : List ℕ) × IsObject key name fields text × Adds text old new
+
+-- and ends the line
+abbrev pub TellsLine : List ℕ → List ℕ → List Field → Ink → Ink → Type 0
+TellsLine key name fields old new =
+    (text : List ℕ) × IsObject key name fields text × Adds (text ++ codes "\n") old new
+
+-- a character of JSON: one that is hidden stands within a text, by its number
+abbrev pub json_char : ℕ → List ℕ
+json_char c = if is_hidden c then escape c else encode_utf8 c
+
+-- a text of a list behind the first
+abbrev pub more_text : Bor (List ℕ) → List ℕ
+more_text text = codes "," ++ quoted text.now
+
+-- a list of texts
+abbrev pub texts_list : List (Bor (List ℕ)) → List ℕ
+texts_list [] = codes "[]"
+texts_list (first ∷ more) = codes "[" ++ (quoted first.now ++ (flat_map more_text more ++ codes "]"))

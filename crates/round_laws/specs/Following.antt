@@ -1,0 +1,87 @@
+-- What becomes of each client of a job's socket, from its coming to its number, over any rounds.
+use mathlib.Core.Logic.{inl, inr}
+use Rattle.std.specs.Prelude.{◌≡◌, ◌==◌, ◌+◌, ℕ, List, [], ◌∷◌, ◌++◌, Option, Some, None, if◌then◌else◌, ⊤}
+use Rattle.job_clients.specs.Callers.{Coming, GrowsFrom, IsShort, MayComeIn}
+use Rattle.job_clients.specs.declared.caller.Origin.{Origin}
+use Rattle.live_loop.specs.declared.loop_host.HandedIn.{HandedIn}
+use Rattle.live_loop.specs.Rounds.{AreRounds, Desk, Gathers, Launcher, Left, LetsGo, MayGrow, nobody, asked, taken, heard, went, came, no_round, one_round}
+
+-- What happened to a client, under the key under which it is held meanwhile: it was taken at these sockets; some bytes of its request came; it was
+-- let go; or it was handed in, under a number, for a job, with a request. With the launcher before and after that.
+pub data Deed (H : Type 0) : Type 0 where
+  Took : (key : ℕ) → Origin → (old new : H) → Deed H
+  Sent : (key : ℕ) → List ℕ → Deed H
+  LetGo : (key : ℕ) → Deed H
+  Handed : (key conn job : ℕ) → List ℕ → HandedIn → (old new : H) → Deed H
+
+-- more bytes of its request
+abbrev pub with_more : List ℕ → Option Coming → Option Coming
+with_more bytes None = None
+with_more bytes (Some client) = Some (record { origin = client.origin; request = client.request ++ bytes })
+
+-- The client that is held under the key after all this, which has the newest first: the last one that was taken under it, if it is there still, with
+-- all bytes that came of its request since then, joined in their order.
+abbrev pub held_under : {H : Type 0} → ℕ → List (Deed H) → Option Coming
+held_under key [] = None
+held_under key (Took its origin old new ∷ past) = if its == key then Some (record { origin = origin; request = [] }) else held_under key past
+held_under key (Sent its bytes ∷ past) = if its == key then with_more bytes (held_under key past) else held_under key past
+held_under key (LetGo its ∷ past) = if its == key then None else held_under key past
+held_under key (Handed its conn job request answer old new ∷ past) = if its == key then None else held_under key past
+
+-- as many were handed in
+abbrev pub how_many : {H : Type 0} → List (Deed H) → ℕ
+how_many [] = 0
+how_many (Took key origin old new ∷ past) = how_many past
+how_many (Sent key bytes ∷ past) = how_many past
+how_many (LetGo key ∷ past) = how_many past
+how_many (Handed key conn job request answer old new ∷ past) = how_many past + 1
+
+-- the client came to a socket of this job, and this is its request, no longer than a request may be
+abbrev pub IsItsOwn : ℕ → List ℕ → Option Coming → Type 0
+IsItsOwn job request None = ⊥
+IsItsOwn job request (Some client) = (job ≡ client.origin.job) × (request ≡ client.request) × IsShort request
+
+-- Each client was taken by a call of the launcher, at a socket of the job for which it is held, under a key that was free. Each that was handed in
+-- was held, and was handed in for that job, with all bytes that came of its request and no others, under the next number, from 1 on.
+abbrev pub AreFollowed : {H : Type 0} → Launcher H → List (Deed H) → Type 0
+AreFollowed it [] = ⊤
+AreFollowed it (Took key origin old new ∷ past) = it.Taken origin.job old new × (held_under key past ≡ None) × AreFollowed it past
+AreFollowed it (Sent key bytes ∷ past) = AreFollowed it past
+AreFollowed it (LetGo key ∷ past) = AreFollowed it past
+AreFollowed it (Handed key conn job request answer old new ∷ past) = it.Came conn job request answer old new
+    × (conn ≡ how_many past + 1) × IsItsOwn job request (held_under key past) × AreFollowed it past
+
+-- ---- what happened, read off rounds
+
+abbrev pub gone_by : {H : Type 0} {old new : ℕ → Option Coming} → LetsGo old new → List (Deed H) → List (Deed H)
+gone_by (inl same) past = past
+gone_by (inr gone) past = LetGo gone.0 ∷ past
+
+abbrev pub come_by : {H : Type 0} (origin : Origin) (before after : H) {old new : ℕ → Option Coming} → MayComeIn origin old new → List (Deed H) → List (Deed H)
+come_by origin before after (inl comes) past = Took comes.key origin before after ∷ past
+come_by origin before after (inr same) past = past
+
+abbrev pub grown_from : {H : Type 0} (key : ℕ) (client : Option Coming) (old new : ℕ → Option Coming) → GrowsFrom key client old new → List (Deed H) → List (Deed H)
+grown_from key None old new grows past = past
+grown_from key (Some client) old new grows past = Sent key grows.0 ∷ past
+
+abbrev pub grown_by : {H : Type 0} {old new : ℕ → Option Coming} → MayGrow old new → List (Deed H) → List (Deed H)
+grown_by (inl same) past = past
+grown_by {old = old} {new = new} (inr grown) past = grown_from grown.0 (old grown.0) old new grown.1 past
+
+module _ {H : Type 0} (it : Launcher H) where
+  -- those of a round, behind what happened before
+  abbrev pub deeds_in : {first : Desk} {from : H} {desk : Desk} {new : H} → Gathers it.Asked it.Taken it.Came first from desk new → List (Deed H) → List (Deed H)
+  deeds_in nobody past = past
+  deeds_in (asked more asks) past = deeds_in more past
+  deeds_in (taken {origin = origin} {mid = mid} {at = at} more takes welcomes asks) past =
+      come_by origin mid at welcomes.came (gone_by welcomes.gone (deeds_in more past))
+  deeds_in (heard more grows) past = grown_by grows (deeds_in more past)
+  deeds_in (went more gone) past = gone_by gone (deeds_in more past)
+  deeds_in (came {key = key} {client = client} {answer = answer} {desk = desk} {mid = mid} {new = new} more is set comes) past =
+      Handed key desk.conn client.origin.job client.request answer mid new ∷ deeds_in more past
+
+  -- those of all rounds, the newest first
+  abbrev pub deeds_of : {first last : Left H} → AreRounds it first last → List (Deed H)
+  deeds_of no_round = []
+  deeds_of (one_round more round) = deeds_in round.serves.gathers (deeds_of more)

@@ -1,0 +1,68 @@
+//! A definition that is loaded, as an object.
+
+use crate::objects::lines::text_of;
+use definition_files::laid_out;
+use history_model::Reading;
+use job_defs::Def;
+use json_lines::Value::{Json, Moment};
+use json_lines::{Field, put_json, put_line, put_texts};
+use run_times::{Ink, Page};
+use std::alloc::{AllocError, Global};
+use std::str::from_utf8;
+
+/// Adds the line of a job: when it was loaded, where what it writes goes, what of its definition is not acted on, and the definition.
+pub(crate) fn put_loaded(page: &mut Page<'_>, label: &str, def: &Def, text: &str, at: Reading) {
+    match (unheeded(page.alloc, def), on_one_line(page.alloc, text)) {
+        (Ok(unheeded), Ok(definition)) => {
+            put_lists(page, label, def, unheeded.as_str(), definition.as_str(), at);
+            drop(unheeded);
+            drop(definition);
+        }
+        (unheeded, definition) => {
+            drop(unheeded);
+            drop(definition);
+            page.ink.refuse();
+        }
+    }
+}
+
+// Adds the line with these two texts of JSON.
+fn put_lists<'x>(
+    page: &mut Page<'_>,
+    label: &str,
+    def: &'x Def,
+    unheeded: &'x str,
+    definition: &'x str,
+    at: Reading,
+) {
+    let fields = [
+        Field("loaded", Moment(at.wall)),
+        Field("output", text_of(def.standard_out_path())),
+        Field("errors", text_of(def.standard_error_path())),
+        Field("not_acted_on", Json(unheeded)),
+        Field("definition", Json(definition)),
+    ];
+    put_line(page, "label", label, &fields);
+}
+
+fn unheeded(alloc: Global, def: &Def) -> Result<String, AllocError> {
+    let mut names = Vec::new(alloc);
+    for name in def.not_acted_on() {
+        names.push(name.as_str())?;
+    }
+    let mut ink = Ink::new(alloc);
+    put_texts(&mut ink, names.as_slice());
+    drop(names);
+    ink.into_text()
+}
+
+// The JSON without what stands between its parts for people. No text of JSON goes over a line.
+fn on_one_line(alloc: Global, text: &str) -> Result<String, AllocError> {
+    let bytes = laid_out(alloc, text)?;
+    let mut ink = Ink::new(alloc);
+    for line in from_utf8(bytes.as_slice()).unwrap_or("").lines() {
+        put_json(&mut ink, line.trim_start());
+    }
+    drop(bytes);
+    ink.into_text()
+}

@@ -1,0 +1,90 @@
+//! The rows of `status` as objects.
+
+ghost use Rattle.std.specs.Prelude.{◌≡◌};
+ghost use Rattle.status_page.specs.Rows.{state_word};
+
+use crate::objects::job::{Around, around_file};
+use crate::objects::lines::{end_of, number_of};
+use json_lines::Value::{Absent, Moment, Number, Text};
+use json_lines::{Field, Value, put_line};
+use launchctl_words::ScopeCommand;
+use run_times::Page;
+use status_file::state_name;
+use status_page::{
+    Next, Row, ShownState, Standing, StartWhen, is_asked, reading_of, row_of, told_as_of,
+};
+use std::alloc::{AllocError, Global};
+
+/// An object for each of the named jobs that the file has, or for each of its jobs, in the file's order, as of a second.
+pub(crate) fn status_objects(
+    alloc: Global,
+    standing: &Standing,
+    of: &ScopeCommand,
+    second: u64,
+) -> Result<String, AllocError> {
+    let zone = standing.zone(alloc, of.is_utc)?;
+    let at = reading_of(standing);
+    let mut page = Page::new(alloc, &zone, told_as_of(standing, at, second));
+    let around = around_file(standing.life, at);
+    for line in standing.jobs() {
+        if let Ok(job) = line.job() {
+            if is_asked(of.words.as_slice(), job.label) {
+                match line.calendar(alloc) {
+                    Ok(entries) => {
+                        let zone = page.zone;
+                        let may_live = around.may_live;
+                        let row = row_of(&job, entries.as_slice(), zone, may_live, at, second);
+                        put_row(&mut page, &row, around);
+                        drop(entries);
+                    }
+                    Err(_) => page.ink.refuse(),
+                }
+            }
+        }
+    }
+    let text = page.into_text();
+    drop(zone);
+    text
+}
+
+// Adds the line of a row.
+fn put_row(page: &mut Page<'_>, row: &Row<'_>, around: Around) {
+    let process = match row.process {
+        Some(process) => Some(u64::from(process)),
+        None => None,
+    };
+    let [code, signal] = end_of(row.last);
+    let (next, waits) = next_of(row.next);
+    let fields = [
+        Field("state", Text(word_of(row.state))),
+        Field("pid", number_of(process)),
+        Field("since", Moment(row.since)),
+        code,
+        signal,
+        Field("starts", Number(row.starts)),
+        Field("failures", Number(row.failures)),
+        Field("next_start", next),
+        Field("waits_for", waits),
+        Field("as_of", Moment(around.as_of)),
+        Field("launcher", around.launcher),
+    ];
+    put_line(page, "label", row.label, &fields);
+}
+
+fn word_of(state: ShownState) -> &'static str
+    ensures { result.now ≡ state_word state }
+{
+    match state {
+        ShownState::Is(state) => state_name(state),
+        ShownState::Unknown => "unknown",
+    }
+}
+
+// When it starts by the clocks alone, also one that has been due since, or what it waits for.
+fn next_of(next: Next) -> (Value<'static>, Value<'static>) {
+    match next {
+        Next::Clock(StartWhen::At(second) | StartWhen::Since(second)) => (Moment(second), Absent),
+        Next::Event(what) => (Absent, Text(what)),
+        Next::Nothing | Next::Clock(StartWhen::Never) => (Absent, Absent),
+    }
+}

@@ -1,0 +1,251 @@
+//! Why each job of a journal or of a status file stands as it does, an object a job.
+
+use crate::age::{AsOf, clock_as_of, reading_as_of};
+use crate::journal::job::Record;
+use crate::journal::labels::KnownLabel;
+use crate::journal::reader::OpenJournal;
+use crate::objects::causes::causes_list;
+use crate::objects::job::{Around, Beside, around_file, around_journal, put_job, put_unloaded};
+use crate::texts::failing::fault_in;
+use crate::texts::since::start_second;
+use crate::texts::standing::{file_fault, record_of, told_of};
+use crate::texts::told::ToldJob;
+use crate::texts::why::{asked_labels, throttle_shown, told_job};
+use calendar_due::Zone;
+use history_model::{Entry, Reading};
+use json_lines::Value;
+use json_lines::Value::{Absent, Json, Moment, Text};
+use launchctl_words::ScopeCommand;
+use run_times::Page;
+use status_file::{JobFacts, JobStatus, StatusLine, state_name, state_of};
+use status_page::{Standing, gone_on, is_asked, reading_of, told_as_of, within_limits};
+use std::alloc::{AllocError, Global};
+
+/// An object for each job or label that `why_text` tells, in order, or for those alone that fail; and how many fail.
+pub(crate) fn why_objects(
+    alloc: Global,
+    journal: &OpenJournal,
+    zone: &Zone,
+    of: &ScopeCommand,
+    as_of: AsOf,
+) -> Result<(String, u64), AllocError> {
+    let last = journal.table.reading();
+    let mut page = Page::new(alloc, zone, reading_as_of(as_of, last));
+    let around = around_journal(as_of, last);
+    let clock = clock_as_of(as_of, last);
+    let asked = asked_labels(alloc, journal, of.words.as_slice())?;
+    let mut count: u64 = 0;
+    for label in &asked {
+        let fails = put_known(&mut page, journal, *label, of.is_failing, around, clock);
+        count = count.saturating_add(u64::from(fails));
+    }
+    drop(asked);
+    match page.into_text() {
+        Ok(text) => Ok((text, count)),
+        Err(error) => Err(error),
+    }
+}
+
+// Adds the line of a label, if it is asked for. Whether its job fails.
+fn put_known(
+    page: &mut Page<'_>,
+    journal: &OpenJournal,
+    label: &str,
+    is_failing: bool,
+    around: Around,
+    clock: Reading,
+) -> bool {
+    let known = journal.past.labels.of(label);
+    let Some(job) = journal.past.jobs.get(label) else {
+        if !is_failing {
+            put_unloaded(page, label, None, known, around);
+        }
+        return false;
+    };
+    let (Some(def), Some(facts)) = (&job.def, journal.facts(label)) else {
+        if !is_failing {
+            put_unloaded(page, label, Some(job.record.gone), known, around);
+        }
+        return false;
+    };
+    let fault = fault_in(&facts, &job.record, around.may_live);
+    if fault.is_some() || !is_failing {
+        let told = told_job(journal, job, def, &facts, page.now);
+        let beside = Beside {
+            state: state_name(state_of(&facts.reasons)),
+            causes: Absent,
+            fault,
+            reason: Absent,
+            next: Absent,
+            is_disabled: known.disabled.is_some(),
+            known,
+        };
+        let at = Clocks {
+            entries: def.calendar(),
+            zone: &journal.zone,
+            last: journal.table.reading(),
+            clock,
+        };
+        put_living(page, label, &facts, &told, beside, at, around);
+    }
+    fault.is_some()
+}
+
+/// By what it is known when a job starts.
+#[derive(Clone, Copy)]
+struct Clocks<'a> {
+    entries: &'a [Entry],
+    zone: &'a Zone,
+    last: Reading,
+    clock: Reading,
+}
+
+// Adds the line of a job, with its causes, and when it starts by the clocks alone.
+fn put_living(
+    page: &mut Page<'_>,
+    label: &str,
+    facts: &JobFacts<'_>,
+    told: &ToldJob<'_>,
+    mut beside: Beside<'_>,
+    of: Clocks<'_>,
+    around: Around,
+) {
+    let last = within_limits(of.last);
+    let end = throttle_shown(told, facts, last);
+    if let Some(second) = start_second(facts, of.entries, of.zone, last, of.clock, end) {
+        beside.next = Moment(second);
+    }
+    match causes_list(page, told) {
+        Ok(list) => {
+            put_whole(page, label, told, beside, list.as_str(), around);
+            drop(list);
+        }
+        Err(_) => page.ink.refuse(),
+    }
+}
+
+// Adds the line of a job with this list of its causes.
+fn put_whole<'x>(
+    page: &mut Page<'_>,
+    label: &str,
+    told: &ToldJob<'_>,
+    beside: Beside<'x>,
+    list: &'x str,
+    around: Around,
+) {
+    let whole = Beside {
+        state: beside.state,
+        causes: Json(list),
+        fault: beside.fault,
+        reason: beside.reason,
+        next: beside.next,
+        is_disabled: beside.is_disabled,
+        known: beside.known,
+    };
+    put_job(page, label, told.job, &whole, around);
+}
+
+/// An object for each job of the file, or for each of those named, in order, or for those alone that fail; and how many fail.
+pub(crate) fn standing_objects(
+    alloc: Global,
+    standing: &Standing,
+    of: &ScopeCommand,
+    second: u64,
+) -> Result<(String, u64), AllocError> {
+    let zone = standing.zone(alloc, of.is_utc)?;
+    let last = reading_of(standing);
+    let mut page = Page::new(alloc, &zone, told_as_of(standing, last, second));
+    let around = around_file(standing.life, last);
+    let clock = gone_on(last, second);
+    let mut count: u64 = 0;
+    for line in standing.jobs() {
+        if let Ok(job) = line.job() {
+            if is_asked(of.words.as_slice(), job.label) {
+                let fault = file_fault(&job, around.may_live);
+                if fault.is_some() || !of.is_failing {
+                    let beside = Beside {
+                        state: "unknown",
+                        causes: Absent,
+                        fault,
+                        reason: reason_of(&job),
+                        next: Absent,
+                        is_disabled: job.disabled.is_some(),
+                        known: NOTHING,
+                    };
+                    put_status(&mut page, line, &job, beside, last, clock, around);
+                }
+                count = count.saturating_add(u64::from(fault.is_some()));
+            }
+        }
+    }
+    let text = page.into_text();
+    drop(zone);
+    match text {
+        Ok(text) => Ok((text, count)),
+        Err(error) => Err(error),
+    }
+}
+
+// Adds the line of a job of a file. Of a launcher that is gone its causes are not told.
+fn put_status(
+    page: &mut Page<'_>,
+    line: &StatusLine,
+    job: &JobStatus<'_>,
+    mut beside: Beside<'_>,
+    last: Reading,
+    clock: Reading,
+    around: Around,
+) {
+    let record = record_of(&job.note, job.facts.reasons.child);
+    if !around.may_live {
+        return put_job(page, job.label, &record, &beside, around);
+    }
+    beside.state = state_name(state_of(&job.facts.reasons));
+    match line.calendar(page.alloc) {
+        Ok(entries) => {
+            let entries_of = entries.as_slice();
+            put_standing(page, job, &record, entries_of, beside, last, clock, around);
+            drop(entries);
+        }
+        Err(_) => page.ink.refuse(),
+    }
+}
+
+// Adds the line of a job of a launcher that may live.
+fn put_standing(
+    page: &mut Page<'_>,
+    job: &JobStatus<'_>,
+    record: &Record,
+    entries: &[Entry],
+    beside: Beside<'_>,
+    last: Reading,
+    clock: Reading,
+    around: Around,
+) {
+    let zone = page.zone;
+    let told = told_of(page, job, record, entries);
+    let of = Clocks {
+        entries,
+        zone,
+        last,
+        clock,
+    };
+    put_living(page, job.label, &job.facts, &told, beside, of, around);
+}
+
+// What the system said of the last start, if it refused that.
+fn reason_of<'a>(job: &JobStatus<'a>) -> Value<'a> {
+    match job.note.refused {
+        Some(start) if start.run == job.note.run => match start.reason {
+            Some(reason) => Text(reason),
+            None => Absent,
+        },
+        _ => Absent,
+    }
+}
+
+/// A status file tells of a label by its job alone.
+const NOTHING: KnownLabel = KnownLabel {
+    disabled: None,
+    refused: None,
+};

@@ -1,0 +1,11 @@
+-- The line is JSON, and its tokens are those that were read.
+use Rattle.std.proofs.Common.{rules, IsSome}
+use Rattle.json.specs.Json.{document}
+use Rattle.json.specs.Lex.{tokens}
+use Rattle.status_file.proofs.FrontLemmas.{told}
+use Rattle.status_file.proofs.front.LineRoom.label_in.Goals as goal
+
+pub returns : goal.returns
+returns c =
+    let is_json : IsSome (document c.args.line.now) = search rules in
+    told (IsSome (document c.args.line.now)) c.in_ok-reader.reader (tokens c.args.line.now) c.front_label.result c.in_ok-reader.ensures.ok is_json c.front_label.ensures.named c.front_label.ensures.unnamed
