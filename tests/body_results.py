@@ -2,8 +2,9 @@
 """Keeps tests/wrong_bodies/RESULTS.csv: for each wrong body the tree in which it was last refused, and by what.
 
     tests/body_results.py note FILE    notes the lines `refused CRATE/NAME ..` that tests/wrong_bodies.sh wrote into FILE
-    tests/body_results.py stale        lists each wrong body that is to be tried: its crate has other clauses or definitions now than
-                                       in that tree, or no try is noted
+    tests/body_results.py stale [CRATE..]
+                                       lists each wrong body (of these crates) that is to be tried: its crate has other clauses or definitions
+                                       now than in that tree, or no try is noted
 
 A body's name is that of its edit, with `.PART` behind it for a part of a joined edit. The status of `stale` is 1 if it lists one.
 """
@@ -82,9 +83,11 @@ def note(path):
     return 0
 
 
-def stale():
+def stale(crates):
     rows, now, then, listed = noted(), {}, {}, 0
     for crate, body in bodies():
+        if crates and crate not in crates:
+            continue
         tree = rows.get((crate, body), {}).get("tree")
         if tree:
             if crate not in now:
@@ -100,4 +103,5 @@ def stale():
 
 
 if __name__ == "__main__":
-    sys.exit(note(sys.argv[2]) if sys.argv[1:2] == ["note"] and len(sys.argv) == 3 else stale() if sys.argv[1:] == ["stale"] else __doc__)
+    words = sys.argv[1:]
+    sys.exit(note(words[1]) if words[:1] == ["note"] and len(words) == 2 else stale(words[1:]) if words[:1] == ["stale"] else __doc__)

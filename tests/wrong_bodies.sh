@@ -1,15 +1,17 @@
 #!/usr/bin/env bash
-# Tries wrong bodies alone, each against the contracts of its crate: the prover has to refuse every one.
+# Tries wrong bodies, each against the contracts of its crate: the prover has to refuse every one.
 #
 #   tests/wrong_bodies.sh [--gate] [--only-stale] [CRATE..]
 #   tests/wrong_bodies.sh --stale
 #
 # A wrong body is an edit of tests/wrong_bodies/CRATE/, or one part of a joined edit there. With --gate those of crates/CRATE/must-fail/ are tried
 # too, each of which is a wrong body of its own. Without CRATE those of each crate are.
-# RT_JOBS says how many are tried side by side (as many as there are processors and memory allows). One line a wrong body, at the end:
+# Those of different functions are tried at one go, and by the proofs of these functions alone (tests/try_bodies.py says why that tells of each);
+# what is not refused so is tried by the check of the whole crate. RT_JOBS says by how many jobs (as many as there are processors). One line a wrong body:
 #
 #   refused CRATE/NAME by src/FILE:LINE ..       a goal of the code's own contracts is open
 #   refused CRATE/NAME by its goal: ..           the same, and the tactic that answers this goal finds no proof
+#   refused CRATE/NAME at its answer: ..         the goal is another one with it, and the answer that is written for the goal proves it no longer
 #   refused CRATE/NAME elsewhere: ..             a proof or a definition is refused first: look whether a clause says it
 #   NOT REFUSED CRATE/NAME ..                    the contract is too weak, or the edit can't be read
 #
@@ -62,7 +64,7 @@ if [ $# = 0 ]; then
 fi
 room=$(mktemp -d "${TMPDIR:-/tmp}/wrong-bodies-XXXXXX")
 trap 'rm -rf "$room"' EXIT
-[ -z "$stale" ] || python3 "$top/tests/body_results.py" stale > "$room/stale" || true
+[ -z "$stale" ] || python3 "$top/tests/body_results.py" stale "$@" > "$room/stale" || true
 mkdir "$room/tools" "$room/tests"
 cp "$top"/{crates.txt,HANDLES} "$room/"
 cp "$top"/tools/{kit,lanes,check_crate,proofs_kept}.py "$room/tools/"
@@ -75,11 +77,13 @@ for crate in "$@"; do
   mkdir -p "$room/crates/$crate/must-fail"
   part_edits "$crate" "$room/crates/$crate/must-fail"
   [ -z "$(ls "$room/crates/$crate/must-fail")" ] || tried+=("$crate")
+  [ ! -d "$top/crates/$crate/out/incremental" ] || ln -s "$top/crates/$crate/out/incremental" "$room/begun-$crate"
 done
 said=$room/said
-{ [ ${#tried[@]} = 0 ] || python3 "$room/tests/try_bodies.py" "${tried[@]}" 2>&1 || true; } | sed -nE \
+{ [ ${#tried[@]} = 0 ] || python3 "$room/tests/try_bodies.py" "${tried[@]}" 2>&1 || true; } | sed -unE \
   -e 's,^(rt: )?must-fail ([^:]*)\.edit: refused\, as it must be: (note: )?(\./)?(src/.{0\,140}).*,refused \2 by \5,p;t' \
-  -e 's,^(rt: )?must-fail ([^:]*)\.edit: refused\, as it must be: (\./)?(proofs/[^ ]*Answers\.antt:[0-9:]+ error: `[^`]*`: `(search|grind|omega)`: .{0\,80}).*,refused \2 by its goal: \4,p;t' \
+  -e 's,^(rt: )?must-fail ([^:]*)\.edit: refused\, as it must be: (\./)?(proofs/[^ ]*Answers\.antt:[0-9:]+ error: `[^`]*`: `(search|grind|omega)`(:| found no proof).{0\,80}).*,refused \2 by its goal: \4,p;t' \
+  -e 's,^(rt: )?must-fail ([^:]*)\.edit: refused\, as it must be: (\./)?(proofs/[^ ]*Answers\.antt:[0-9:]+ error: `(returns|loop|[a-z0-9_]+-requires)[^`]*`: .*),refused \2 at its answer: \4,p;t' \
   -e 's,^(rt: )?must-fail ([^:]*)\.edit: refused\, as it must be ?:?(.*),refused \2 elsewhere:\3,p;t' \
   -e 's,^(rt: )?must-fail ([^:]*)\.edit: (.*),NOT REFUSED \2: \3,p;t' \
   -e '/NOT PROVED/p' \
