@@ -77,6 +77,7 @@ CASES = [
     ("jobscope check ", ["web.json", "old.plist", "jobs.d"], []),
     ("jobscope check --", ["--strict", "--now", "--zone", "--zone-file", "--utc"], ["--from"]),
     ("jobscope next --f", ["--from"], ["--strict"]),
+    ("jobscope next --s", ["--status-file"], ["--strict"]),
     ("jobscope cron --", ["--system", "--into"], ["--strict"]),
     ("jobscope plist ", ["old.plist", "jobs.d"], ["web.json"]),
     ("jobscope log --", ["--since", "--journal", "--utc"], ["--strict"]),

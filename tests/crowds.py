@@ -209,9 +209,15 @@ class Beside:
     def most(self):
         return max(self.took)
 
+    def late(self):
+        """The 99th percentile of the worst thousand in a row, or of all if there are fewer."""
+        parts = [sorted(self.took[at:at + 1000]) for at in range(0, max(1, len(self.took) - 999), 1000)]
+        return max(part[(99 * len(part) - 1) // 100] for part in parts)
+
     def told(self):
         slow = ", ".join(f"{took:.0f} ms in second {at - self.begun:.1f}" for at, took in self.slow[:4])
-        return f"{len(self.took)} times, median {self.median():.1f} ms, most {self.most():.1f} ms" + (f" ({slow})" if slow else "")
+        told = f"{len(self.took)} times, median {self.median():.1f} ms, 99 of 100 at most {self.late():.1f} ms, most {self.most():.1f} ms"
+        return told + (f" ({slow})" if slow else "")
 
 
 def asks(path, line=LIST):
@@ -275,6 +281,12 @@ def is_over(pid):
             return file.read().rpartition(")")[2].split()[0] == "Z"
     except (FileNotFoundError, ProcessLookupError):
         return True
+
+
+def zombies(pid):
+    """How many children of the process have ended and are not waited for."""
+    with open(f"/proc/{pid}/task/{pid}/children", encoding="ascii") as file:
+        return sum(is_over(child) for child in file.read().split())
 
 
 class Deaf:

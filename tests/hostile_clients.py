@@ -34,8 +34,9 @@ second after TERM (it may be late by half a second):
     unread_at_a_limit 400 sockets at 1,024 descriptors, clients that do not read: a job starts and gets TERM
     a_still_minute    a caller that sends nothing, and one that does not read, are let go after a minute
 
---soak plays such clients of both kinds of sockets all together; from the first tenth of the time on the memory grows by 2 MiB at
-most. The status is 1 if something failed.
+--soak plays such clients of both kinds of sockets all together: of each thousand honest lists in a row 990 take at most 50 ms, and each
+one at most a second, since settings are synced to the disk meanwhile. From the first tenth of the time on the memory grows by 2 MiB at
+most, and no child that ended is left. The status is 1 if something failed.
 """
 import json
 import os
@@ -49,6 +50,7 @@ import time
 
 from crowds import (
     LIST, Beside, Crowd, Deaf, Descriptors, asks, calls, dripping, is_held, never_reading, pipelining, resident, settles, silent, vanishing,
+    zombies,
 )
 from edge_scenes import Fault, Stage, begin, call, check, chosen, connect, descriptors, program_words, shell_job, socket_job, wait_for
 
@@ -183,8 +185,9 @@ class Watched:
         for it in (*self.honest.values(), self.most):
             it.start()
 
-    def end(self, slack, most=50):
-        """The figures. A Fault if an honest client got no answer, or a late one."""
+    def end(self, slack, most=50, late=50):
+        """The figures. A Fault if an honest client got no answer, or a late one: a list may take `most` milliseconds, and 99 of a hundred `late`; any
+        if `most` is None."""
         for it in (*self.honest.values(), self.most):
             it.end()
         for crowd in self.crowds:
@@ -193,11 +196,18 @@ class Watched:
         for name, seen in self.honest.items():
             check(not seen.faults, f"{name}: {len(seen.faults)} faults, the first: {seen.faults[:1]}")
         check(after <= self.before, f"{after} descriptors after it, {self.before} before")
-        slow = [name for name, seen in self.honest.items() if name == "list" and seen.most() > most * slack]
         figures = [f"{name} {seen.told()}" for name, seen in self.honest.items()]
         figures.append(f"descriptors {self.before} before, {self.most.most} at most, {after} after")
-        check(not slow, f"an honest list took more than {most * slack:.0f} ms: {'; '.join(figures)}")
+        if most is not None:
+            self.check_lists(figures, most * slack, late * slack)
         return figures
+
+    def check_lists(self, figures, most, late):
+        """A Fault if an honest list took more than `most` milliseconds, or one of a hundred more than `late`."""
+        lists = self.honest.get("list")
+        is_slow = lists is not None and (lists.most() > most or lists.late() > late)
+        bounds = f"more than {most:.0f} ms, or one of a hundred more than {late:.0f} ms"
+        check(not is_slow, f"an honest list took {bounds}: {'; '.join(figures)}")
 
 
 def beside(stage, launcher, crowds, honest, goes_on):
@@ -433,14 +443,17 @@ def soak(stage, launcher):
             time.sleep(seconds / 10)
             memory.append(resident(launcher.pid))
     finally:
-        figures = watched.end(slack)
+        figures = watched.end(slack, None)
     wait_for(lambda: os.listdir(stage.at("spool")) == spool, "spool files are left", 10 * slack)
+    wait_for(lambda: zombies(launcher.pid) == 0, "children that ended are left", 10 * slack)
     memory.append(resident(launcher.pid))
     # What the first tenth took is reached again and again.
     grown = memory[-1] - memory[1]
     figures += [f"memory {memory[0]} KiB before, {max(memory)} at most, {memory[-1]} after", f"spool {len(spool)} files before and after"]
     figures.append(f"{len(launcher.said().splitlines())} lines told")
     check(grown <= 2 * MIB, f"the memory grew by {grown} KiB after the first tenth: {'; '.join(figures)}")
+    # A setting's sync stands in the loop: a list that falls behind one waits for the disk.
+    watched.check_lists(figures, 1000 * slack, 50 * slack)
     return "; ".join(figures)
 
 
@@ -461,7 +474,7 @@ def play(stage, launcher, trial):
         said = trial(stage, launcher)
         time.sleep(0.3)
     finally:
-        figures = watched.end(stage.given.slack, 1000)
+        figures = watched.end(stage.given.slack, 1000, 1000)
     return "; ".join([said, *figures] if said else figures)
 
 

@@ -63,7 +63,7 @@ complete -c jobscope -n '__fish_seen_subcommand_from check next' -l zone-file -r
 complete -c jobscope -n '__fish_seen_subcommand_from check next' -l utc -d 'UTC in place of the zone of this machine'
 complete -c jobscope -n '__fish_seen_subcommand_from check' -l now -x -d 'From this second of Unix time on'
 complete -c jobscope -n '__fish_seen_subcommand_from status metrics why log runs picture' -l now -x -d 'Take this second of Unix time for now'
-complete -c jobscope -n '__fish_seen_subcommand_from status metrics why' -l status-file -r -F -d "The launcher's status file"
+complete -c jobscope -n '__fish_seen_subcommand_from next status metrics why' -l status-file -r -F -d "The launcher's status file"
 complete -c jobscope -n '__fish_seen_subcommand_from why' -l failing -d 'Only those that fail'
 complete -c jobscope -n '__fish_seen_subcommand_from why' -l at -x -d 'As of this moment, as 03:00'
 complete -c jobscope -n '__fish_seen_subcommand_from next' -s n -x -d 'How many starts'

@@ -106,6 +106,13 @@ const CHECK: &[Argument] = &[
     PATHS,
 ];
 
+const STATUS_FILE: Argument = Argument {
+    id: "status-file",
+    form: Form::Value { required: false },
+    value: "PATH",
+    help: "The launcher's file on how it stands; where absent, that of JOBD_STATUS_FILE",
+};
+
 const NEXT: &[Argument] = &[
     Argument {
         id: "count",
@@ -122,6 +129,7 @@ const NEXT: &[Argument] = &[
     ZONE,
     ZONE_FILE,
     ZONE_UTC,
+    STATUS_FILE,
     JOURNAL,
     JSON,
     Argument {
@@ -134,16 +142,9 @@ const NEXT: &[Argument] = &[
         id: "paths",
         form: Form::AnyWords,
         value: "PATH",
-        help: "A definition, or a folder of definitions (*.plist, *.json); - for the definition on standard input; where absent, the jobs that the journal has loaded",
+        help: "A definition, or a folder of definitions (*.plist, *.json); - for the definition on standard input; where absent, the jobs that are loaded",
     },
 ];
-
-const STATUS_FILE: Argument = Argument {
-    id: "status-file",
-    form: Form::Value { required: false },
-    value: "PATH",
-    help: "The launcher's file on how it stands; where absent, that of JOBD_STATUS_FILE",
-};
 
 const STATUS: &[Argument] = &[STATUS_FILE, LABELS, UTC, JSON, NOW];
 

@@ -5,7 +5,8 @@ ghost use Rattle.control_client.specs.declared.fault.Fault.TheVariants.{NoMemory
 
 use exit_status::{BAD_FILE, BAD_OUTPUT, NO_ANSWER, NO_MEMORY, READER_GONE};
 use job_defs::DefFault;
-use std::alloc::AllocError;
+use plain_text::plain;
+use std::alloc::{AllocError, Global};
 use std::fmt::{Display, Formatter};
 use std::io::ErrorKind;
 use std::{fmt, io};
@@ -101,10 +102,16 @@ impl From<AllocError> for Fault {
 }
 
 /// Tells what the fault is about, and why. That the output's reader has gone is no fault of the program, and is not told.
-pub(crate) fn tell<R: Eprint>(rt: &R, about: &str, fault: &Fault) {
-    if fault.status() != READER_GONE {
-        let _written = eprintln!(rt; "jobctl: {about}: {fault}");
+pub(crate) fn tell<R: Eprint>(rt: &R, alloc: Global, about: &str, fault: &Fault) {
+    if fault.status() == READER_GONE {
+        return;
     }
+    let Ok(shown) = plain(alloc, about) else {
+        let _written = eprintln!(rt; "jobctl: {fault}");
+        return;
+    };
+    let about = shown.as_str();
+    let _written = eprintln!(rt; "jobctl: {about}: {fault}");
 }
 
 /// Tells so that a launcher can't be reached whose socket nothing named, while the package's is there.

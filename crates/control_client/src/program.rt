@@ -9,6 +9,7 @@ use exit_status::{NO_MEMORY, USAGE};
 use files_and_process::path_files::{Found, Kind, files_at};
 use history_model::{Ask, KeyName, Reason, Refusal, Text, TextRef};
 use launchctl_words::{Command, Paths, WordFault, Words, explain, read_words, read_words_beside};
+use plain_text::plain;
 use std::alloc::Global;
 use std::fs::{Files, metadata};
 use std::io::{self, IsTerminal};
@@ -173,7 +174,7 @@ fn explain_words<R: Print + Eprint>(rt: &R, alloc: Global, words: &[String]) -> 
         Ok(()) => 0,
         Err(error) => {
             let fault = Fault::Output(error);
-            tell(rt, "standard output", &fault);
+            tell(rt, alloc, "standard output", &fault);
             fault.status()
         }
     }
@@ -193,7 +194,7 @@ fn hand_in<R: Net + Files + Print + Eprint + Watched + AllocGlobal + Clone + Dro
     let is_named = files.len() > 1;
     for file in files.iter() {
         if let Err(fault) = hand_in_one(rt, alloc, session, deed, file, is_named) {
-            session.fail(rt, file.path.as_str(), &fault);
+            session.fail(rt, alloc, file.path.as_str(), &fault);
             let is_last = fault.is_last();
             drop(fault);
             if is_last {
@@ -213,22 +214,24 @@ fn hand_in_one<R: Net + Files + Print + Eprint + Watched>(
     is_named: bool,
 ) -> Result<(), Fault> {
     let path = file.path.as_str();
+    let shown = plain(alloc, path)?;
+    let name = shown.as_str();
     match file.kind {
         Kind::Unlisted(kind) => return Err(Fault::File(io::Error::from(kind))),
         Kind::Empty => {
             let _written = eprintln!(rt;
-                "jobctl: {path}: no definition in this folder (*.plist, *.json)"
+                "jobctl: {name}: no definition in this folder (*.plist, *.json)"
             );
             return Ok(());
         }
         Kind::File => {}
     }
-    let name = if is_named { Some(path) } else { None };
+    let heading = if is_named { Some(name) } else { None };
     match text_for(rt, alloc, deed, path) {
         Ok(text) => {
-            let answer = session.ask(rt, alloc, &request_with(deed, &text), name);
+            let answer = session.ask(rt, alloc, &request_with(deed, &text), heading);
             drop(text);
-            point_out(rt, deed, path, answer?);
+            point_out(rt, deed, name, answer?);
             Ok(())
         }
         Err(fault) => Err(fault),
@@ -236,10 +239,10 @@ fn hand_in_one<R: Net + Files + Print + Eprint + Watched>(
 }
 
 // A terminal is told what says where a faulty definition has its fault.
-fn point_out<R: Eprint + Watched>(rt: &R, deed: Deed, path: &str, code: u8) {
+fn point_out<R: Eprint + Watched>(rt: &R, deed: Deed, name: &str, code: u8) {
     let is_faulty = code == Refusal::BadDefinition(Reason::NotJson, KeyName::NoKey).code();
     if is_faulty && matches!(deed, Deed::Load { .. }) && rt.is_watched() {
-        let _written = eprintln!(rt; "jobctl: `jobscope check {path}` says where");
+        let _written = eprintln!(rt; "jobctl: `jobscope check {name}` says where");
     }
 }
 

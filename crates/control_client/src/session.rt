@@ -70,7 +70,7 @@ impl Session {
     ) {
         match self.ask(rt, alloc, request, None) {
             Ok(_) => {}
-            Err(fault) => self.fail(rt, "request", &fault),
+            Err(fault) => self.fail(rt, alloc, "request", &fault),
         }
     }
 
@@ -86,7 +86,7 @@ impl Session {
     }
 
     /// Tells what kept the request for the file from its reply. That the output's reader has gone is not told.
-    pub(crate) fn fail<R: Eprint>(&mut self, rt: &R, file: &str, fault: &Fault) {
+    pub(crate) fn fail<R: Eprint>(&mut self, rt: &R, alloc: Global, file: &str, fault: &Fault) {
         let status = fault.status();
         let about = match status {
             NO_ANSWER => self.socket.as_str(),
@@ -96,7 +96,7 @@ impl Session {
         if status == NO_ANSWER && self.is_unnamed {
             tell_unnamed(rt, about, fault);
         } else {
-            tell(rt, about, fault);
+            tell(rt, alloc, about, fault);
         }
         self.note(status);
     }

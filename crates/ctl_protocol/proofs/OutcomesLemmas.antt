@@ -1,5 +1,6 @@
 -- The line of an outcome, as the texts of its parts.
 use Rattle.std.proofs.Common.{◌≡◌, ℕ, List, [], ◌++◌, length, codes, decimal, ◌==◌, true, refl, sym, ap, ◌∙◌, append_assoc}
+use Rattle.std.specs.Fmt.{digits}
 use Rattle.std.proofs.lemmas.Bool.{eqb-true}
 use Rattle.std.proofs.lemmas.List.{nil_from_length}
 use Rattle.std.specs.Borrow.{Bor}
@@ -29,6 +30,13 @@ pub number_written : (code : ℕ) → decimal code ≡ compact_text (number (uns
 unfolding serde_json_on_literals
 number_written code = refl
 
+zero_digits : codes "0" ≡ decimal 0
+unfolding digits
+zero_digits = refl
+
+zero_written : codes "0" ≡ compact_text (number (unsigned 0))
+zero_written = zero_digits ∙ number_written 0
+
 pub no_orders_written : codes "[]" ≡ compact_text (array no_items)
 unfolding serde_json_on_literals
 no_orders_written = refl
@@ -40,11 +48,16 @@ no_text_written = refl
 empty : {X : Type 0} (xs : List X) → true ≡ (length xs == 0) → xs ≡ []
 empty xs is = nil_from_length xs (eqb-true (length xs) 0 (sym is))
 
--- the line of an outcome with no order and no text
-pub bare_parts : (code : ℕ) (said : List ℕ) (orders : List (Bor (List ℕ) × Act)) (line digits : List ℕ)
-    → true ≡ (length orders == 0) → true ≡ (length said == 0) → digits ≡ decimal code → line ≡ line_parts digits (codes "[]") (codes "\"\"")
+-- the quotes of an empty text
+pub text_written : (said quotes : List ℕ) → true ≡ (length said == 0) → quotes ≡ codes "\"\"" → quotes ≡ compact_text (string said)
+text_written said quotes is written = written ∙ no_text_written ∙ ap (λ t. compact_text (string t)) (sym (empty said is))
+
+-- the line of an outcome with no refusal, no order and no text
+pub bare_line : (code : ℕ) (said : List ℕ) (orders : List (Bor (List ℕ) × Act)) (line : List ℕ)
+    → code ≡ 0 → true ≡ (length orders == 0) → true ≡ (length said == 0) → line ≡ codes "{\"code\":0,\"orders\":[],\"text\":\"\"}\n"
     → line ≡ line_of (outcome_object code said (plain_orders orders))
-bare_parts code said orders line digits no_orders no_text d whole =
-    from_parts code said (plain_orders orders) line digits (codes "[]") (codes "\"\"") whole (d ∙ number_written code)
+bare_line code said orders line accepted no_orders no_text whole =
+    from_parts code said (plain_orders orders) line (codes "0") (codes "[]") (codes "\"\"") whole
+    (zero_written ∙ ap (λ n. compact_text (number (unsigned n))) (sym accepted))
     (no_orders_written ∙ ap (λ os. compact_text (array (orders_data (plain_orders os)))) (sym (empty orders no_orders)))
-    (no_text_written ∙ ap (λ t. compact_text (string t)) (sym (empty said no_text)))
+    (text_written said (codes "\"\"") no_text refl)

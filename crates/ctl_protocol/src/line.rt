@@ -5,9 +5,9 @@ ghost use Rattle.json.specs.Value.{value_view};
 ghost use Rattle.ctl_protocol.specs.Trees.{is_readable, integer_of};
 
 use crate::members::ReadFault;
-use crate::number::number_in;
 use crate::tree::{is_readable as readable, tree_in};
 use json::{Scratch, Value};
+use json_kinds::number_in;
 use std::alloc::Global;
 
 /// The integer that a value is, from 0 on.

@@ -17,7 +17,8 @@ use std::alloc::{AllocError, Global};
 fn joined(alloc: Global, code: &[u8], orders: &[u8], said: &[u8]) -> Result<Vec<u8>, AllocError>
     ensures { IfOk result (λ line. line.items ≡ line_parts code.now orders.now said.now) }
 {
-    let mut line = Vec::with_capacity(alloc, 64)?;
+    let room = orders.len().saturating_add(said.len()).saturating_add(64);
+    let mut line = Vec::with_capacity(alloc, room)?;
     line.extend_from_slice(b"{\"code\":")?;
     line.extend_from_slice(code)?;
     line.extend_from_slice(b",\"orders\":")?;
@@ -37,12 +38,15 @@ fn outcome_from(
     ensures { IfOk result (λ line. line.items
         ≡ line_of (outcome_object code text.now (plain_orders orders.now))) }
 {
+    if code == 0 && orders.is_empty() && text.is_empty() {
+        return Vec::from_slice(alloc, b"{\"code\":0,\"orders\":[],\"text\":\"\"}\n");
+    }
     let mut buffer = Buffer::new();
     let number = buffer.format(code).as_bytes();
-    if orders.is_empty() && text.is_empty() {
-        return joined(alloc, number, b"[]", b"\"\"");
-    }
     let list = orders_text(alloc, orders)?;
+    if text.is_empty() {
+        return joined(alloc, number, list.as_slice(), b"\"\"");
+    }
     let said = string_text(alloc, text)?;
     joined(alloc, number, list.as_slice(), said.as_slice())
 }

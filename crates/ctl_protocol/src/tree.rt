@@ -4,8 +4,8 @@ ghost use Rattle.std.specs.Prelude.{◌≡◌, true, IfOk, option_map};
 ghost use Rattle.json.specs.Value.{value_view, items_view, members_view};
 ghost use Rattle.ctl_protocol.specs.Trees.{tree_in as tree_of, is_readable as readable, items_are_readable as all_readable, members_are_readable as values_readable};
 
-use crate::number::number_in;
 use json::{Error, Reader, Scratch, Value};
+use json_kinds::number_in;
 use std::alloc::{AllocError, Global};
 use std::str;
 

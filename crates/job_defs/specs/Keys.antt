@@ -1,6 +1,6 @@
 -- The keys of a definition, one by one, in the order in which they are checked. They are those of
 -- launchd.plist(5); the first key with a fault is the answer.
-use Rattle.std.specs.Prelude.{ℕ, ◌+◌, List, length, true, false, Result, Ok, ⊤}
+use Rattle.std.specs.Prelude.{ℕ, ◌+◌, List, length, true, false, Option, Result, Ok, ⊤}
 use Rattle.serde_json.specs.Data.{Data}
 use Rattle.serde_json.specs.Find.{as_object}
 use Rattle.history_model.specs.declared.Reason.TheVariants.{NotJson, NotObject}
@@ -111,6 +111,12 @@ def_at d = do
 -- the value that the bytes are, or the fault of a definition
 abbrev pub json_at : List ℕ → Result Data Fault
 json_at bytes = or_fault (json_in bytes) (bad NotJson NoKey)
+
+-- what a value that was read defines, or the first fault; no value is no JSON
+abbrev pub def_or_fault : Option Data → Result Described Fault
+def_or_fault found = do
+  d ← or_fault found (bad NotJson NoKey)
+  def_at d
 
 -- what the bytes define, or the first fault
 unfoldable pub def_of : List ℕ → Result Described Fault

@@ -26,6 +26,6 @@ mod surroundings;
 
 pub use history_model::definition::{Address, Def, PathState, Socket, Variable};
 pub use history_model::is_label;
-pub use json_kinds::{DefFault, json_value, key_name, reason_name};
+pub use json_kinds::{DefFault, JsonRoom, json_value, key_name, reason_name};
 pub use load_text::loaded;
-pub use read::read_def;
+pub use read::{read_def, read_def_in};

@@ -1,9 +1,9 @@
 //! The reading of a definition.
 
-ghost use Rattle.std.specs.Prelude.{◌≡◌};
+ghost use Rattle.std.specs.Prelude.{◌≡◌, option_map};
 ghost use Rattle.serde_json.specs.View.{view};
 ghost use Rattle.json_kinds.specs.DefFaults.{Gives};
-ghost use Rattle.job_defs.specs.Keys.{refusals_at, def_at, def_of};
+ghost use Rattle.job_defs.specs.Keys.{refusals_at, def_at, def_of, def_or_fault};
 
 use crate::demand::{demand_keys, pace_keys};
 use crate::ignored::not_acted_on_of;
@@ -13,7 +13,7 @@ use crate::surroundings::surroundings_keys;
 use history_model::definition::Def;
 use history_model::{KeyName, Reason};
 use json_kinds::keys::refused_key_of;
-use json_kinds::{DefFault, json_value};
+use json_kinds::{DefFault, JsonRoom, json_value};
 use serde_json::Value;
 use std::alloc::Global;
 
@@ -30,7 +30,24 @@ use std::alloc::Global;
 pub fn read_def(alloc: Global, bytes: &[u8]) -> Result<Def, DefFault>
     ensures { Gives (λ def. def) result (def_of bytes.now) }
 {
-    match json_value(alloc, bytes)? {
+    let found = json_value(alloc, bytes)?;
+    def_found(alloc, found)
+}
+
+/// What [`read_def`] gives of the bytes, read over a room that is kept from definition to definition: whatever was read there before.
+#[tactic(auto, unfolding(crate::specs::Keys::def_of))]
+pub fn read_def_in(alloc: Global, bytes: &[u8], room: &mut JsonRoom) -> Result<Def, DefFault>
+    ensures { Gives (λ def. def) result (def_of bytes.now) }
+{
+    let found = room.value(alloc, bytes)?;
+    def_found(alloc, found)
+}
+
+/// What was read as JSON, as a definition.
+fn def_found(alloc: Global, found: Option<Value>) -> Result<Def, DefFault>
+    ensures { Gives (λ def. def) result (def_or_fault (option_map view found)) }
+{
+    match found {
         Some(value) => def_in(alloc, &value),
         None => Err(DefFault::Bad {
             reason: Reason::NotJson,

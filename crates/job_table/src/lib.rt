@@ -21,7 +21,7 @@ mod take;
 use calendar_due::Zone;
 use history_model::{DemandKind, JobItem, JobNo, Obs, Order, Reading, Reasons, Refusal, Setting};
 pub use job_core::Moments;
-use job_defs::Def;
+use job_defs::{Def, JsonRoom};
 use loaded_jobs::Jobs;
 pub use loaded_jobs::{NewSetting, Ready};
 use std::alloc::Global;
@@ -32,6 +32,8 @@ pub use take::{Taken, refused_outside};
 #[derive(Drop)]
 pub struct JobTable {
     jobs: Jobs,
+    /// What reading a definition takes, kept from load to load.
+    room: JsonRoom,
 }
 
 impl Model for JobTable {
@@ -109,7 +111,10 @@ impl JobTable {
             ≡ None) (λ refusal. opening_refusal reading overrides.items ≡ Some refusal) }
     {
         let jobs = Jobs::new(alloc, reading, zone, overrides)?;
-        Ok(JobTable { jobs })
+        Ok(JobTable {
+            jobs,
+            room: JsonRoom::new(),
+        })
     }
 
     /// The last reading. It is within the limits of a reading.

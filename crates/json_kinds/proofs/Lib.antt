@@ -1,3 +1,5 @@
 pub mod CountLemmas
 pub mod KindsLemmas
 pub mod JsonLemmas
+pub mod NumbersLemmas
+pub mod JsonReadingLemmas

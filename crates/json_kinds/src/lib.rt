@@ -5,12 +5,15 @@
 
 mod digits;
 mod fault;
-mod json;
+mod json_reader;
+mod json_text;
 pub mod keys;
 pub mod kinds;
 pub mod names;
+mod number;
 
 pub use digits::all_digits;
 pub use fault::DefFault;
-pub use json::json_value;
+pub use json_text::{JsonRoom, json_value};
 pub use names::{key_name, reason_name};
+pub use number::number_in;

@@ -1,10 +1,14 @@
-//! What is told of a launcher by its own file on how it stands: the table of `status`, and why each job runs or not.
+//! What is told of a launcher by its own file on how it stands: the table of `status`, why each job runs or not, and when each starts next.
 
 use crate::clock::now;
+use crate::journal::source::{NONE_NAMED, finds_journal, stands_in};
 use crate::objects::status::status_objects;
 use crate::objects::why::standing_objects;
 use crate::texts::standing::{failing_in, standing_text};
+use crate::texts::standing_next::standing_lines;
+use crate::texts::starts::ComingLines;
 use crate::texts::unknown::unknown_in;
+use definition_files::tell_clockless;
 use exit_status::{BAD_CLOCK, BAD_FILE, DIFFERS};
 use history_model::Text;
 use launchctl_words::{ScopeCommand, Task};
@@ -20,32 +24,62 @@ use std::io;
 pub(crate) const FAILS: u8 = DIFFERS;
 
 /// The path of the file that is asked of, if one is. Of `status` and `metrics` it is that of the words, else that of `JOBD_STATUS_FILE`, else the package's;
-/// of `why` that of the words, else that of `JOBD_STATUS_FILE`, if neither a journal nor a moment of one is named.
+/// of `why` that of the words, else that of `JOBD_STATUS_FILE`, if neither a journal nor a moment of one is named; of `next` the same, if besides no journal
+/// is found, and then that of the package in the place of a terminal, which is told.
 pub(crate) fn file_asked(host: &HostRuntime, of: &ScopeCommand) -> io::Result<Option<String>> {
-    let is_why = match of.task {
-        Task::Status | Task::Metrics => false,
-        Task::Why => true,
+    let (may_be_journal, is_next) = match of.task {
+        Task::Status | Task::Metrics => (false, false),
+        Task::Why => (true, false),
+        Task::Next => (true, true),
         _ => return Ok(None),
     };
-    let is_of_a_journal = !of.journals.as_slice().is_empty() || of.moments.at.is_some();
-    if is_why && of.status_file.is_none() && is_of_a_journal {
-        return Ok(None);
+    if may_be_journal && of.status_file.is_none() {
+        if names_journal(of) {
+            return Ok(None);
+        }
+        if is_next && finds_journal(host)? {
+            return Ok(None);
+        }
     }
     match named_path(host, &of.status_file) {
-        Ok(None) if !is_why => Ok(Some(String::from_str(host.alloc(), PACKAGES)?)),
+        Ok(None) if !may_be_journal => packages(host),
+        Ok(None) if is_next && stands_in(host, PACKAGES) => {
+            tell_of(host, PACKAGES, &NONE_NAMED);
+            packages(host)
+        }
         Ok(path) => Ok(path),
         Err(error) => Err(io::Error::from(error)),
     }
 }
 
-/// What is wrong with words that name both a launcher's file and a journal, or a moment of one, if they do.
+// Whether the words name a journal, or ask what no status file holds.
+fn names_journal(of: &ScopeCommand) -> bool {
+    !of.journals.as_slice().is_empty() || of.moments.at.is_some() || of.is_all
+}
+
+fn packages(host: &HostRuntime) -> io::Result<Option<String>> {
+    Ok(Some(String::from_str(host.alloc(), PACKAGES)?))
+}
+
+/// What is wrong with words that name both a launcher's file and a journal, or what the file does not hold, if they do.
 pub(crate) fn clash_of(of: &ScopeCommand) -> Option<&'static str> {
     if of.status_file.is_none() {
-        None
-    } else if !of.journals.as_slice().is_empty() {
-        Some("jobscope: why: --status-file and --journal can't stand together\n")
+        return None;
+    }
+    let is_why = match of.task {
+        Task::Why => true,
+        _ => false,
+    };
+    if !of.journals.as_slice().is_empty() {
+        Some(if is_why {
+            "jobscope: why: --status-file and --journal can't stand together\n"
+        } else {
+            "jobscope: next: --status-file and --journal can't stand together\n"
+        })
     } else if of.moments.at.is_some() {
         Some("jobscope: why: --status-file and --at can't stand together\n")
+    } else if of.is_all {
+        Some("jobscope: next: --status-file and --all can't stand together\n")
     } else {
         None
     }
@@ -103,6 +137,10 @@ fn tell(
             )?;
             0
         }
+        Task::Next => {
+            put_next(host, alloc, of, path, standing, second)?;
+            0
+        }
         Task::Metrics => {
             put_made(host, samples_text(alloc, standing, labels, second))?;
             0
@@ -126,6 +164,24 @@ fn tell(
         Ok(unknown) => Ok(unknown.max(status)),
         Err(error) => Err(error),
     }
+}
+
+// The next starts, and how many jobs have none.
+fn put_next(
+    host: &HostRuntime,
+    alloc: Global,
+    of: &ScopeCommand,
+    path: &str,
+    standing: &Standing,
+    second: u64,
+) -> io::Result<()> {
+    let ComingLines {
+        text,
+        jobs,
+        clockless,
+    } = standing_lines(alloc, standing, of, second)?;
+    tell_clockless(host, path, clockless, jobs);
+    put_made(host, Ok(text))
 }
 
 // Tells each of the labels that the file has no job of. It answers the exit status, which is 65 then.

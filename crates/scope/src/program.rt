@@ -57,12 +57,16 @@ fn run<W: Wait>(
     alloc: Global,
     command: &ScopeCommand,
 ) -> io::Result<u8> {
-    if let Some(text) = clash_of(command) {
+    let clash = match clash_of(command) {
+        Some(text) => Some(text),
+        None => clash_of_next(command),
+    };
+    if let Some(text) = clash {
         tell_wrong(host, text);
         return Ok(USAGE);
     }
     match command.task {
-        Task::Next => next(host, waits, alloc, command),
+        Task::Next if !command.words.as_slice().is_empty() => by_zone(host, alloc, command),
         Task::Check => by_zone(host, alloc, command),
         Task::Cron => by_lines(host, alloc, command),
         Task::Plist => of_lists(host, alloc, command),
@@ -77,34 +81,23 @@ fn run<W: Wait>(
     }
 }
 
-// The coming starts of definitions, or of a journal's jobs if no PATH stands.
-fn next<W: Wait>(
-    host: &HostRuntime,
-    waits: &W,
-    alloc: Global,
-    of: &ScopeCommand,
-) -> io::Result<u8> {
-    let is_journal = of.words.as_slice().is_empty();
+// What is wrong with the words of `next`, if something is: what goes with definitions alone stands without one, or what goes with loaded jobs beside one.
+fn clash_of_next(of: &ScopeCommand) -> Option<&'static str> {
+    match of.task {
+        Task::Next => {}
+        _ => return None,
+    }
     let names_zone = match of.zone {
         ZoneWords::Default => false,
         _ => true,
     };
-    let names_journal = of.is_all || !of.journals.as_slice().is_empty();
-    if is_journal && names_zone {
-        tell_wrong(host, "jobscope: next: --zone and --zone-file need a PATH\n");
-        return Ok(USAGE);
-    }
-    if !is_journal && names_journal {
-        tell_wrong(
-            host,
-            "jobscope: next: --journal and --all stand without a PATH\n",
-        );
-        return Ok(USAGE);
-    }
-    if is_journal {
-        report(host, waits, alloc, of)
-    } else {
-        by_zone(host, alloc, of)
+    let is_of_loaded = of.is_all || of.status_file.is_some() || !of.journals.as_slice().is_empty();
+    match (of.words.as_slice().is_empty(), names_zone, is_of_loaded) {
+        (true, true, _) => Some("jobscope: next: --zone and --zone-file need a PATH\n"),
+        (false, _, true) => Some(
+            "jobscope: next: --journal, --status-file and --all stand without a PATH\n",
+        ),
+        _ => None,
     }
 }
 

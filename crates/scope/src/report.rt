@@ -18,9 +18,10 @@ use crate::objects::why::why_objects;
 use crate::page::coming_of;
 use crate::texts::failing::failing_text;
 use crate::texts::log::is_named;
-use crate::texts::next::{AskedStarts, ComingLines, next_lines};
+use crate::texts::next::{AskedStarts, next_lines};
 use crate::texts::runs::runs_table;
 use crate::texts::show::show_text;
+use crate::texts::starts::{ComingLines, Telling};
 use crate::texts::unknown::unknown_text;
 use crate::texts::why::{is_known, why_text};
 use crate::window::window_of;
@@ -323,10 +324,12 @@ fn put_next(
     let asked = AskedStarts {
         zone,
         as_of,
-        now: clock_as_of(as_of, last).wall,
-        count: of.count.unwrap_or(count),
         is_all: of.is_all,
-        is_json: of.is_json,
+        telling: Telling {
+            now: clock_as_of(as_of, last).wall,
+            count: of.count.unwrap_or(count),
+            is_json: of.is_json,
+        },
     };
     let ComingLines {
         text,

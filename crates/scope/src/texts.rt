@@ -12,6 +12,8 @@ pub(crate) mod runs;
 pub(crate) mod show;
 pub(crate) mod since;
 pub(crate) mod standing;
+pub(crate) mod standing_next;
+pub(crate) mod starts;
 pub(crate) mod told;
 pub(crate) mod unknown;
 pub(crate) mod why;

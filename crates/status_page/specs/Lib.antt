@@ -2,4 +2,5 @@ pub mod Clocks
 pub mod Failing
 pub mod Rows
 pub mod Samples
+pub mod Starts
 pub mod Throttles

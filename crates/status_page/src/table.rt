@@ -48,19 +48,36 @@ pub fn table_text(
     labels: &[Text],
     look: Look,
 ) -> Result<String, AllocError> {
-    let zone = standing.zone(alloc, look.is_utc)?;
+    let zone = standing.zone(alloc, false)?;
     let at = reading_of(standing);
     let rows = rows_of(alloc, standing, labels, &zone, at, look.second);
-    let text = match rows {
+    drop(zone);
+    match rows {
         Ok(rows) => {
-            let mut page = Page::new(alloc, &zone, told_as_of(standing, at, look.second));
-            add_head(&mut page, standing, look.second);
-            add_rows(&mut page, rows.as_slice(), look);
+            let text = shown_text(alloc, standing, rows.as_slice(), at, look);
             drop(rows);
-            page.into_text()
+            text
         }
         Err(error) => Err(error),
-    };
+    }
+}
+
+// The text of the rows, by the zone in which moments are shown.
+fn shown_text(
+    alloc: Global,
+    standing: &Standing,
+    rows: &[Row<'_>],
+    at: Reading,
+    look: Look,
+) -> Result<String, AllocError>
+    requires up { at.up ≤ MAX_UP }
+    requires wall { at.wall ≤ MAX_WALL }
+{
+    let zone = standing.zone(alloc, look.is_utc)?;
+    let mut page = Page::new(alloc, &zone, told_as_of(standing, at, look.second));
+    add_head(&mut page, standing, look.second);
+    add_rows(&mut page, rows, look);
+    let text = page.into_text();
     drop(zone);
     text
 }

@@ -390,6 +390,21 @@ def replies_are_heard_one_by_one(stage):
     expect(stage, ["list"], replies='{"code":255,"text":"b\\n"}\n', status=255, asked=LISTED, told=["b"])
 
 
+def a_name_is_told_plainly(stage):
+    """What others put into the name of a file or a socket moves no cursor, begins no line and turns no text."""
+    make_files(stage)
+    odd, told = "odd\x1b[2J\n\u202e", "odd\ufffd[2J\ufffd\ufffd"
+    os.mkdir(stage.at(odd))
+    expect(stage, ["load", f"@/{odd}"], told=[f"jobctl: @/{told}: no definition in this folder (*.plist, *.json)"])
+    expect(stage, ["load", f"@/{odd}.json"], status=65, told=[f"jobctl: @/{told}.json: "])
+    expect(stage, ["--socket", f"@/{odd}s", "list"], IS_MISSING, status=69, told=[f"jobctl: @/{told}s: "])
+    for name in ("a.json", "b.json"):
+        make(stage.at(f"{odd}/{name}"), "{}")
+    note = '{"code":0,"text":"not acted on: X\\n"}\n'
+    printed = f"jobctl: @/{told}/a.json:\nnot acted on: X\n"
+    expect(stage, ["load", f"@/{odd}"], replies=note + DONE, asked=load("{}") * 2, printed=printed)
+
+
 def a_terminal_is_told_what_says_where(stage):
     """Below the refusal of a faulty definition a terminal is told what says where its fault is. Nothing stands below another refusal; a file gets
     the refusal alone."""
@@ -412,5 +427,5 @@ SCENES = [
     what_comes_may_be_no_reply, nobody_may_listen, words_may_be_no_command, the_output_may_be_refused, the_outputs_reader_may_have_gone,
     no_answer_may_come, the_launcher_may_have_no_room, the_environment_is_read, a_word_that_is_none_is_named,
     a_request_and_its_record_have_at_most_262144_bytes, the_longest_record_fits_a_line, a_reply_has_at_most_1048576_bytes,
-    replies_are_heard_one_by_one, a_terminal_is_told_what_says_where,
+    replies_are_heard_one_by_one, a_name_is_told_plainly, a_terminal_is_told_what_says_where,
 ]

@@ -1410,7 +1410,7 @@ def a_shell_for_one_term(stage):
     os.kill(shells[0], signal.SIGSTOP)
     launcher.ask({"req": "stop", "job": "second"})
     launcher.tells("second", "last exit = signal 15")
-    check(shells[0] not in kept(), "the shell that was stopped is kept")
+    wait_for(lambda: shells[0] not in kept(), "the shell that was stopped is kept")
     end_all(launcher)
     for name in opened() - before:
         check("needed by /bin/sh " not in text_at(stage.at(name)), f"a shell has the launcher's environment: {name}")

@@ -2,7 +2,8 @@
 line, and compared with the chart:
 
     SVG       it is XML; each run that began is in a bar of its job's row, which begins and ends at the places of its seconds
-    the page  it is HTML whose elements close, it has no script, its picture is as the SVG, and its table has the lines of `jobscope runs`
+    the page  it is HTML whose elements close, it has no script, its picture is as the SVG, its table has the lines of `jobscope runs`, and the names
+              that a narrow window shows beside the rows are their labels
     blocks    on a terminal of 60 columns, and of 32, no line is longer, each job has a line, and each run has its blocks at its places
     refusals  those of jobs that were not loaded before are counted, as they were counted here by hand
 
@@ -151,6 +152,14 @@ def faults_of_page(text, table):
         yield "its table is not that of runs"
 
 
+def faults_of_names(page, figure):
+    """The names that stay in sight as a narrow window scrolls are the labels of the rows, in order."""
+    labels = [text.find(SVG + "title").text for text in ET.fromstring(figure).iter(SVG + "text") if text.get("class") == "label"]
+    names = [html.unescape(name) for name in re.findall(r"<li><bdi>(.*?)</bdi></li>", page)]
+    if names != labels:
+        yield f"the names beside the rows are {names}; wanted {labels}"
+
+
 def width_of(line):
     return sum(2 if unicodedata.east_asian_width(c) in "WF" else 0 if unicodedata.combining(c) else 1 for c in line)
 
@@ -223,6 +232,7 @@ def faults_of(command, path):
     yield from faults_of_page(page, table)
     figure = re.search(r"<svg.*?</svg>", page, re.S)
     yield from faults_of_svg(figure[0], header, events) if figure else ["the page has no picture"]
+    yield from faults_of_names(page, figure[0]) if figure else []
     labels = [line.split("\t")[0] for line in table.splitlines()[1:]]
     for columns in (60, 32):
         yield from faults_of_blocks(on_terminal(command, path, columns), labels, columns, header, events)

@@ -365,11 +365,11 @@ def jobscope_pictures(stage):
 
 
 # The launcher's files whose launcher lives when they are read: the process that plays.
-LIVING = ("living.jsonl", "cut.jsonl", "torn.jsonl", "lacking.jsonl", "waits.jsonl", "well.jsonl", "rounded.jsonl", "others.jsonl")
+LIVING = ("living.jsonl", "cut.jsonl", "torn.jsonl", "lacking.jsonl", "waits.jsonl", "well.jsonl", "rounded.jsonl", "others.jsonl", "starts.jsonl")
 
 
 def jobscope_status(stage):
-    """`jobscope status` and `why` over files of launchers, of which some are gone, and some lacking."""
+    """`jobscope status`, `why` and `next` over files of launchers, of which some are gone, and some lacking."""
     source, folder = os.path.join(HERE, "scope", "status"), stage.at("status")
     os.mkdir(folder)
     began = text_at("/proc/self/stat").rpartition(")")[2].split()[19]

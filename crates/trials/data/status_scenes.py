@@ -288,6 +288,13 @@ def cells(stage, path):
     return {line.split()[0]: line.split() for line in lines[at + 1:]}
 
 
+def starting(stage, path):
+    """The labels of the coming starts, and what is told beside them. Of `refused` there is none in the midst of a start."""
+    status, text, error = asked(stage, path, "next")
+    check(status == 0 and text.startswith("As of "), f"next ended with {status}: {text!r}, {error!r}")
+    return {line.split("  ")[1] for line in text.splitlines()[1:]}, error
+
+
 def why_and_status_of_now(stage):
     """A job of each kind, asked of while its launcher lives, and once that was killed."""
     launcher, path = serve(stage, journal="journal")
@@ -325,6 +332,8 @@ def why_and_status_of_now(stage):
     check(status == 2 and failing == ["crashed", "refused", "throttled"], f"failing are {failing}, with status {status}: {text}")
     status, text, error = asked(stage, path, "why", "run")
     check(status == 65 and "nothing here names run; near it: runs" in error, f"of a label that is not there: {status}, {error!r}")
+    coming, error = starting(stage, path)
+    check(coming - {"refused"} == {"throttled"} and " of 8 have no clock" in error, f"coming starts are {coming}, and told is {error!r}")
 
     pids = [job["pid"] for job in told(path)[1].values() if job["pid"]]
     end_process(launcher.pid)
@@ -334,6 +343,7 @@ def why_and_status_of_now(stage):
     rows = cells(stage, path)
     check({row[1] for row in rows.values()} == {"unknown"} and {row[2] for row in rows.values()} == {"-"}, f"rows of a killed launcher: {rows}")
     check(asked(stage, path, "why", "--failing", "runs")[0] == 2, "a job of a killed launcher does not fail")
+    check(starting(stage, path) == (set(), ""), f"of a killed launcher these come: {starting(stage, path)}")
     for pid in pids:
         end_process(pid)
 

@@ -2,6 +2,7 @@
 
 use crate::page::Filling::{Escaped, Moment, Text};
 use crate::page::Page;
+use crate::picture::chart::Chart;
 
 /// A start that the clock will want.
 #[derive(Drop)]
@@ -24,7 +25,8 @@ pub struct Beside<'a> {
     pub coming: &'a [Coming],
 }
 
-/// What stands above the chart.
+/// What stands above the chart. In a window that is narrower than the chart the chart scrolls, and the names of its rows stay at the left: they are a
+/// list over it, by the heights that `svg` gives to what is above the rows (64) and to a row (50).
 pub(crate) const HEAD: &str = "<!DOCTYPE html>
 <html lang=\"en\">
 <head>
@@ -40,7 +42,15 @@ h1 { font-size: 1.5rem; margin: 0 0 0.75rem; }
 h2 { font-size: 1.15rem; margin: 1.75rem 0 0.5rem; }
 p { margin: 0 0 0.5rem; }
 figure, .wide { margin: 0; overflow-x: auto; border: 1px solid var(--rule); border-radius: 6px; }
-figure svg { display: block; width: 100%; min-width: 60rem; height: auto; }
+figure .runs { display: block; width: 100%; height: auto; }
+.names { display: none; }
+@media (max-width: 1060px) {
+  figure { display: grid; }
+  figure .runs { grid-area: 1 / 1; width: 1000px; }
+  .runs .label { visibility: hidden; }
+  .names { display: block; grid-area: 1 / 1; position: sticky; left: 0; justify-self: start; max-width: calc(100vw - 4rem); margin: 0; padding: 64px 0 0 10px; box-sizing: border-box; list-style: none; pointer-events: none; }
+  .names li { height: 50px; overflow: hidden; text-overflow: ellipsis; white-space: nowrap; font: bold 12px/18px ui-monospace, 'DejaVu Sans Mono', Menlo, Consolas, monospace; }
+}
 table { border-collapse: collapse; width: 100%; font-variant-numeric: tabular-nums; }
 th, td { padding: 0.3rem 0.7rem; text-align: right; white-space: nowrap; border-bottom: 1px solid var(--rule); }
 th:first-child, td:first-child, .left td, .left th { text-align: left; }
@@ -58,8 +68,9 @@ pre { margin: 0; padding: 0.75rem; background: var(--soft); border-radius: 6px; 
 <figure>
 ";
 
-/// Adds what stands below the chart. The last text is escaped line by line, so that its newlines stay.
-pub(crate) fn put_rest(page: &mut Page<'_>, beside: &Beside<'_>) {
+/// Adds the names of the chart's rows, and what stands below the chart. The last text is escaped line by line, so that its newlines stay.
+pub(crate) fn put_rest(page: &mut Page<'_>, chart: &Chart, beside: &Beside<'_>) {
+    put_names(page, chart);
     page.ink.put(
         "</figure>\n<h2>What the runs came to</h2>\n<p>Times are in seconds.</p>\n<div class=\"wide\"><table>\n",
     );
@@ -69,6 +80,15 @@ pub(crate) fn put_rest(page: &mut Page<'_>, beside: &Beside<'_>) {
         put_why(page, line);
     }
     page.ink.put("</pre>\n</main>\n</body>\n</html>\n");
+}
+
+// The labels of the rows, in order, which a narrow window shows in the place of those in the chart. A reader of the page aloud passes them over.
+fn put_names(page: &mut Page<'_>, chart: &Chart) {
+    page.ink.put("<ol class=\"names\" aria-hidden=\"true\">\n");
+    for row in &chart.rows {
+        page.add("<li><bdi>$</bdi></li>\n", &[Escaped(row.label.as_str())]);
+    }
+    page.ink.put("</ol>\n");
 }
 
 // A line of why the jobs stand as they do. The label of one that begins with it is isolated.

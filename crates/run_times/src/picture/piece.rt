@@ -30,7 +30,7 @@ pub fn picture_piece(
     put_figure(&mut page, chart, index);
     if index > chart.rows.len() {
         if let Some(beside) = beside {
-            put_rest(&mut page, beside);
+            put_rest(&mut page, chart, beside);
         }
     }
     page.into_text()

@@ -29,7 +29,8 @@ const LABEL: usize = 130;
 /// So many ticks are written at most.
 const MOST_TICKS: u64 = 9;
 
-/// The head: how large it is, its title, its colours, and the span. Its holes are for the height, and the span.
+/// The head: how large it is, its title, its colours, and the span. Its holes are for the height, and the span. Where the image is a document of its own and has
+/// fewer than 700 pixels, it fits in them, and its labels are of twice the size, so that they can be read.
 const OPENING: &str =
     r#"<svg xmlns="http://www.w3.org/2000/svg" class="runs" viewBox="0 0 1000 $0" width="1000" height="$0" role="img">
 <title>Runs from $1 to $2</title>
@@ -52,6 +53,7 @@ const OPENING: &str =
 .runs .demand { fill: var(--lives); }
 .runs .throttle { fill: var(--ground); stroke: var(--code); stroke-width: 1.5; }
 .runs .refusal { fill: none; stroke: var(--crash); stroke-width: 2; }
+@media (max-width: 700px) { svg:root { width: 100%; height: auto; } svg:root .label { font-size: 24px; } }
 </style>
 <rect class="ground" width="1000" height="$0"/>
 <text x="10" y="18">$1 to $2</text>

@@ -140,6 +140,9 @@ fn tell_done(host: &HostRuntime, is_told: bool) {
     }
 }
 
+/// What is told of a file of the package that is read.
+pub(crate) const NONE_NAMED: &str = "read, since no journal is named";
+
 /// The journal of the package.
 const PACKAGED: &str = "/var/lib/jobd/journal.jsonl";
 
@@ -158,11 +161,25 @@ pub(crate) fn journal_paths(host: &HostRuntime, of: &ScopeCommand) -> Result<Pat
         Err(VarError::OutOfMemory) => return Err(AllocError),
         Err(_) => {}
     }
-    if paths.is_empty() && host.stdin().is_terminal() && open_journal(host, PACKAGED).is_ok() {
-        tell_of(host, PACKAGED, &"read, since no journal is named");
+    if paths.is_empty() && stands_in(host, PACKAGED) {
+        tell_of(host, PACKAGED, &NONE_NAMED);
         add_path(host, of, PACKAGED, &mut paths)?;
     }
     Ok(Paths::new(paths))
+}
+
+/// Whether a journal is found where the words name none: that of `JOBD_JOURNAL`, or in the place of a terminal that of the package.
+pub(crate) fn finds_journal(host: &HostRuntime) -> Result<bool, AllocError> {
+    match env::var(host, "JOBD_JOURNAL") {
+        Ok(path) if !path.is_empty() => Ok(true),
+        Err(VarError::OutOfMemory) => Err(AllocError),
+        _ => Ok(stands_in(host, PACKAGED)),
+    }
+}
+
+/// Whether the package's file at the path stands in for a terminal: standard input is one, and the file can be opened.
+pub(crate) fn stands_in(host: &HostRuntime, path: &str) -> bool {
+    host.stdin().is_terminal() && open_journal(host, path).is_ok()
 }
 
 // Adds the path, if it is not empty. Behind the one with `.1`, if that is there, and if what is told of the past is asked for.

@@ -5,13 +5,15 @@ ghost use Rattle.status_page.specs.Rows.{state_word};
 
 use crate::objects::job::{Around, around_file};
 use crate::objects::lines::{end_of, number_of};
+use calendar_due::Zone;
 use json_lines::Value::{Absent, Moment, Number, Text};
 use json_lines::{Field, Value, put_line};
 use launchctl_words::ScopeCommand;
 use run_times::Page;
 use status_file::state_name;
 use status_page::{
-    Next, Row, ShownState, Standing, StartWhen, is_asked, reading_of, row_of, told_as_of,
+    Next, Row, ShownState, Standing, StartWhen, is_asked, reading_of, row_of, second_told,
+    told_as_of,
 };
 use std::alloc::{AllocError, Global};
 
@@ -22,16 +24,29 @@ pub(crate) fn status_objects(
     of: &ScopeCommand,
     second: u64,
 ) -> Result<String, AllocError> {
-    let zone = standing.zone(alloc, of.is_utc)?;
+    let zone = standing.zone(alloc, false)?;
+    let text = objects_in(alloc, standing, of, second, &zone);
+    drop(zone);
+    text
+}
+
+// The objects, by the launcher's zone, in which its jobs' calendars are.
+fn objects_in(
+    alloc: Global,
+    standing: &Standing,
+    of: &ScopeCommand,
+    second: u64,
+    zone: &Zone,
+) -> Result<String, AllocError> {
+    let shown = standing.zone(alloc, of.is_utc)?;
     let at = reading_of(standing);
-    let mut page = Page::new(alloc, &zone, told_as_of(standing, at, second));
+    let mut page = Page::new(alloc, &shown, told_as_of(standing, at, second));
     let around = around_file(standing.life, at);
     for line in standing.jobs() {
         if let Ok(job) = line.job() {
             if is_asked(of.words.as_slice(), job.label) {
                 match line.calendar(alloc) {
                     Ok(entries) => {
-                        let zone = page.zone;
                         let may_live = around.may_live;
                         let row = row_of(&job, entries.as_slice(), zone, may_live, at, second);
                         put_row(&mut page, &row, around);
@@ -43,7 +58,7 @@ pub(crate) fn status_objects(
         }
     }
     let text = page.into_text();
-    drop(zone);
+    drop(shown);
     text
 }
 
@@ -54,7 +69,7 @@ fn put_row(page: &mut Page<'_>, row: &Row<'_>, around: Around) {
         None => None,
     };
     let [code, signal] = end_of(row.last);
-    let (next, waits) = next_of(row.next);
+    let (next, waits) = next_of(row);
     let fields = [
         Field("state", Text(word_of(row.state))),
         Field("pid", number_of(process)),
@@ -81,9 +96,11 @@ fn word_of(state: ShownState) -> &'static str
 }
 
 // When it starts by the clocks alone, also one that has been due since, or what it waits for.
-fn next_of(next: Next) -> (Value<'static>, Value<'static>) {
-    match next {
-        Next::Clock(StartWhen::At(second) | StartWhen::Since(second)) => (Moment(second), Absent),
+fn next_of(row: &Row<'_>) -> (Value<'static>, Value<'static>) {
+    match row.next {
+        Next::Clock(StartWhen::At(second) | StartWhen::Since(second)) => {
+            (Moment(second_told(row.throttle, second)), Absent)
+        }
         Next::Event(what) => (Absent, Text(what)),
         Next::Nothing | Next::Clock(StartWhen::Never) => (Absent, Absent),
     }

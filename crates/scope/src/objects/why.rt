@@ -152,9 +152,23 @@ pub(crate) fn standing_objects(
     of: &ScopeCommand,
     second: u64,
 ) -> Result<(String, u64), AllocError> {
-    let zone = standing.zone(alloc, of.is_utc)?;
+    let zone = standing.zone(alloc, false)?;
+    let objects = objects_in(alloc, standing, of, second, &zone);
+    drop(zone);
+    objects
+}
+
+// The objects, by the launcher's zone, in which its jobs' calendars are.
+fn objects_in(
+    alloc: Global,
+    standing: &Standing,
+    of: &ScopeCommand,
+    second: u64,
+    zone: &Zone,
+) -> Result<(String, u64), AllocError> {
+    let shown = standing.zone(alloc, of.is_utc)?;
     let last = reading_of(standing);
-    let mut page = Page::new(alloc, &zone, told_as_of(standing, last, second));
+    let mut page = Page::new(alloc, &shown, told_as_of(standing, last, second));
     let around = around_file(standing.life, last);
     let clock = gone_on(last, second);
     let mut count: u64 = 0;
@@ -172,18 +186,27 @@ pub(crate) fn standing_objects(
                         is_disabled: job.disabled.is_some(),
                         known: NOTHING,
                     };
-                    put_status(&mut page, line, &job, beside, last, clock, around);
+                    let of_file = ByFile { zone, last, clock };
+                    put_status(&mut page, line, &job, beside, of_file, around);
                 }
                 count = count.saturating_add(u64::from(fault.is_some()));
             }
         }
     }
     let text = page.into_text();
-    drop(zone);
+    drop(shown);
     match text {
         Ok(text) => Ok((text, count)),
         Err(error) => Err(error),
     }
+}
+
+/// A launcher's zone, its last reading, and its clocks as they went on since.
+#[derive(Clone, Copy)]
+struct ByFile<'a> {
+    zone: &'a Zone,
+    last: Reading,
+    clock: Reading,
 }
 
 // Adds the line of a job of a file. Of a launcher that is gone its causes are not told.
@@ -192,8 +215,7 @@ fn put_status(
     line: &StatusLine,
     job: &JobStatus<'_>,
     mut beside: Beside<'_>,
-    last: Reading,
-    clock: Reading,
+    of: ByFile<'_>,
     around: Around,
 ) {
     let record = record_of(&job.note, job.facts.reasons.child);
@@ -204,7 +226,7 @@ fn put_status(
     match line.calendar(page.alloc) {
         Ok(entries) => {
             let entries_of = entries.as_slice();
-            put_standing(page, job, &record, entries_of, beside, last, clock, around);
+            put_standing(page, job, &record, entries_of, beside, of, around);
             drop(entries);
         }
         Err(_) => page.ink.refuse(),
@@ -218,17 +240,15 @@ fn put_standing(
     record: &Record,
     entries: &[Entry],
     beside: Beside<'_>,
-    last: Reading,
-    clock: Reading,
+    of: ByFile<'_>,
     around: Around,
 ) {
-    let zone = page.zone;
-    let told = told_of(page, job, record, entries);
+    let told = told_of(page, of.zone, job, record, entries);
     let of = Clocks {
         entries,
-        zone,
-        last,
-        clock,
+        zone: of.zone,
+        last: of.last,
+        clock: of.clock,
     };
     put_living(page, job.label, &job.facts, &told, beside, of, around);
 }

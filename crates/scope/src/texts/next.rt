@@ -1,13 +1,12 @@
-//! The coming starts of a journal's jobs by the clocks, in the order of time.
+//! The coming starts of a journal's jobs by the clocks.
 
 use crate::age::{AsOf, add_head};
 use crate::journal::reader::OpenJournal;
 use crate::page::interval_end;
+use crate::texts::starts::{ComingLines, Start, Telling, put_starts};
 use calendar_due::Zone;
-use definition_files::{calendar_after, put_start};
-use history_model::MAX_WALL;
+use definition_files::calendar_after;
 use job_defs::Def;
-use run_times::Filling::{Moment, Number, Text};
 use run_times::Page;
 use status_page::{StartWhen, can_start_again, start_when, within_limits};
 use std::alloc::{AllocError, Global};
@@ -18,32 +17,9 @@ pub(crate) struct AskedStarts<'a> {
     /// The zone in which moments are shown.
     pub(crate) zone: &'a Zone,
     pub(crate) as_of: AsOf,
-    /// They come behind this second.
-    pub(crate) now: u64,
-    /// At most so many are told.
-    pub(crate) count: u64,
     /// Each of them, and not the next of each job alone.
     pub(crate) is_all: bool,
-    /// Each as an object of JSON.
-    pub(crate) is_json: bool,
-}
-
-/// The starts, a line each, and how many jobs are loaded and how many of them the clocks never start.
-#[derive(Drop)]
-pub(crate) struct ComingLines {
-    pub(crate) text: String,
-    pub(crate) jobs: u64,
-    pub(crate) clockless: u64,
-}
-
-/// When the clocks start a job next.
-#[derive(Clone, Copy)]
-struct Start<'a> {
-    label: &'a str,
-    def: &'a Def,
-    at: u64,
-    /// Its interval is over then; where false, an entry of its calendar matches, or both clocks together start it.
-    is_interval: bool,
+    pub(crate) telling: Telling,
 }
 
 /// The coming starts of each loaded job.
@@ -75,6 +51,21 @@ pub(crate) fn next_lines(
     }
 }
 
+fn starts_text(
+    alloc: Global,
+    journal: &OpenJournal,
+    of: AskedStarts<'_>,
+    starts: &mut Vec<Start<'_>>,
+) -> Result<String, AllocError> {
+    let last = journal.table.reading();
+    let mut page = Page::new(alloc, of.zone, last);
+    if !of.telling.is_json {
+        add_head(&mut page, of.as_of, last);
+    }
+    put_starts(&mut page, &journal.zone, of.telling, starts);
+    page.into_text()
+}
+
 // Adds the next start of the job: by its calendar and by its interval if all are asked for, and else the sooner one, or that which the table
 // knows of throttle, interval and calendar together.
 fn add_starts<'a>(
@@ -91,120 +82,63 @@ fn add_starts<'a>(
         return Ok(());
     }
     let last = within_limits(journal.table.reading());
-    let calendar = calendar_after(def.calendar(), &journal.zone, of.now);
+    let calendar = calendar_after(def.calendar(), &journal.zone, of.telling.now);
     let interval = interval_end(&journal.table, label, last);
+    let adding = Adding {
+        label,
+        def,
+        is_all: of.is_all,
+    };
     let when = start_when(
         &facts.reasons,
         facts.spawns_from,
         def.calendar(),
         &journal.zone,
         last,
-        of.now,
+        of.telling.now,
     );
     match when {
         StartWhen::At(at) | StartWhen::Since(at) if !of.is_all => {
             let is_interval = interval == Some(at);
-            return push(label, def, Some(at), is_interval, starts);
+            return push(adding, Some(at), is_interval, starts);
         }
         _ => {}
     }
     if of.is_all {
-        push(label, def, calendar, false, starts)?;
-        return push(label, def, interval, true, starts);
+        push(adding, calendar, false, starts)?;
+        return push(adding, interval, true, starts);
     }
     let is_interval = interval.unwrap_or(u64::MAX) < calendar.unwrap_or(u64::MAX);
     let sooner = if is_interval { interval } else { calendar };
-    push(label, def, sooner, is_interval, starts)
+    push(adding, sooner, is_interval, starts)
+}
+
+/// The job whose starts are added.
+#[derive(Clone, Copy)]
+struct Adding<'a> {
+    label: &'a str,
+    def: &'a Def,
+    /// Its starts behind the next one are asked for.
+    is_all: bool,
 }
 
 fn push<'a>(
-    label: &'a str,
-    def: &'a Def,
+    of: Adding<'a>,
     at: Option<u64>,
     is_interval: bool,
     starts: &mut Vec<Start<'a>>,
 ) -> Result<(), AllocError> {
     match at {
         Some(at) => Ok(starts.push(Start {
-            label,
-            def,
+            label: of.label,
             at,
-            is_interval,
+            every: if is_interval {
+                of.def.start_interval()
+            } else {
+                None
+            },
+            def: if of.is_all { Some(of.def) } else { None },
         })?),
         None => Ok(()),
     }
-}
-
-fn starts_text(
-    alloc: Global,
-    journal: &OpenJournal,
-    of: AskedStarts<'_>,
-    starts: &mut Vec<Start<'_>>,
-) -> Result<String, AllocError> {
-    let last = journal.table.reading();
-    let mut page = Page::new(alloc, of.zone, last);
-    if !of.is_json {
-        add_head(&mut page, of.as_of, last);
-    }
-    for _ in 0..of.count {
-        let place = soonest(starts.as_slice());
-        let Some(start) = starts.get_mut(place) else {
-            break;
-        };
-        let every = interval_of(start);
-        if of.is_json {
-            put_start(&mut page, start.label, start.at, of.now, every);
-        } else {
-            add_start(&mut page, start, of.now, every);
-        }
-        start.at = match after(start, &journal.zone) {
-            Some(at) if of.is_all => at,
-            _ => u64::MAX,
-        };
-    }
-    page.into_text()
-}
-
-// The place of the start that comes first, of several the first; the place behind them if none comes.
-fn soonest(starts: &[Start<'_>]) -> usize {
-    let mut found = starts.len();
-    let mut least = u64::MAX;
-    let mut index: usize = 0;
-    for start in starts {
-        if start.at < least {
-            least = start.at;
-            found = index;
-        }
-        index = index.saturating_add(1);
-    }
-    found
-}
-
-// The seconds of the interval that is over then.
-fn interval_of(start: &Start<'_>) -> Option<u32> {
-    if start.is_interval {
-        start.def.start_interval()
-    } else {
-        None
-    }
-}
-
-fn add_start(page: &mut Page<'_>, start: &Start<'_>, now: u64, every: Option<u32>) {
-    page.add("$  $  in ", &[Moment(start.at), Text(start.label)]);
-    let left = start.at.saturating_sub(now).saturating_mul(1000);
-    page.ink.put_span(left, false);
-    if let Some(every) = every {
-        page.add(" (each $ s)", &[Number(u64::from(every))]);
-    }
-    page.ink.put("\n");
-}
-
-// When the same clock starts the job after this start, if the interval begins then.
-fn after(start: &Start<'_>, zone: &Zone) -> Option<u64> {
-    if !start.is_interval {
-        return calendar_after(start.def.calendar(), zone, start.at);
-    }
-    let every = start.def.start_interval()?;
-    let at = start.at.saturating_add(u64::from(every));
-    if at <= MAX_WALL { Some(at) } else { None }
 }

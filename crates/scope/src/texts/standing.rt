@@ -6,6 +6,7 @@ use crate::texts::coming::calendar_next;
 use crate::texts::since::add_coming;
 use crate::texts::told::ToldJob;
 use crate::texts::why::{add_last_end, add_refused, add_stand, facts_then, throttle_shown};
+use calendar_due::Zone;
 use history_model::{Ended, Entry, Reading, StandingChild};
 use run_times::Filling::{Number, Text, Time};
 use run_times::Page;
@@ -25,9 +26,24 @@ pub(crate) fn standing_text(
     is_utc: bool,
     second: u64,
 ) -> Result<String, AllocError> {
-    let zone = standing.zone(alloc, is_utc)?;
+    let zone = standing.zone(alloc, false)?;
+    let text = text_in(alloc, standing, labels, is_utc, second, &zone);
+    drop(zone);
+    text
+}
+
+// The text, by the launcher's zone, in which its jobs' calendars are.
+fn text_in(
+    alloc: Global,
+    standing: &Standing,
+    labels: &[history_model::Text],
+    is_utc: bool,
+    second: u64,
+    zone: &Zone,
+) -> Result<String, AllocError> {
+    let shown = standing.zone(alloc, is_utc)?;
     let last = reading_of(standing);
-    let mut page = Page::new(alloc, &zone, told_as_of(standing, last, second));
+    let mut page = Page::new(alloc, &shown, told_as_of(standing, last, second));
     add_head(&mut page, standing, second);
     if standing.is_empty() {
         page.ink.put("\nNo job is loaded.\n");
@@ -36,18 +52,19 @@ pub(crate) fn standing_text(
     for line in standing.jobs() {
         if let Ok(job) = line.job() {
             if is_asked(labels, job.label) {
-                add_job(&mut page, standing, line, &job, clock);
+                add_job(&mut page, zone, standing, line, &job, clock);
             }
         }
     }
     let text = page.into_text();
-    drop(zone);
+    drop(shown);
     text
 }
 
 // What is told of a job. Of a launcher that is gone its causes are not: they were those of another moment.
 fn add_job(
     page: &mut Page<'_>,
+    zone: &Zone,
     standing: &Standing,
     line: &StatusLine,
     job: &JobStatus<'_>,
@@ -59,6 +76,7 @@ fn add_job(
             Ok(entries) => {
                 add_living(
                     page,
+                    zone,
                     job,
                     &record,
                     entries.as_slice(),
@@ -77,6 +95,7 @@ fn add_job(
 
 fn add_living(
     page: &mut Page<'_>,
+    zone: &Zone,
     job: &JobStatus<'_>,
     record: &Record,
     entries: &[Entry],
@@ -84,19 +103,19 @@ fn add_living(
     clock: Reading,
 ) {
     let facts = &job.facts;
-    let told = told_of(page, job, record, entries);
+    let told = told_of(page, zone, job, record, entries);
     let is_idle = add_stand(page, job.label, facts, &told);
     add_past(page, &job.note, record);
     add_disabled(page, job);
     let last = within_limits(at);
     let end = throttle_shown(&told, facts, last);
-    let zone = page.zone;
     add_coming(page, facts, entries, zone, last, clock, is_idle, end);
 }
 
-/// What is told of a job of a launcher that may live.
+/// What is told of a job of a launcher that may live, whose zone this is.
 pub(crate) fn told_of<'a>(
     page: &Page<'_>,
+    zone: &Zone,
     job: &JobStatus<'a>,
     record: &'a Record,
     entries: &[Entry],
@@ -107,7 +126,7 @@ pub(crate) fn told_of<'a>(
         asked: None,
         job: record,
         keys: job.keys,
-        calendar: calendar_next(entries, page.zone, page.now.wall),
+        calendar: calendar_next(entries, zone, page.now.wall),
     }
 }
 

@@ -1,4 +1,4 @@
-//! Numbers of a line's JSON text.
+//! Numbers of a JSON text.
 
 ghost use Rattle.std.specs.Prelude.{◌≡◌, ◌==◌, ◌<◌, length, slice_index, true, false, Some, option_map, IfSome, IsTrue};
 ghost use Rattle.serde_json.specs.Data.{unsigned as whole};
@@ -64,7 +64,7 @@ fn plain_number(bytes: &[u8]) -> Option<u64>
 }
 
 /// The number that a text of JSON's grammar writes, or None, if it is too large for a float.
-pub(crate) fn number_in(text: &str) -> Option<Number>
+pub fn number_in(text: &str) -> Option<Number>
     ensures { option_map number_view result ≡ number_of text.now }
 {
     let bytes = text.as_bytes();

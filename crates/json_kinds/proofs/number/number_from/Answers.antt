@@ -2,7 +2,7 @@
 use Rattle.std.proofs.Common.{◌≡◌, drop, get_or, true, false, ◌==◌, sym, ap, ◌∙◌, arith, take_all, length-drop}
 use Rattle.fast_float.specs.Text.{scan}
 use Rattle.serde_json.specs.Read.{number_of, number_from}
-use Rattle.ctl_protocol.proofs.number.number_from.Goals as goal
+use Rattle.json_kinds.proofs.number.number_from.Goals as goal
 
 pub returns-then-begins_with : goal.returns-then-begins_with
 unfolding number_of

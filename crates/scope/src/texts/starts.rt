@@ -1,0 +1,94 @@
+//! Coming starts by the clocks, in the order of time: a line each, or an object.
+
+use calendar_due::Zone;
+use definition_files::{calendar_after, put_start};
+use history_model::MAX_WALL;
+use job_defs::Def;
+use run_times::Filling::{Moment, Number, Text};
+use run_times::Page;
+
+/// The starts, a line each, and how many jobs are loaded and how many of them the clocks never start.
+#[derive(Drop)]
+pub(crate) struct ComingLines {
+    pub(crate) text: String,
+    pub(crate) jobs: u64,
+    pub(crate) clockless: u64,
+}
+
+/// When the clocks start a job next.
+#[derive(Clone, Copy)]
+pub(crate) struct Start<'a> {
+    pub(crate) label: &'a str,
+    pub(crate) at: u64,
+    /// Its interval, of so many seconds, is over then; where none, an entry of its calendar matches, or both clocks together start it.
+    pub(crate) every: Option<u32>,
+    /// Its definition, if its starts behind this one are asked for.
+    pub(crate) def: Option<&'a Def>,
+}
+
+/// How starts are told.
+#[derive(Clone, Copy)]
+pub(crate) struct Telling {
+    /// They come behind this second.
+    pub(crate) now: u64,
+    /// At most so many are told.
+    pub(crate) count: u64,
+    /// Each as an object of JSON.
+    pub(crate) is_json: bool,
+}
+
+/// Adds the starts, the soonest first, each followed by the next of the same clock, if its definition is there. The zone is that of the calendars.
+pub(crate) fn put_starts(
+    page: &mut Page<'_>,
+    zone: &Zone,
+    of: Telling,
+    starts: &mut Vec<Start<'_>>,
+) {
+    for _ in 0..of.count {
+        let place = soonest(starts.as_slice());
+        let Some(start) = starts.get_mut(place) else {
+            break;
+        };
+        if of.is_json {
+            put_start(page, start.label, start.at, of.now, start.every);
+        } else {
+            add_start(page, start, of.now);
+        }
+        start.at = after(start, zone).unwrap_or(u64::MAX);
+    }
+}
+
+// The place of the start that comes first, of several the first; the place behind them if none comes.
+fn soonest(starts: &[Start<'_>]) -> usize {
+    let mut found = starts.len();
+    let mut least = u64::MAX;
+    let mut index: usize = 0;
+    for start in starts {
+        if start.at < least {
+            least = start.at;
+            found = index;
+        }
+        index = index.saturating_add(1);
+    }
+    found
+}
+
+fn add_start(page: &mut Page<'_>, start: &Start<'_>, now: u64) {
+    page.add("$  $  in ", &[Moment(start.at), Text(start.label)]);
+    let left = start.at.saturating_sub(now).saturating_mul(1000);
+    page.ink.put_span(left, false);
+    if let Some(every) = start.every {
+        page.add(" (each $ s)", &[Number(u64::from(every))]);
+    }
+    page.ink.put("\n");
+}
+
+// When the same clock starts the job after this start, if the interval begins then.
+fn after(start: &Start<'_>, zone: &Zone) -> Option<u64> {
+    let def = start.def?;
+    let Some(every) = start.every else {
+        return calendar_after(def.calendar(), zone, start.at);
+    };
+    let at = start.at.saturating_add(u64::from(every));
+    if at <= MAX_WALL { Some(at) } else { None }
+}

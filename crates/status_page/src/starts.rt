@@ -1,0 +1,84 @@
+//! Which start `next` tells of a job.
+
+ghost use Rattle.std.specs.Prelude.{◌≡◌, ◌==◌};
+ghost use Rattle.status_page.specs.Starts.{by_calendar, is_over_then, sooner, start_at, start_told};
+
+use crate::clocks::StartWhen;
+use crate::rows::{Next, Row};
+use crate::throttles::{ThrottleEnd, second_told};
+
+/// A start by the clocks.
+#[derive(Clone, Copy)]
+pub struct ToldStart {
+    /// When it comes, or since when it is due, in seconds of Unix time.
+    pub at: u64,
+    /// Its interval is over then; where false, an entry of its calendar matches, or both clocks together start it.
+    pub is_interval: bool,
+}
+
+/// The next start that is told of a job by its launcher's file, if a start can come of it: that of its row, at the second that `status` tells; where its row
+/// has none, the sooner one of the next minute of its calendar and of the end of its interval.
+pub fn start_told(
+    row: &Row<'_>,
+    can_start: bool,
+    calendar: Option<u64>,
+    interval: Option<u64>,
+) -> Option<ToldStart>
+    ensures { result ≡ start_told can_start row.now.next row.now.throttle calendar interval }
+{
+    if !can_start {
+        return None;
+    }
+    match row.next {
+        Next::Clock(StartWhen::At(at) | StartWhen::Since(at)) => {
+            Some(start_at(row.throttle, interval, at))
+        }
+        _ => sooner(calendar, interval),
+    }
+}
+
+// The start at this second, as it is told.
+fn start_at(throttle: Option<ThrottleEnd>, interval: Option<u64>, at: u64) -> ToldStart
+    ensures { result ≡ start_at throttle interval at }
+{
+    ToldStart {
+        at: second_told(throttle, at),
+        is_interval: is_over_then(interval, at),
+    }
+}
+
+fn is_over_then(interval: Option<u64>, at: u64) -> bool
+    ensures { result ≡ is_over_then interval at }
+{
+    match interval {
+        Some(end) => end == at,
+        None => false,
+    }
+}
+
+fn sooner(calendar: Option<u64>, interval: Option<u64>) -> Option<ToldStart>
+    ensures { result ≡ sooner calendar interval }
+{
+    let Some(end) = interval else {
+        return match calendar {
+            Some(minute) => Some(by_calendar(minute)),
+            None => None,
+        };
+    };
+    match calendar {
+        Some(minute) if minute <= end => Some(by_calendar(minute)),
+        _ => Some(ToldStart {
+            at: end,
+            is_interval: true,
+        }),
+    }
+}
+
+fn by_calendar(minute: u64) -> ToldStart
+    ensures { result ≡ by_calendar minute }
+{
+    ToldStart {
+        at: minute,
+        is_interval: false,
+    }
+}
