@@ -1,15 +1,17 @@
 #!/usr/bin/env python3
-"""Keeps tests/wrong_bodies/RESULTS.csv: for each wrong body the tree in which it was last refused, and by what.
+"""Keeps tests/wrong_bodies/RESULTS.csv: for each wrong body the tree in which it was last refused, a sum of what its crate's contracts said there,
+and what refused it.
 
     tests/body_results.py note FILE    notes the lines `refused CRATE/NAME ..` that tests/wrong_bodies.sh wrote into FILE
     tests/body_results.py stale [CRATE..]
                                        lists each wrong body (of these crates) that is to be tried: its crate has other clauses or definitions
-                                       now than in that tree, or no try is noted
+                                       now than when it was tried (another sum), or no try is noted
 
 A body's name is that of its edit, with `.PART` behind it for a part of a joined edit. The status of `stale` is 1 if it lists one.
 """
 import csv
 import glob
+import hashlib
 import os
 import re
 import subprocess
@@ -17,7 +19,7 @@ import sys
 
 TOP = os.path.dirname(os.path.dirname(os.path.abspath(__file__)))
 FILE = f"{TOP}/tests/wrong_bodies/RESULTS.csv"
-COLUMNS = ["crate", "body", "tree", "refused"]
+COLUMNS = ["crate", "body", "tree", "said", "refused"]
 CLAUSE = re.compile(r"\b(?:ensures|requires)\*?\s+(?:\w+\s+)?\{")
 
 
@@ -45,21 +47,14 @@ def clauses(text):
         yield " ".join(text[it.start() : at].split())
 
 
-def said(crate, tree):
-    """All that the contracts of the crate say, in a commit, or in the working tree if `tree` is empty."""
-    folders = [f"crates/{crate}/src", f"crates/{crate}/specs"]
-    names = git("ls-tree", "-r", "--name-only", tree, *folders) if tree else git("ls-files", *folders)
+def said(crate):
+    """A sum of all that the contracts of the crate say."""
     found = []
-    for name in names.split():
-        if tree:
-            text = git("show", f"{tree}:{name}")
-        elif os.path.isfile(f"{TOP}/{name}"):
+    for name in git("ls-files", f"crates/{crate}/src", f"crates/{crate}/specs").split():
+        if os.path.isfile(f"{TOP}/{name}"):
             with open(f"{TOP}/{name}") as it:
-                text = it.read()
-        else:
-            continue
-        found += clauses(text) if name.endswith(".rt") else [text]
-    return sorted(found)
+                found += clauses(it.read()) if name.endswith(".rt") else [it.read()]
+    return hashlib.sha256("\n".join(sorted(found)).encode()).hexdigest()[:12]
 
 
 def noted():
@@ -70,11 +65,13 @@ def noted():
 
 
 def note(path):
-    rows, tree = noted(), git("rev-parse", "--short", "HEAD").strip()
+    rows, tree, now = noted(), git("rev-parse", "--short", "HEAD").strip(), {}
     with open(path) as it:
         for line in it:
             if found := re.match(r"refused (\w+)/(\S+) (?:by )?(.*)", line):
-                rows[found[1], found[2]] = dict(zip(COLUMNS, (found[1], found[2], tree, found[3][:120])))
+                crate = found[1]
+                now[crate] = now.get(crate) or said(crate)
+                rows[crate, found[2]] = dict(zip(COLUMNS, (crate, found[2], tree, now[crate], found[3][:120])))
     there = set(bodies())
     with open(FILE, "w", newline="") as it:
         out = csv.DictWriter(it, COLUMNS, lineterminator="\n")
@@ -84,20 +81,16 @@ def note(path):
 
 
 def stale(crates):
-    rows, now, then, listed = noted(), {}, {}, 0
+    rows, now, listed = noted(), {}, 0
     for crate, body in bodies():
         if crates and crate not in crates:
             continue
-        tree = rows.get((crate, body), {}).get("tree")
-        if tree:
-            if crate not in now:
-                now[crate] = said(crate, "")
-            if (crate, tree) not in then:
-                then[crate, tree] = said(crate, tree)
-            if then[crate, tree] == now[crate]:
-                continue
+        row = rows.get((crate, body))
+        now[crate] = now.get(crate) or said(crate)
+        if row and row["said"] == now[crate]:
+            continue
         listed += 1
-        print(f"{crate}/{body}: {f'other clauses since {tree}' if tree else 'no try is noted'}")
+        print(f"{crate}/{body}: {'other clauses since ' + row['tree'] if row else 'no try is noted'}")
     print(f"{listed} to be tried")
     return 1 if listed else 0
 
