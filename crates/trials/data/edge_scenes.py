@@ -34,6 +34,8 @@ import time
 HERE = os.path.dirname(os.path.abspath(__file__))
 BUILD = os.path.join(HERE, "..", "..", "..", "build")
 BOUND = float(os.environ.get("BOUND", "10"))
+# The reply to a client of the control socket for which there is no place.
+TOO_MANY = "too many clients\n"
 
 
 class Fault(Exception):
@@ -718,7 +720,7 @@ def silent_clients_of_the_control_socket(stage):
     wait_for(lambda: descriptors(launcher.pid) >= before + 60, "64 clients are not held")
     with connect(launcher.path) as client:
         reply = launcher.ask_over(client, {"req": "list"})
-    check(reply["code"] == 0 or reply == {"code": 2, "text": "too many clients\n"}, f"beside 64 half requests one got {reply}")
+    check(reply["code"] == 0 or reply == {"code": 2, "text": TOO_MANY}, f"beside 64 half requests one got {reply}")
     for client in busy:
         client.close()
     wait_for(lambda: descriptors(launcher.pid) <= before, "descriptors are left")
@@ -801,6 +803,13 @@ def half_lines_at_a_low_limit(stage):
     launcher.shut_down()
 
 
+def load_patiently(launcher, definition, code=0):
+    """Loads a job where there is room for few clients: one that was answered and left may have its place still, until the next round."""
+    replies = lambda: launcher.ask({"req": "load", "def": json.dumps(definition)})
+    reply = wait_for(lambda: (it := replies())["text"] != TOO_MANY and it, "no client of the control socket is let in")
+    check(reply["code"] == code, f"load of {definition['Label']} got {reply}")
+
+
 def many_sockets_at_a_low_limit(stage):
     """20 sockets at 64 descriptors leave room for (64 - 32 - 20) / 4 + 1 = 4 connections. Clients of each half-close and leave, again and
     again: each that was let in is served, jobs start and get TERM. A bind that leaves no room is refused, until another job's sockets are given up."""
@@ -825,17 +834,18 @@ def many_sockets_at_a_low_limit(stage):
         wait_for(lambda: call(path, b"hello") == b"hello", f"no client is served at {path}")
     check(not launcher.lines("cannot"), f"it was refused {launcher.lines('cannot')}")
     # 32 sockets leave room for one connection, and 33 for none.
-    launcher.load(sockets_job(stage, "d", 8)[0])
-    launcher.load(sockets_job(stage, "e", 4)[0])
-    launcher.load(sockets_job(stage, "f", 1)[0], 11)
+    load_patiently(launcher, sockets_job(stage, "d", 8)[0])
+    load_patiently(launcher, sockets_job(stage, "e", 4)[0])
+    load_patiently(launcher, sockets_job(stage, "f", 1)[0], 11)
     told = "jobd: f: cannot bind its sockets: too few descriptors are left for clients (ulimit -n)"
     wait_for(lambda: told in launcher.said().splitlines(), lambda: f"it said {launcher.said()!r}")
     check(not os.path.exists(stage.at("f.0")), "a socket of a job that was refused is bound")
     wait_for(lambda: call(paths[0], b"hello") == b"hello", "no client is served where there is room for one")
-    launcher.ask({"req": "unload", "job": "e"})
-    launcher.load(sockets_job(stage, "f", 1)[0])
+    wait_for(lambda: launcher.ask({"req": "unload", "job": "e"})["code"] == 0, "a job is not unloaded")
+    load_patiently(launcher, sockets_job(stage, "f", 1)[0])
     wait_for(lambda: call(stage.at("f.0"), b"hello") == b"hello", "no client of a job that was bound later is served")
-    launcher.shut_down()
+    wait_for(lambda: launcher.ask({"req": "shutdown"})["code"] == 0, "shutdown is refused")
+    check(launcher.ends(BOUND) == 0, f"the launcher ended otherwise: {launcher.said()!r}")
 
 
 def take_descriptors(launcher):
