@@ -5,7 +5,8 @@ and what refused it.
     tests/body_results.py note FILE    notes the lines `refused CRATE/NAME ..` that tests/wrong_bodies.sh wrote into FILE
     tests/body_results.py stale [CRATE..]
                                        lists each wrong body (of these crates) that is to be tried: its crate has other clauses or definitions
-                                       now than when it was tried (another sum), or no try is noted
+                                       now than when it was tried (another sum), or no try is noted; and each that was refused
+                                       elsewhere, at a proof and not at a clause, for which the column `why` has no word. That is written by hand
 
 A body's name is that of its edit, with `.PART` behind it for a part of a joined edit. The status of `stale` is 1 if it lists one.
 """
@@ -19,7 +20,7 @@ import sys
 
 TOP = os.path.dirname(os.path.dirname(os.path.abspath(__file__)))
 FILE = f"{TOP}/tests/wrong_bodies/RESULTS.csv"
-COLUMNS = ["crate", "body", "tree", "said", "refused"]
+COLUMNS = ["crate", "body", "tree", "said", "refused", "why"]
 CLAUSE = re.compile(r"\b(?:ensures|requires)\*?\s+(?:\w+\s+)?\{")
 
 
@@ -64,6 +65,10 @@ def noted():
         return {(row["crate"], row["body"]): row for row in csv.DictReader(it)}
 
 
+def is_elsewhere(refused):
+    return refused.startswith("elsewhere")
+
+
 def note(path):
     rows, tree, now = noted(), git("rev-parse", "--short", "HEAD").strip(), {}
     with open(path) as it:
@@ -71,7 +76,9 @@ def note(path):
             if found := re.match(r"refused (\w+)/(\S+) (?:by )?(.*)", line):
                 crate = found[1]
                 now[crate] = now.get(crate) or said(crate)
-                rows[crate, found[2]] = dict(zip(COLUMNS, (crate, found[2], tree, now[crate], found[3][:120])))
+                was, refused = rows.get((crate, found[2]), {}), found[3][:120]
+                why = was.get("why", "") if is_elsewhere(refused) else ""
+                rows[crate, found[2]] = dict(zip(COLUMNS, (crate, found[2], tree, now[crate], refused, why)))
     there = set(bodies())
     with open(FILE, "w", newline="") as it:
         out = csv.DictWriter(it, COLUMNS, lineterminator="\n")
@@ -87,10 +94,12 @@ def stale(crates):
             continue
         row = rows.get((crate, body))
         now[crate] = now.get(crate) or said(crate)
-        if row and row["said"] == now[crate]:
+        is_tried = row and row["said"] == now[crate]
+        if is_tried and not (is_elsewhere(row["refused"]) and not row["why"]):
             continue
         listed += 1
-        print(f"{crate}/{body}: {'other clauses since ' + row['tree'] if row else 'no try is noted'}")
+        lacks = "refused elsewhere, and nothing says why" if is_tried else f"other clauses since {row['tree']}" if row else "no try is noted"
+        print(f"{crate}/{body}: {lacks}")
     print(f"{listed} to be tried")
     return 1 if listed else 0
 
