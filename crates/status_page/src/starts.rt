@@ -4,7 +4,7 @@ ghost use Rattle.std.specs.Prelude.{◌≡◌, ◌==◌};
 ghost use Rattle.status_page.specs.Starts.{by_calendar, is_over_then, sooner, start_at, start_told};
 
 use crate::clocks::StartWhen;
-use crate::rows::{Next, Row};
+use crate::rows::Next;
 use crate::throttles::{ThrottleEnd, second_told};
 
 /// A start by the clocks.
@@ -16,22 +16,23 @@ pub struct ToldStart {
     pub is_interval: bool,
 }
 
-/// The next start that is told of a job by its launcher's file, if a start can come of it: that of its row, at the second that `status` tells; where its row
-/// has none, the sooner one of the next minute of its calendar and of the end of its interval.
+/// The start that is told next of a job, if a start can come of it: the one by the clocks, at the second that `status` and `why` tell; where there is
+/// none, the sooner one of the next minute of its calendar and of the end of its interval.
 pub fn start_told(
-    row: &Row<'_>,
     can_start: bool,
+    next: Next,
+    throttle: Option<ThrottleEnd>,
     calendar: Option<u64>,
     interval: Option<u64>,
 ) -> Option<ToldStart>
-    ensures { result ≡ start_told can_start row.now.next row.now.throttle calendar interval }
+    ensures { result ≡ start_told can_start next throttle calendar interval }
 {
     if !can_start {
         return None;
     }
-    match row.next {
+    match next {
         Next::Clock(StartWhen::At(at) | StartWhen::Since(at)) => {
-            Some(start_at(row.throttle, interval, at))
+            Some(start_at(throttle, interval, at))
         }
         _ => sooner(calendar, interval),
     }

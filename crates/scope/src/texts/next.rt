@@ -1,14 +1,16 @@
 //! The coming starts of a journal's jobs by the clocks.
 
 use crate::age::{AsOf, add_head};
+use crate::journal::job::KeptJob;
 use crate::journal::reader::OpenJournal;
 use crate::page::interval_end;
+use crate::texts::causes::throttle_of;
 use crate::texts::starts::{ComingLines, Start, Telling, put_starts};
 use calendar_due::Zone;
 use definition_files::calendar_after;
 use job_defs::Def;
 use run_times::Page;
-use status_page::{StartWhen, can_start_again, start_when, within_limits};
+use status_page::{Next, can_start_again, start_told, start_when, within_limits};
 use std::alloc::{AllocError, Global};
 
 /// What is asked of the coming starts.
@@ -34,7 +36,7 @@ pub(crate) fn next_lines(
     for (label, job) in &journal.past.jobs {
         if let Some(def) = &job.def {
             let before = starts.len();
-            add_starts(journal, label.as_str(), def, of, &mut starts)?;
+            add_starts(journal, label.as_str(), job, def, of, &mut starts)?;
             jobs = jobs.saturating_add(1);
             clockless = clockless.saturating_add(u64::from(starts.len() == before));
         }
@@ -66,11 +68,11 @@ fn starts_text(
     page.into_text()
 }
 
-// Adds the next start of the job: by its calendar and by its interval if all are asked for, and else the sooner one, or that which the table
-// knows of throttle, interval and calendar together.
+// Adds the next start of the job, or the next by its calendar and the next by its interval if all are asked for.
 fn add_starts<'a>(
     journal: &OpenJournal,
     label: &'a str,
+    job: &KeptJob,
     def: &'a Def,
     of: AskedStarts<'_>,
     starts: &mut Vec<Start<'a>>,
@@ -78,10 +80,8 @@ fn add_starts<'a>(
     let Some(facts) = journal.facts(label) else {
         return Ok(());
     };
-    if !can_start_again(&facts.reasons) {
-        return Ok(());
-    }
     let last = within_limits(journal.table.reading());
+    let can_start = can_start_again(&facts.reasons);
     let calendar = calendar_after(def.calendar(), &journal.zone, of.telling.now);
     let interval = interval_end(&journal.table, label, last);
     let adding = Adding {
@@ -89,6 +89,13 @@ fn add_starts<'a>(
         def,
         is_all: of.is_all,
     };
+    if of.is_all {
+        if !can_start {
+            return Ok(());
+        }
+        push(adding, calendar, false, starts)?;
+        return push(adding, interval, true, starts);
+    }
     let when = start_when(
         &facts.reasons,
         facts.spawns_from,
@@ -97,20 +104,14 @@ fn add_starts<'a>(
         last,
         of.telling.now,
     );
-    match when {
-        StartWhen::At(at) | StartWhen::Since(at) if !of.is_all => {
-            let is_interval = interval == Some(at);
-            return push(adding, Some(at), is_interval, starts);
-        }
-        _ => {}
+    let throttle = match facts.reasons.throttled_until {
+        Some(up) => Some(throttle_of(&job.record, def.throttle_interval(), up, last)),
+        None => None,
+    };
+    match start_told(can_start, Next::Clock(when), throttle, calendar, interval) {
+        Some(told) => push(adding, Some(told.at), told.is_interval, starts),
+        None => Ok(()),
     }
-    if of.is_all {
-        push(adding, calendar, false, starts)?;
-        return push(adding, interval, true, starts);
-    }
-    let is_interval = interval.unwrap_or(u64::MAX) < calendar.unwrap_or(u64::MAX);
-    let sooner = if is_interval { interval } else { calendar };
-    push(adding, sooner, is_interval, starts)
 }
 
 /// The job whose starts are added.

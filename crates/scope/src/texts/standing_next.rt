@@ -159,5 +159,5 @@ fn told_of(
         Some(up) => Some(coming_second(moments.at, up)),
         None => None,
     };
-    start_told(&row, can_start, calendar, interval)
+    start_told(can_start, row.next, row.throttle, calendar, interval)
 }
