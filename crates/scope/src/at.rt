@@ -9,7 +9,7 @@ use crate::journal::lines::{Hears, JournalLines};
 use crate::journal::source::{open_journal, read_journal, read_source};
 use crate::listener::{JournalListener, zone_shown};
 use crate::window::{WHOLE, meant};
-use history_model::MAX_WALL;
+use history_model::{MAX_WALL, Text};
 use launchctl_words::ScopeCommand;
 use moment_words::Moment;
 use std::alloc::Global;
@@ -57,6 +57,49 @@ struct Cut {
     long: Option<u64>,
 }
 
+/// Those of several journals that are told up to the moment, which is this second: all but those behind that begin later, and the first in each case. The
+/// moment speaks of the last one, as `read_up_to` has it. None, if there is one journal or none, or if the last can't be read: that is told where it is read.
+pub(crate) fn begun_by<'a>(
+    host: &HostRuntime,
+    alloc: Global,
+    paths: &'a [Text],
+    of: &ScopeCommand,
+    moment: Moment,
+    now: Option<u64>,
+) -> Option<(&'a [Text], u64)> {
+    let [_, .., last] = paths else {
+        return None;
+    };
+    let second = match second_of(host, alloc, last.as_str(), of, moment, now) {
+        Ok(second) => second,
+        Err(_) => return None,
+    };
+    let mut told = paths;
+    for _ in 1..paths.len() {
+        match told {
+            [before @ .., last] if begins_behind(host, alloc, last.as_str(), of, second) => {
+                told = before;
+            }
+            _ => return Some((told, second)),
+        }
+    }
+    Some((told, second))
+}
+
+// A journal that can't be read is not told as one that begins later.
+fn begins_behind(
+    host: &HostRuntime,
+    alloc: Global,
+    path: &str,
+    of: &ScopeCommand,
+    second: u64,
+) -> bool {
+    match cut_at(host, alloc, path, of, second) {
+        Ok(cut) => cut.bytes == 0,
+        Err(_) => false,
+    }
+}
+
 /// Reads the journal of the path up to its last event that is not behind the moment, and answers as of when it is told: of the moment, or of the
 /// journal's end if that is before. The moment is as of `now`, or as of the journal's last event if that is none. For this it is read twice, and
 /// once more if its zone or its last event has to be known.
@@ -73,10 +116,7 @@ pub(crate) fn read_up_to(
         return Err(JournalFault::NoFile);
     };
     let of = listener.of;
-    let second = match moment {
-        Moment::Second(second) => second,
-        moment => second_of(host, alloc, path, of, moment, now)?,
-    };
+    let second = second_of(host, alloc, path, of, moment, now)?;
     let cut = cut_at(host, alloc, path, of, second)?;
     read_front_of(host, path, cut.bytes, lines, listener)?;
     match cut.long {
@@ -130,7 +170,7 @@ fn cut_at(
     })
 }
 
-// The second of the moment, by the journal's zone.
+// The second of the moment, by the journal's zone if it is none already.
 fn second_of(
     host: &HostRuntime,
     alloc: Global,
@@ -139,6 +179,9 @@ fn second_of(
     moment: Moment,
     now: Option<u64>,
 ) -> Result<u64, JournalFault> {
+    if let Moment::Second(second) = moment {
+        return Ok(second);
+    }
     let mut finder = finder_of(alloc, of, MAX_WALL);
     let _long = scan(host, alloc, path, &mut finder)?;
     let last = last_second(&finder.listener).min(MAX_WALL);

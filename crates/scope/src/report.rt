@@ -2,7 +2,7 @@
 //! does, also as of a moment before, what its runs came to, and their picture, the definitions that are loaded, and how files differ from them.
 
 use crate::age::{AsOf, clock_as_of, reading_as_of};
-use crate::at::read_up_to;
+use crate::at::{begun_by, read_up_to};
 use crate::by_file::FAILS;
 use crate::charted::{HeardMarks, chart_of};
 use crate::clock::now;
@@ -79,7 +79,7 @@ pub(crate) fn report<W: Wait>(
     status
 }
 
-// Of several journals the last is the present launcher's; each of the others is read whole before.
+// Of several journals the last is the present launcher's; each of the others is read whole before. Up to a moment those that begin behind it are left out.
 fn report_on<W: Wait>(
     host: &HostRuntime,
     waits: &W,
@@ -88,6 +88,7 @@ fn report_on<W: Wait>(
     lines: &mut JournalLines,
     listener: &mut JournalListener<'_>,
 ) -> io::Result<u8> {
+    let paths = up_to_moment(host, alloc, paths, listener);
     let [before @ .., last] = paths else {
         return if host.stdin().is_terminal() {
             tell_of(host, INPUT, &NOT_NAMED);
@@ -106,6 +107,26 @@ fn report_on<W: Wait>(
     match told {
         Ok(told) => Ok(told.max(status)),
         Err(error) => Err(error),
+    }
+}
+
+// The journals that are told up to the moment of the words, if there is one; it is a second then.
+fn up_to_moment<'a>(
+    host: &HostRuntime,
+    alloc: Global,
+    paths: &'a [Text],
+    listener: &mut JournalListener<'_>,
+) -> &'a [Text] {
+    let of = listener.of;
+    let Some((moment, now)) = listener.window.end(of.task) else {
+        return paths;
+    };
+    match begun_by(host, alloc, paths, of, moment, now) {
+        Some((told, second)) => {
+            listener.window = listener.window.up_to(second);
+            told
+        }
+        None => paths,
     }
 }
 
@@ -173,16 +194,8 @@ fn read_as_of(
     listener: &mut JournalListener<'_>,
 ) -> Result<AsOf, JournalFault> {
     let of = listener.of;
-    let window = listener.window;
-    match (window.at, window.until, of.task) {
-        (Some(moment), _, _) => {
-            return read_up_to(host, alloc, path, moment, None, lines, listener);
-        }
-        (None, Some(moment), Task::Runs | Task::Picture) => {
-            let now = Some(window.now);
-            return read_up_to(host, alloc, path, moment, now, lines, listener);
-        }
-        _ => {}
+    if let Some((moment, now)) = listener.window.end(of.task) {
+        return read_up_to(host, alloc, path, moment, now, lines, listener);
     }
     match (read_journal(host, path, is_quiet, lines, listener), of.task) {
         (Ok(()), Task::Why | Task::Next) => seen_now(host, alloc, path, of),

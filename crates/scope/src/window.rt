@@ -5,16 +5,16 @@ use crate::journal::fault::JournalFault;
 use calendar_due::Zone;
 use exit_status::{BAD_CLOCK, USAGE};
 use history_model::{MAX_WALL, Text};
-use launchctl_words::ScopeCommand;
+use launchctl_words::{ScopeCommand, Task};
 use moment_words::{Moment, WANTED, read_moment, second_of};
 
 /// The moments of the words.
 #[derive(Clone, Copy)]
 pub(crate) struct Window {
     /// That which is asked of.
-    pub(crate) at: Option<Moment>,
+    at: Option<Moment>,
     since: Option<Moment>,
-    pub(crate) until: Option<Moment>,
+    until: Option<Moment>,
     /// The second that is now, of which those of `since` and `until` speak.
     pub(crate) now: u64,
 }
@@ -71,6 +71,25 @@ fn moment_of(host: &HostRuntime, option: &str, text: &Option<Text>) -> Result<Op
 }
 
 impl Window {
+    /// The moment behind which a journal is not read for the task, if there is one, and the second that is now for it: where that is none, the one
+    /// of the journal's last event.
+    pub(crate) fn end(&self, task: Task) -> Option<(Moment, Option<u64>)> {
+        match (self.at, self.until, task) {
+            (Some(moment), _, _) => Some((moment, None)),
+            (None, Some(moment), Task::Runs | Task::Picture) => Some((moment, Some(self.now))),
+            _ => None,
+        }
+    }
+
+    /// The same window, but that this second is its end.
+    pub(crate) fn up_to(self, second: u64) -> Window {
+        let end = Some(Moment::Second(second));
+        match self.at {
+            Some(_) => Window { at: end, ..self },
+            None => Window { until: end, ..self },
+        }
+    }
+
     /// The seconds that it means by the zone.
     pub(crate) fn told(&self, zone: &Zone) -> Result<Told, JournalFault> {
         let since = self.second(self.since, zone, 0)?;
