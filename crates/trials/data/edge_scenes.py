@@ -225,9 +225,13 @@ class Launcher:
             raise Fault(f"the launcher does not end in {bound:.0f} s; it said {self.said()!r}") from None
 
     def ask_over(self, client, request, bound=BOUND):
+        """The reply to the request, or to a client that is turned away, perhaps before its line is sent."""
         client.settimeout(bound)
         try:
-            client.sendall(json.dumps(request).encode() + b"\n")
+            try:
+                client.sendall(json.dumps(request).encode() + b"\n")
+            except (BrokenPipeError, ConnectionResetError):
+                pass
             line = read_line(client)
         except TimeoutError:
             raise Fault(f"no answer to {request['req']} in {bound:.0f} s") from None
@@ -794,7 +798,8 @@ def half_lines_at_a_low_limit(stage):
             pass
     # They are silent from the next round on. Until then whoever comes may be told that there are too many, and let go before its line is sent.
     wait_for(lambda: has_answer(launcher), "beside 60 half lines list is refused")
-    launcher.load(shell_job("lasting", "exec sleep 1000", RunAtLoad=True, StandardOutPath=stage.at("out"), StandardErrorPath=stage.at("err")))
+    lasting = shell_job("lasting", "exec sleep 1000", RunAtLoad=True, StandardOutPath=stage.at("out"), StandardErrorPath=stage.at("err"))
+    load_patiently(launcher, lasting)
     launcher.tells("lasting", "pid = ")
     launcher.ask({"req": "stop", "job": "lasting"})
     launcher.tells("lasting", "last exit = signal 15")
