@@ -674,27 +674,21 @@ def closed_standard_streams(stage):
 
 
 def pipelined_settings(stage):
-    """A client sends 300 settings at once: another one is answered after some of them, and not after all."""
+    """A client sends 300 settings at once: another one, which asks as often, is answered after some of them, and not after all."""
     launcher = stage.serve(journal="journal")
     greedy, honest = connect(launcher.path, 3 * BOUND), connect(launcher.path, 3 * BOUND)
-    line = json.dumps({"req": "disable", "job": "x"}).encode() + b"\n"
-    left = [300]
-    text = line * left[0]
-
-    def read():
-        while left[0] > 0:
-            piece = greedy.recv(65536)
-            if not piece:
-                return
-            left[0] -= piece.count(b"\n")
-
-    reader = threading.Thread(target=read, daemon=True)
-    greedy.sendall(text)
-    reader.start()
-    while left[0] > 0 and reader.is_alive():
-        launcher.ask_over(honest, {"req": "list"}, 3 * BOUND)
-    reader.join(3 * BOUND)
-    check(left[0] <= 0, f"{left[0]} of the settings were not answered")
+    # It is stopped meanwhile: else it may be done with the settings before the other one asks.
+    os.kill(launcher.pid, signal.SIGSTOP)
+    greedy.sendall(b'{"req":"disable","job":"x"}\n' * 300)
+    honest.sendall(b'{"req":"list"}\n' * 300)
+    os.kill(launcher.pid, signal.SIGCONT)
+    for client in (greedy, honest):
+        left = 300
+        while left > 0:
+            piece = client.recv(65536)
+            check(piece, f"{left} of the requests were not answered")
+            left -= piece.count(b"\n")
+        client.close()
     launcher.shut_down()
     gaps, run = [], 0
     for event in text_at(stage.at("journal")).splitlines()[1:]:
