@@ -603,10 +603,11 @@ def another_ones_socket(stage):
     others = []
     with connect(launcher.path) as client:
         for path in (stage.at("cat"), stage.at("socket")):
-            os.remove(path)
             other = socket.socket(socket.AF_UNIX)
-            other.bind(path)
+            other.bind(stage.at("other"))
             other.listen(1)
+            # In one step: where the control socket is gone, the launcher may make it again.
+            os.replace(stage.at("other"), path)
             others.append(other)
         reply = launcher.ask_over(client, {"req": "unload", "job": "cat"})
         check(reply["code"] == 0, f"unload got {reply}")
@@ -663,7 +664,8 @@ def closed_standard_streams(stage):
     for number, closed in enumerate(("<&-", ">&-", "2>&-", "<&- >&- 2>&-")):
         places = {"socket": f"socket{number}", "store": f"store{number}", "journal": f"journal{number}"}
         launcher = stage.start(shell=f"exec {closed}", **places)
-        wait_for(lambda: os.path.exists(launcher.path), f"no socket with {closed}")
+        # Whoever comes before the socket is private is closed.
+        wait_for(lambda: has_answer(launcher), f"no answer with {closed}")
         launcher.load({"Label": "missing", "ProgramArguments": ["/no/such/program"], "RunAtLoad": True})
         launcher.tells("missing", "runs = 1")
         launcher.shut_down()
