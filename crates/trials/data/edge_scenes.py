@@ -863,7 +863,7 @@ def take_descriptors(launcher):
 
 def a_start_with_no_descriptor_left(stage):
     """No descriptor is left: a path is looked at, a job starts with its streams, and gets TERM, by what is held back for them."""
-    launcher = stage.serve()
+    launcher = stage.serve(journal="journal")
     limits = resource.prlimit(launcher.pid, resource.RLIMIT_NOFILE)
     with connect(launcher.path) as client:
         ask = lambda request: launcher.ask_over(client, request)
@@ -883,7 +883,7 @@ def a_start_with_no_descriptor_left(stage):
             check("last exit = signal 15" in shown(), f"it ended otherwise: {shown()!r}")
             check(ask({"req": "start", "job": "lasting"})["code"] == 0, "start refused")
         # The launcher saw it absent before.
-        time.sleep(1.5)
+        wait_for(lambda: f'"path":"{stage.at("path")}"' in text_at(stage.at("journal")), "a path that is absent is not looked at")
         make(stage.at("path"))
         wait_for(lambda: text_at(stage.at("watched")), lambda: f"a path that comes starts nothing: {launcher.said()!r}")
         check(launcher.said() == "", f"it said {launcher.said()!r}")
