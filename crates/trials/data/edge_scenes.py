@@ -111,6 +111,11 @@ def look_outs(pid):
     return [child for child in children_of(pid) if text_at(f"/proc/{child}/cmdline").startswith("jobd-look-out")]
 
 
+def kept_shells(launcher):
+    """The shell that gives TERM, if one is kept."""
+    return [pid for pid in children_of(launcher.pid) if "while read" in text_at(f"/proc/{pid}/cmdline")]
+
+
 def descriptors(pid):
     """How many are open, but for those of the launcher's look-outs: one each."""
     return len(os.listdir(f"/proc/{pid}/fd")) - len(look_outs(pid))
@@ -1408,13 +1413,21 @@ def a_shell_for_one_term(stage):
     around = {"LD_DEBUG": "files", "LD_DEBUG_OUTPUT": stage.at("opened"), "BASH_FUNC_kill%%": "() { return 1; }"}
     launcher = stage.serve(env=around)
     for label in ("first", "second"):
-        launcher.load({"Label": label, "ProgramArguments": ["/bin/sleep", "1000"], "RunAtLoad": True})
+        launcher.load({"Label": label, "ProgramArguments": ["/bin/sleep", "1000"], "RunAtLoad": True, "ThrottleInterval": 0})
         launcher.tells(label, "pid = ")
-    kept = lambda: [pid for pid in children_of(launcher.pid) if "while read" in text_at(f"/proc/{pid}/cmdline")]
+    kept = lambda: kept_shells(launcher)
     check(not kept(), "a shell is kept before the first TERM")
-    launcher.ask({"req": "stop", "job": "first"})
-    launcher.tells("first", "last exit = signal 15")
-    shells = kept()
+
+    def after_a_term():
+        launcher.ask({"req": "stop", "job": "first"})
+        launcher.tells("first", "last exit = signal 15")
+        shells = kept()
+        if not shells:
+            # Its answer took half a second, so it was given up: the next TERM begins another.
+            launcher.ask({"req": "start", "job": "first"})
+        return shells
+
+    shells = wait_for(after_a_term, "no shell is kept")
     check(len(shells) == 1, f"kept shells: {shells}")
     opened = lambda: {name for name in os.listdir(stage.folder) if name.startswith("opened.")}
     before = opened()
