@@ -4,6 +4,7 @@
 """
 import json
 import os
+import random
 import re
 import signal
 import socket
@@ -90,8 +91,8 @@ def listening(path):
 
 
 def node_of():
-    """An address of this machine that no other run of the scenes has."""
-    number = os.getpid() % (1 << 22)
+    """An address of this machine that no other scene has, nor one of another run, whose process may have the same number as this one."""
+    number = random.randrange(1 << 22)
     return f"127.{64 + (number >> 16)}.{number >> 8 & 255}.{number & 255}"
 
 
