@@ -156,7 +156,7 @@ def expect(stage, words, behaves=ANSWERS, replies="", status=0, asked="", printe
 
 
 def read_terminal(terminal):
-    """All that a terminal was told that nobody else has open any more: it gives a line at a time, and an error at the end."""
+    """All that a terminal was told that nobody else has open any more. It may come in pieces, and an error is its end."""
     text = b""
     while True:
         try:
