@@ -155,6 +155,19 @@ def expect(stage, words, behaves=ANSWERS, replies="", status=0, asked="", printe
     check(is_told, f"{of} tells {lines} and not {fronts}")
 
 
+def read_terminal(terminal):
+    """All that a terminal was told that nobody else has open any more. It may come in pieces, and an error is its end."""
+    text = b""
+    while True:
+        try:
+            piece = os.read(terminal, 65536)
+        except OSError:
+            return text
+        if not piece:
+            return text
+        text += piece
+
+
 # ---- the scenes
 
 def each_command_makes_its_request(stage):
@@ -416,7 +429,7 @@ def a_terminal_is_told_what_says_where(stage):
         terminal, ours = pty.openpty()
         seen = run(stage, ["load", "@/bad.json"], replies=replies, errors=ours)
         os.close(ours)
-        told = os.read(terminal, 65536).decode().replace("\r\n", "\n")
+        told = read_terminal(terminal).decode().replace("\r\n", "\n")
         os.close(terminal)
         check((seen.status, told) == (json.loads(replies)["code"], wanted), f"a terminal is told {told!r}, with {seen.status}")
     expect(stage, ["load", "@/bad.json"], replies=faulty, asked=load(FILES["bad.json"]), status=8, told=[refusal.strip()])

@@ -111,6 +111,11 @@ def look_outs(pid):
     return [child for child in children_of(pid) if text_at(f"/proc/{child}/cmdline").startswith("jobd-look-out")]
 
 
+def kept_shells(launcher):
+    """The shell that gives TERM, if one is kept."""
+    return [pid for pid in children_of(launcher.pid) if "while read" in text_at(f"/proc/{pid}/cmdline")]
+
+
 def descriptors(pid):
     """How many are open, but for those of the launcher's look-outs: one each."""
     return len(os.listdir(f"/proc/{pid}/fd")) - len(look_outs(pid))
@@ -225,9 +230,13 @@ class Launcher:
             raise Fault(f"the launcher does not end in {bound:.0f} s; it said {self.said()!r}") from None
 
     def ask_over(self, client, request, bound=BOUND):
+        """The reply to the request, or to a client that is turned away, perhaps before its line is sent."""
         client.settimeout(bound)
         try:
-            client.sendall(json.dumps(request).encode() + b"\n")
+            try:
+                client.sendall(json.dumps(request).encode() + b"\n")
+            except (BrokenPipeError, ConnectionResetError):
+                pass
             line = read_line(client)
         except TimeoutError:
             raise Fault(f"no answer to {request['req']} in {bound:.0f} s") from None
@@ -410,10 +419,10 @@ def a_client_still_for_a_minute(stage):
     """A client that takes nothing of its reply is let go after a minute, with both files, and not before; one that takes is served meanwhile."""
     launcher = stage.serve()
     launcher.load(socket_job(stage, "big", ["/bin/sh", "-c", "exec head -c 400000 /dev/zero"]))
+    begun = time.monotonic()
     with begin(stage.at("big")) as still:
         launcher.tells("big", "runs = 1")
         launcher.tells("big", "last exit = code 0")
-        begun = time.monotonic()
         names = sorted(name for name in os.listdir(stage.at("spool")) if name.endswith((".request", ".reply")))
         check(len(names) == 2, f"one client holds the files {names}")
         got = len(call(stage.at("big")))
@@ -421,7 +430,7 @@ def a_client_still_for_a_minute(stage):
         text = "jobd: big: a client was let go: it took nothing of its reply for a minute"
         wait_for(lambda: text in launcher.said().splitlines(), lambda: f"after 70 s it said {launcher.said()!r}", 70)
         took = time.monotonic() - begun
-        check(took > 55, f"it is let go after {took:.0f} s")
+        check(took > 59, f"it is let go after {took:.0f} s")
         check(launcher.said() == text + "\n", f"it said {launcher.said()!r}")
         left = [name for name in os.listdir(stage.at("spool")) if name.endswith((".request", ".reply"))]
         check(not left, f"of a client that was let go are left {left}")
@@ -599,10 +608,11 @@ def another_ones_socket(stage):
     others = []
     with connect(launcher.path) as client:
         for path in (stage.at("cat"), stage.at("socket")):
-            os.remove(path)
             other = socket.socket(socket.AF_UNIX)
-            other.bind(path)
+            other.bind(stage.at("other"))
             other.listen(1)
+            # In one step: where the control socket is gone, the launcher may make it again.
+            os.replace(stage.at("other"), path)
             others.append(other)
         reply = launcher.ask_over(client, {"req": "unload", "job": "cat"})
         check(reply["code"] == 0, f"unload got {reply}")
@@ -659,7 +669,8 @@ def closed_standard_streams(stage):
     for number, closed in enumerate(("<&-", ">&-", "2>&-", "<&- >&- 2>&-")):
         places = {"socket": f"socket{number}", "store": f"store{number}", "journal": f"journal{number}"}
         launcher = stage.start(shell=f"exec {closed}", **places)
-        wait_for(lambda: os.path.exists(launcher.path), f"no socket with {closed}")
+        # Whoever comes before the socket is private is closed.
+        wait_for(lambda: has_answer(launcher), f"no answer with {closed}")
         launcher.load({"Label": "missing", "ProgramArguments": ["/no/such/program"], "RunAtLoad": True})
         launcher.tells("missing", "runs = 1")
         launcher.shut_down()
@@ -670,27 +681,21 @@ def closed_standard_streams(stage):
 
 
 def pipelined_settings(stage):
-    """A client sends 300 settings at once: another one is answered after some of them, and not after all."""
+    """A client sends 300 settings at once: another one, which asks as often, is answered after some of them, and not after all."""
     launcher = stage.serve(journal="journal")
     greedy, honest = connect(launcher.path, 3 * BOUND), connect(launcher.path, 3 * BOUND)
-    line = json.dumps({"req": "disable", "job": "x"}).encode() + b"\n"
-    left = [300]
-    text = line * left[0]
-
-    def read():
-        while left[0] > 0:
-            piece = greedy.recv(65536)
-            if not piece:
-                return
-            left[0] -= piece.count(b"\n")
-
-    reader = threading.Thread(target=read, daemon=True)
-    greedy.sendall(text)
-    reader.start()
-    while left[0] > 0 and reader.is_alive():
-        launcher.ask_over(honest, {"req": "list"}, 3 * BOUND)
-    reader.join(3 * BOUND)
-    check(left[0] <= 0, f"{left[0]} of the settings were not answered")
+    # It is stopped meanwhile: else it may be done with the settings before the other one asks.
+    os.kill(launcher.pid, signal.SIGSTOP)
+    greedy.sendall(b'{"req":"disable","job":"x"}\n' * 300)
+    honest.sendall(b'{"req":"list"}\n' * 300)
+    os.kill(launcher.pid, signal.SIGCONT)
+    for client in (greedy, honest):
+        left = 300
+        while left > 0:
+            piece = client.recv(65536)
+            check(piece, f"{left} of the requests were not answered")
+            left -= piece.count(b"\n")
+        client.close()
     launcher.shut_down()
     gaps, run = [], 0
     for event in text_at(stage.at("journal")).splitlines()[1:]:
@@ -794,7 +799,8 @@ def half_lines_at_a_low_limit(stage):
             pass
     # They are silent from the next round on. Until then whoever comes may be told that there are too many, and let go before its line is sent.
     wait_for(lambda: has_answer(launcher), "beside 60 half lines list is refused")
-    launcher.load(shell_job("lasting", "exec sleep 1000", RunAtLoad=True, StandardOutPath=stage.at("out"), StandardErrorPath=stage.at("err")))
+    lasting = shell_job("lasting", "exec sleep 1000", RunAtLoad=True, StandardOutPath=stage.at("out"), StandardErrorPath=stage.at("err"))
+    load_patiently(launcher, lasting)
     launcher.tells("lasting", "pid = ")
     launcher.ask({"req": "stop", "job": "lasting"})
     launcher.tells("lasting", "last exit = signal 15")
@@ -862,7 +868,7 @@ def take_descriptors(launcher):
 
 def a_start_with_no_descriptor_left(stage):
     """No descriptor is left: a path is looked at, a job starts with its streams, and gets TERM, by what is held back for them."""
-    launcher = stage.serve()
+    launcher = stage.serve(journal="journal")
     limits = resource.prlimit(launcher.pid, resource.RLIMIT_NOFILE)
     with connect(launcher.path) as client:
         ask = lambda request: launcher.ask_over(client, request)
@@ -882,7 +888,7 @@ def a_start_with_no_descriptor_left(stage):
             check("last exit = signal 15" in shown(), f"it ended otherwise: {shown()!r}")
             check(ask({"req": "start", "job": "lasting"})["code"] == 0, "start refused")
         # The launcher saw it absent before.
-        time.sleep(1.5)
+        wait_for(lambda: f'"path":"{stage.at("path")}"' in text_at(stage.at("journal")), "a path that is absent is not looked at")
         make(stage.at("path"))
         wait_for(lambda: text_at(stage.at("watched")), lambda: f"a path that comes starts nothing: {launcher.said()!r}")
         check(launcher.said() == "", f"it said {launcher.said()!r}")
@@ -1086,7 +1092,7 @@ def settings_of_the_first_version(stage):
 
     write(FIRST_VERSION)
     has("a\tdisabled\t0\nb\tenabled\t0\n", "of the first version")
-    launcher, before = stage.serve(journal="journal"), int(time.time())
+    before, launcher = int(time.time()), stage.serve(journal="journal")
     check(launcher.ask({"req": "enable", "job": "a"})["code"] == 0, "enable refused")
     launcher.shut_down()
     events = [json.loads(line) for line in text_at(stage.at("journal")).splitlines()]
@@ -1407,13 +1413,21 @@ def a_shell_for_one_term(stage):
     around = {"LD_DEBUG": "files", "LD_DEBUG_OUTPUT": stage.at("opened"), "BASH_FUNC_kill%%": "() { return 1; }"}
     launcher = stage.serve(env=around)
     for label in ("first", "second"):
-        launcher.load({"Label": label, "ProgramArguments": ["/bin/sleep", "1000"], "RunAtLoad": True})
+        launcher.load({"Label": label, "ProgramArguments": ["/bin/sleep", "1000"], "RunAtLoad": True, "ThrottleInterval": 0})
         launcher.tells(label, "pid = ")
-    kept = lambda: [pid for pid in children_of(launcher.pid) if "while read" in text_at(f"/proc/{pid}/cmdline")]
+    kept = lambda: kept_shells(launcher)
     check(not kept(), "a shell is kept before the first TERM")
-    launcher.ask({"req": "stop", "job": "first"})
-    launcher.tells("first", "last exit = signal 15")
-    shells = kept()
+
+    def after_a_term():
+        launcher.ask({"req": "stop", "job": "first"})
+        launcher.tells("first", "last exit = signal 15")
+        shells = kept()
+        if not shells:
+            # Its answer took half a second, so it was given up: the next TERM begins another.
+            launcher.ask({"req": "start", "job": "first"})
+        return shells
+
+    shells = wait_for(after_a_term, "no shell is kept")
     check(len(shells) == 1, f"kept shells: {shells}")
     opened = lambda: {name for name in os.listdir(stage.folder) if name.startswith("opened.")}
     before = opened()

@@ -69,7 +69,7 @@ class Honest:
 def paths_and_logs_without_an_answer(stage):
     """64 watched paths and 34 logs get no answer, 14 of jobs that are due at once: a client is answered meanwhile, a child's end is seen, a run
     is stopped, and what was asked comes about once there are answers again."""
-    launcher = stage.serve()
+    launcher = stage.serve(journal="journal")
     watched = [stage.at(f"watched{at}") for at in range(64)]
     launcher.load(shell_job("watcher", f"echo seen >> {stage.at('seen')}", WatchPaths=watched, ThrottleInterval=0))
     launcher.load(shell_job("ends", f"until test -e {stage.at('go')}; do sleep 0.05; done", RunAtLoad=True))
@@ -81,7 +81,9 @@ def paths_and_logs_without_an_answer(stage):
     for label in ("ends", "stopped"):
         launcher.tells(label, "state = running")
     time.sleep(1.5)
-    check(len(look_outs(launcher.pid)) == 2, f"there are {len(look_outs(launcher.pid))} look-outs, not one for looks and one for starts")
+    wait_for(lambda: f'"path":"{watched[7]}"' in text_at(stage.at("journal")), "a path that is absent is not looked at")
+    there = lambda: f"there are {len(look_outs(launcher.pid))} look-outs, not one for looks and one for starts"
+    wait_for(lambda: len(look_outs(launcher.pid)) == 2, there)
     withheld, honest = Withheld(launcher), Honest(launcher)
     try:
         make(watched[7], "changed")
@@ -93,13 +95,13 @@ def paths_and_logs_without_an_answer(stage):
         launcher.tells("stopped", "last exit = signal 15")
         wait_for(lambda: launcher.lines("log0: run 1: "), "the start without an answer is not told")
         wait_for(lambda: launcher.lines("cannot look at "), "the path without an answer is not told")
+        wait_for(lambda: len(honest.times) >= 5, lambda: f"only {len(honest.times)} lists were answered")
     finally:
         withheld.end()
         times = honest.end()
     for line in launcher.lines("log0: run 1: ") + launcher.lines("cannot look at "):
         check(line.endswith("no answer"), f"of what got no answer it tells {line!r}")
     check(times[-1] < BOUND / 2, f"a list took {times[-1]:.2f} s")
-    check(len(times) >= 5, f"only {len(times)} lists were answered")
     wait_for(lambda: text_at(stage.at("seen")), "the path's change is not seen once there are answers", 2 * BOUND)
     for at in range(20):
         log = stage.at(f"log{at}")

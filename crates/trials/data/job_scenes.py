@@ -4,6 +4,7 @@
 """
 import json
 import os
+import random
 import re
 import signal
 import socket
@@ -11,8 +12,8 @@ import stat
 import time
 
 from edge_scenes import (
-    BOUND, begin, bytes_at, call, check, connect, descriptors, end_process, gated_job, make, read_all, requests_in, shell_job,
-    socket_job, text_at, wait_for,
+    BOUND, begin, bytes_at, call, check, connect, descriptors, end_process, gated_job, kept_shells, make, read_all, requests_in,
+    shell_job, socket_job, text_at, wait_for,
 )
 
 ABSENT = "No such file or directory (os error 2)"
@@ -63,12 +64,11 @@ def unload(launcher, label):
 
 
 def at_rest(launcher):
-    """How many descriptors the launcher has open while no client comes or goes."""
-    counts = []
-    for _ in range(10):
-        counts.append(descriptors(launcher.pid))
-        time.sleep(0.01)
-    return min(counts)
+    """How many descriptors the launcher has open while no client comes or goes. Those that left before are gone at the second answer to one."""
+    with connect(launcher.path) as client:
+        for _ in range(2):
+            launcher.ask_over(client, {"req": "list"})
+        return descriptors(launcher.pid) - 1
 
 
 def as_before(launcher, before, why):
@@ -91,8 +91,8 @@ def listening(path):
 
 
 def node_of():
-    """An address of this machine that no other run of the scenes has."""
-    number = os.getpid() % (1 << 22)
+    """An address of this machine that no other scene has, nor one of another run, whose process may have the same number as this one."""
+    number = random.randrange(1 << 22)
     return f"127.{64 + (number >> 16)}.{number >> 8 & 255}.{number & 255}"
 
 
@@ -340,10 +340,15 @@ def sockets_of_a_job(stage):
     who wait are let go, and the sockets, spool files and descriptors go."""
     launcher = stage.serve(shell="umask 022")
     at = stage.at
-    # The shell that gives TERM is kept from the first TERM on.
-    launcher.load(shell_job("mild", "exec sleep 1000", RunAtLoad=True))
-    launcher.tells("mild", "state = running")
-    unload(launcher, "mild")
+
+    def has_shell():
+        launcher.load(shell_job("mild", "exec sleep 1000", RunAtLoad=True))
+        launcher.tells("mild", "state = running")
+        unload(launcher, "mild")
+        return kept_shells(launcher)
+
+    # The shell that gives TERM is kept from the first TERM on, unless its answer takes half a second.
+    wait_for(has_shell, "no shell is kept")
     before = at_rest(launcher)
     job = gated_job(stage, "a")
     job["ProgramArguments"][2] = f"until [ -e {at('go')} ]; do sleep 0.02; done; cat; echo $0"
@@ -357,11 +362,12 @@ def sockets_of_a_job(stage):
     first = begin(at("s0"), b"hello ")
     wait_for(lambda: runs_of(launcher, "a") == 1, "the job does not start")
     last = begin(at("s7"), b"more ")
-    wait_for(lambda: len(spooled(stage, "request")) == 2, lambda: f"the spool has {spooled(stage)}")
+    # The reply's file is made once the request is written.
+    wait_for(lambda: len(spooled(stage, "reply")) == 2, lambda: f"the spool has {spooled(stage)}")
+    check(len(spooled(stage, "request")) == 2, f"the spool has {spooled(stage)}")
     texts = sorted(text_at(at(f"spool/{name}")) for name in spooled(stage, "request"))
     check(texts == ["hello ", "more "], f"the requests are spooled as {texts}")
     check({mode_of(at(f"spool/{name}")) for name in spooled(stage)} == {0o600}, "others may read the spool's files")
-    check(len(spooled(stage, "reply")) == 2, f"the spool has {spooled(stage)}")
     make(at("go"))
     got = (read_all(first), read_all(last))
     check(got == (b"hello /bin/sh\n", b"more /bin/sh\n"), f"the clients got {got}")
@@ -845,9 +851,9 @@ def files_that_were_put_there(stage):
         for name in ("socket", "socket.lock"):
             os.remove(at(name))
         check(launcher.ask_over(client, {"req": "shutdown"})["code"] == 0, "shutdown refused")
-    # If a second is just over, they are made again.
-    told = ("", "jobd: control socket: its file was gone, and is made again\n")
-    check(launcher.ends() == 0 and launcher.said() in told, f"without its files it ended so: {launcher.said()!r}")
+    # If a second is just over, they are made again: each by itself, if it was over between the two.
+    told = {f"jobd: control socket: {what} was gone, and is made again" for what in ("its file", "its lock's file")}
+    check(launcher.ends() == 0 and set(launcher.said().splitlines()) <= told, f"without its files it ended so: {launcher.said()!r}")
 
 
 SCENES = [

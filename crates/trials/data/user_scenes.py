@@ -55,8 +55,8 @@ DEAF = (
     '"ExitTimeOut":1}'
 )
 
-# Ends by itself, after the scene.
-LASTS = '{"Label":"lasts","ProgramArguments":["/bin/sh","-c","echo $$ > @/lasting; exec sleep 5"],"RunAtLoad":true}'
+# Ends by itself, after the scene, however long that takes.
+LASTS = '{"Label":"lasts","ProgramArguments":["/bin/sh","-c","echo $$ > @/lasting; exec sleep 60"],"RunAtLoad":true}'
 
 # Kept while the file is there; so it begins once the file was made.
 WHILE_THERE = '{"Label":"there","ProgramArguments":["/bin/sh","-c","echo found > @/found"],"KeepAlive":{"PathState":{"@/flag":true}}}'
