@@ -76,8 +76,8 @@ pub(crate) fn begun_by<'a>(
     };
     let mut told = paths;
     for _ in 1..paths.len() {
-        match told {
-            [before @ .., last] if begins_behind(host, alloc, last.as_str(), of, second) => {
+        match told.split_last() {
+            Some((last, before)) if begins_behind(host, alloc, last.as_str(), of, second) => {
                 told = before;
             }
             _ => return Some((told, second)),
