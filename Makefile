@@ -1,5 +1,5 @@
 # make run    builds the replay of a journal without a proof and runs the first example: a look, in about a minute
-# make try    runs what is tried of calls, without a proof, in some seven minutes on an idle machine: for whoever changes a text, or only looks
+# make try    runs what is tried of calls, without a proof, in half an hour on one processor: for whoever changes a text, or only looks
 # make test   the gate: every proof, the wrong bodies, the tests, the programs; with kit 13f, what an earlier run on this machine
 #             passed over the same files is not proved or tried again; with 13b everything is. It leaves the program in build/ too
 # make times  the build and then the gate, with nothing kept from earlier runs: how long the build took, and what each crate cost in processor seconds
