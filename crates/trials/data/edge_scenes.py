@@ -1459,9 +1459,8 @@ SCENES = [
 ]
 
 
-def play(scene, given, folder):
-    """The line that tells how the scene went, and whether it went well."""
-    place = os.path.join(folder, str(SCENES.index(scene)))
+def played(scene, given, place):
+    """The line that tells how the scene went in the folder, and whether a launcher had no answer of a look-out in half a second."""
     os.mkdir(place)
     stage = Stage(given, place)
     start = time.monotonic()
@@ -1473,9 +1472,20 @@ def play(scene, given, folder):
     except Exception as error:  # a client that is cut off, or an answer of another form
         line = f"FAILED {scene.__name__}: {type(error).__name__}: {error} (line {error.__traceback__.tb_next.tb_lineno})"
     finally:
+        was_late = any(": no answer" in it.said() for it in stage.started)
         stage.clear()
     if given.times:
         line += f" ({time.monotonic() - start:.1f} s)"
+    return line, was_late
+
+
+def play(scene, given, folder):
+    """The line that tells how the scene went. One that failed where a look-out had no answer is played once more: the machine stood, and the
+    launcher refused rightly."""
+    place = os.path.join(folder, str(SCENES.index(scene)))
+    line, was_late = played(scene, given, place)
+    if was_late and line.startswith("FAILED"):
+        line, _ = played(scene, given, f"{place}.again")
     return line.replace(folder, "@").replace("\n", "\\n")
 
 
