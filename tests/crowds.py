@@ -268,10 +268,25 @@ def resident(pid):
         return next(int(line.split()[1]) for line in file if line.startswith("VmRSS"))
 
 
+def at_rest(pid, bound=10):
+    """How many descriptors the process has, once it has as many for 0.3 s: a client that went is not seen before the next round."""
+    count, end = descriptors(pid), time.monotonic() + bound
+    since = time.monotonic()
+    while time.monotonic() - since < 0.3 and time.monotonic() < end:
+        time.sleep(0.02)
+        now = descriptors(pid)
+        if now != count:
+            count, since = now, time.monotonic()
+    return count
+
+
 def settles(pid, wanted, bound):
-    """Waits until the process has at most so many descriptors, and answers how many it has."""
-    comes(lambda: descriptors(pid) <= wanted, bound)
-    return descriptors(pid)
+    """Waits until the process has at most so many descriptors, and answers how many it has. It gives up if none goes for as long as `bound`: clients that
+    left before they were served are served first, one after another."""
+    least = descriptors(pid)
+    while least > wanted and comes(lambda: descriptors(pid) < least, bound):
+        least = min(least, descriptors(pid))
+    return at_rest(pid)
 
 
 def is_over(pid):

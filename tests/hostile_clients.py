@@ -49,10 +49,10 @@ import threading
 import time
 
 from crowds import (
-    LIST, Beside, Crowd, Deaf, Descriptors, asks, calls, dripping, is_held, never_reading, pipelining, resident, settles, silent, vanishing,
+    LIST, Beside, Crowd, Deaf, Descriptors, asks, at_rest, calls, dripping, is_held, never_reading, pipelining, resident, settles, silent, vanishing,
     zombies,
 )
-from edge_scenes import Fault, Stage, begin, call, check, chosen, connect, descriptors, program_words, shell_job, socket_job, wait_for
+from edge_scenes import Fault, Stage, begin, call, check, chosen, connect, program_words, shell_job, socket_job, wait_for
 
 BAD = {"code": 2, "text": "bad request\n"}
 LONGEST = 262144
@@ -177,7 +177,7 @@ class Watched:
 
     def __init__(self, stage, launcher, crowds, honest):
         self.stage, self.launcher = stage, launcher
-        self.before = descriptors(launcher.pid)
+        self.before = at_rest(launcher.pid)
         # Processes before threads: a fork takes no thread along.
         self.crowds = [Crowd(*words) for words in crowds]
         self.most = Descriptors(launcher.pid)
@@ -193,11 +193,11 @@ class Watched:
         for crowd in self.crowds:
             crowd.end()
         after = settles(self.launcher.pid, self.before, 10 * slack)
-        for name, seen in self.honest.items():
-            check(not seen.faults, f"{name}: {len(seen.faults)} faults, the first: {seen.faults[:1]}")
-        check(after <= self.before, f"{after} descriptors after it, {self.before} before")
         figures = [f"{name} {seen.told()}" for name, seen in self.honest.items()]
         figures.append(f"descriptors {self.before} before, {self.most.most} at most, {after} after")
+        faults = [f"{name}: {len(seen.faults)} faults, the first: {seen.faults[0]}" for name, seen in self.honest.items() if seen.faults]
+        check(not faults, f"{'; '.join(faults)}: {'; '.join(figures)}")
+        check(after <= self.before, f"descriptors are left: {'; '.join(figures)}")
         if most is not None:
             self.check_lists(figures, most * slack, late * slack)
         return figures
@@ -278,10 +278,11 @@ def slow_at_four(stage, launcher):
     for label in labels:
         launcher.load(socket_job(stage, label, ["/bin/cat"]))
     crowds = [(dripping, stage.at(label), 64, 3) for label in labels]
-    told = calls_one_by_one(stage, launcher, "other", crowds, 30, 6)
-    for label in labels:
-        launcher.ask({"req": "unload", "job": label})
-    return told
+    try:
+        return calls_one_by_one(stage, launcher, "other", crowds, 30, 6)
+    finally:
+        for label in labels:
+            launcher.ask({"req": "unload", "job": label})
 
 
 def forty_crowds(stage, launcher):
@@ -289,10 +290,11 @@ def forty_crowds(stage, launcher):
     for label in labels:
         launcher.load(socket_job(stage, label, ["/bin/cat"]))
     crowds = [(silent, stage.at(label), 25) for label in labels]
-    told = calls_one_by_one(stage, launcher, "other", crowds, 30, 6)
-    for label in labels:
-        launcher.ask({"req": "unload", "job": label})
-    return told
+    try:
+        return calls_one_by_one(stage, launcher, "other", crowds, 30, 6)
+    finally:
+        for label in labels:
+            launcher.ask({"req": "unload", "job": label})
 
 
 def scarce_launcher(stage, number, sockets):
@@ -325,7 +327,7 @@ def starts_and_ends(stage, launcher, label, slack):
 def spent_descriptors(stage, launcher):
     slack = stage.given.slack
     scarce, paths = scarce_launcher(stage, 1, 790)
-    before, most = descriptors(scarce.pid), Descriptors(scarce.pid)
+    before, most = at_rest(scarce.pid), Descriptors(scarce.pid)
     most.start()
     for _ in range(3):
         for path in paths:
@@ -340,6 +342,7 @@ def spent_descriptors(stage, launcher):
     took = time.monotonic() - start
     wait_for(lambda: call(paths[-1], b"x") == b"served\n", "an honest client is not served", 10 * slack)
     most.end()
+    # The shell that gives TERM is kept from the first one on.
     after = settles(scarce.pid, before + 1, 10 * slack)
     refused = scarce.lines("Too many open files")
     scarce.shut_down()
@@ -350,7 +353,7 @@ def spent_descriptors(stage, launcher):
 def unread_at_a_limit(stage, launcher):
     slack = stage.given.slack
     scarce, paths = scarce_launcher(stage, 2, 400)
-    before, most = descriptors(scarce.pid), Descriptors(scarce.pid)
+    before, most = at_rest(scarce.pid), Descriptors(scarce.pid)
     most.start()
     unread = []
     for path in paths:
@@ -508,7 +511,7 @@ def play_all(stage):
     """Plays the trials, and says how each went. The number that failed."""
     launcher = prepare(stage)
     stage.told, failed = [], 0
-    before, memory = descriptors(launcher.pid), resident(launcher.pid)
+    before, memory = at_rest(launcher.pid), resident(launcher.pid)
     for trial in stage.given.trials:
         try:
             line = f"ok {trial.__name__}: {play(stage, launcher, trial)}"

@@ -95,7 +95,7 @@ tries() {
         share/bash-completion/completions/{jobctl,jobd,jobscope} share/fish/vendor_completions.d/{jobctl,jobd,jobscope}.fish \
         share/zsh/site-functions/{_jobctl,_jobd,_jobscope} share/doc/jobd/contrib/{jobd.service,jobd@.service,jobd.logrotate,Containerfile} \
         share/doc/jobd/{README.md,SECURITY.md,CHANGELOG.md,LICENSE-MIT,LICENSE-APACHE,OPERATING.md,WHY-NOT-RUNNING.md,DIFFERENCES.md} \
-        share/doc/jobd/{TUTORIAL.md,COOKBOOK.md,FAQ.md,MOVING.md,docs/night.svg} \
+        share/doc/jobd/{TUTORIAL.md,COOKBOOK.md,FAQ.md,MOVING.md,JSON.md,docs/night.svg} \
         share/doc/jobd/examples/{kept_alive.json,kept_alive.jsonl,kept_alive.out,night/journal.jsonl}; do
         [ -f "$root/$path" ] || fail "$1: no file $path"
         [ "$(stat -c %a "$root/$path")" = 644 ] || fail "$1: $path has mode $(stat -c %a "$root/$path")"

@@ -25,6 +25,16 @@ ANSWERED = {"spawned": "spawn", "spawn_refused": "spawn", "termed": "term", "kil
 REQUESTS = ("load", "unload", "start", "stop", "kickstart", "enable", "disable", "list", "print", "shutdown")
 
 
+def is_helper(pid):
+    """Whether the launcher's child is a look-out, or the shell that gives TERM, and no job."""
+    try:
+        with open(f"/proc/{pid}/cmdline", encoding="utf-8") as told:
+            words = told.read()
+    except OSError:
+        return False
+    return words.startswith("jobd-look-out") or "while read" in words
+
+
 class Soak:
     def __init__(self, minutes, jobd, jobctl):
         self.minutes, self.jobd, self.jobctl = minutes, jobd, jobctl
@@ -152,7 +162,7 @@ class Soak:
 
     def children(self):
         with open(f"/proc/{self.launcher.pid}/task/{self.launcher.pid}/children") as told:
-            return told.read().split()
+            return [pid for pid in told.read().split() if not is_helper(pid)]
 
     def unload_all(self):
         for label in self.labels:
@@ -171,8 +181,9 @@ class Soak:
         # One more is that of the shell which gives TERM, and two those of the look-outs.
         if len(self.descriptors()) > len(self.open_before) + 3:
             self.complain(f"descriptors are left: {len(self.open_before)} before, {len(self.descriptors())} after")
-        if os.listdir(self.path("spool")):
-            self.complain(f"spool files are left: {os.listdir(self.path('spool'))[:5]}")
+        spool = [name for name in os.listdir(self.path("spool")) if name != "jobd.lock"]
+        if spool:
+            self.complain(f"spool files are left: {spool[:5]}")
 
     def end(self):
         """Half of the jobs are loaded again, so that the shutdown stops some."""

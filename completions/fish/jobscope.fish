@@ -34,6 +34,11 @@ function __jobscope_files
     __fish_complete_suffix .plist
 end
 
+# The files that may be property lists, and the folders. fish offers the other files behind them.
+function __jobscope_lists
+    __fish_complete_suffix .plist | string match -r '^[^\t]*(?:\.plist|/)(?:\t.*)?$'
+end
+
 set -l subcommands check next status metrics why log runs picture show drift cron plist help
 set -l none "not __fish_seen_subcommand_from $subcommands"
 
@@ -55,7 +60,7 @@ complete -c jobscope -n $none -a help -d 'Print help'
 complete -c jobscope -n '__fish_seen_subcommand_from cron' -a - -d 'The lines of standard input'
 complete -c jobscope -n '__fish_seen_subcommand_from cron' -l system -d "The lines have a user's field"
 complete -c jobscope -n '__fish_seen_subcommand_from cron plist' -l into -r -F -d 'Write a file for each definition in this folder'
-complete -c jobscope -n '__fish_seen_subcommand_from plist' -a '(__fish_complete_suffix .plist)'
+complete -c jobscope -n '__fish_seen_subcommand_from plist' -a '(__jobscope_lists)'
 complete -c jobscope -n '__fish_seen_subcommand_from check next drift' -a '(__jobscope_files)'
 complete -c jobscope -n '__fish_seen_subcommand_from check' -l strict -d 'Fail at a warning too'
 complete -c jobscope -n '__fish_seen_subcommand_from check next' -l zone -x -d 'The zone as a POSIX rule'
