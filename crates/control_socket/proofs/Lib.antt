@@ -1,3 +1,4 @@
 pub mod DialoguesLemmas
 pub mod ServingLemmas
 pub mod ExchangesLemmas
+pub mod WaitingLemmas

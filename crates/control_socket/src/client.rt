@@ -1,6 +1,7 @@
 //! A client of the control socket.
 
-ghost use Rattle.std.specs.Prelude.{◌≡◌, OnOk};
+ghost use Rattle.std.specs.Prelude.{◌≡◌, ◌≢◌, [], OnOk, true};
+ghost use Rattle.control_socket.specs.Clients.{IsStuck, MayGo, Waits};
 ghost use Rattle.control_socket.specs.Dialogues.{Converses, Reads, SendsOn};
 ghost use Rattle.control_socket.specs.Serving.{Serves};
 
@@ -8,8 +9,11 @@ use crate::dialogue::Dialogue;
 use crate::turn::{Answers, Limit, Turn};
 use mio::net::UnixStream;
 use std::alloc::Global;
-use std::io;
 use std::io::{ErrorKind, Read, Write};
+use std::{io, mem};
+
+/// What a client gets for which there is no place.
+pub(crate) const TOO_MANY: &[u8] = b"{\"code\":2,\"text\":\"too many clients\\n\"}\n";
 
 /// What a client's connection may do next.
 #[derive(Clone, Copy)]
@@ -35,12 +39,14 @@ const STUCK: u64 = 1_000;
 pub(crate) struct Client {
     stream: UnixStream,
     dialogue: Dialogue,
-    // The last round in which it was looked at; 0 if there was none since it came.
+    // The last round in which it was looked at; 0 if there was none since it came, or since something came between two rounds.
     looked: u64,
     // The last round in which it came, sent something, or had a line or a reply under way.
     heard: u64,
     // The `up` at which it last took something of a reply, or had none to take.
     taken: u64,
+    // Between two rounds a read failed so.
+    failed: Option<io::Error>,
 }
 
 impl Client {
@@ -52,14 +58,17 @@ impl Client {
             looked: 0,
             heard: round,
             taken: 0,
+            failed: None,
         }
     }
 
-    pub(crate) fn has_unsent(&self) -> bool {
+    pub(crate) fn has_unsent(&self) -> bool
+        ensures { result ≡ true → self.now.dialogue.replies.items ≢ [] }
+    {
         !self.dialogue.to_send().is_empty()
     }
 
-    /// Whether no round looked at it yet.
+    /// Whether no round looked at it yet, or none since something came.
     pub(crate) fn is_new(&self) -> bool {
         self.looked == 0
     }
@@ -71,8 +80,54 @@ impl Client {
 
     /// Since which `up` the client takes nothing of its reply, if the round of this number found it so, and that is a second ago.
     pub(crate) fn stuck_since(&self, round: u64, up: u64) -> Option<u64> {
-        let is_stuck = self.has_unsent() && self.taken.saturating_add(STUCK) <= up;
-        (self.looked == round && is_stuck).then_some(self.taken)
+        (self.looked == round && self.is_stuck(up)).then_some(self.taken)
+    }
+
+    fn is_stuck(&self, up: u64) -> bool
+        ensures { result ≡ true → IsStuck up self.now }
+    {
+        self.has_unsent() && up.saturating_sub(self.taken) >= STUCK
+    }
+
+    /// Takes a piece that came between two rounds. True: one came, or the read failed, and the next round has to look at it first.
+    pub(crate) fn hear(&mut self, room: &mut [u8]) -> bool
+        ensures { Waits self.old self.new }
+    {
+        let has_come = self.read_or_note(room);
+        if has_come {
+            // The next round answers it.
+            self.heard = self.looked.saturating_add(1);
+            self.looked = 0;
+        }
+        has_come
+    }
+
+    // As `read`. An error is kept for the next round, and true is given.
+    fn read_or_note(&mut self, room: &mut [u8]) -> bool
+        ensures { Waits self.old self.new }
+    {
+        match self.read(room) {
+            Ok(has_come) => has_come,
+            Err(error) => {
+                drop(mem::replace(&mut self.failed, Some(error)));
+                true
+            }
+        }
+    }
+
+    /// Whether it may go for another one: it says nothing, and is told that there is no place for it; or it takes nothing of its reply.
+    pub(crate) fn makes_way(&mut self, up: u64) -> bool
+        ensures waits { Waits self.old self.new }
+        ensures may { result ≡ true → MayGo up self.new }
+    {
+        if self.failed.is_some() {
+            return false;
+        }
+        if self.dialogue.is_silent() {
+            let _sent = self.stream.write(TOO_MANY);
+            return true;
+        }
+        self.is_stuck(up)
     }
 
     /// Reads what came, by pieces of the room's length, answers whole lines, and sends what is taken. An error is want of
@@ -87,6 +142,9 @@ impl Client {
         ensures serves { Serves A.Answered turn.old.answers.now turn.new.answers.now }
         ensures name { turn.new.answers.ghost_name ≡ turn.old.answers.ghost_name }
     {
+        if let Some(error) = self.failed.take() {
+            return Err(error);
+        }
         self.looked = turn.number;
         if !self.has_unsent() {
             self.taken = turn.up;
@@ -142,7 +200,9 @@ impl Client {
 
     // Takes the next piece, or the end. False: nothing is there yet.
     fn read(&mut self, room: &mut [u8]) -> io::Result<bool>
-        ensures { OnOk result (Reads self.old.dialogue self.new.dialogue) }
+        ensures reads { OnOk result (Reads self.old.dialogue self.new.dialogue) }
+        ensures taken { self.new.taken ≡ self.old.taken }
+        ensures failed { self.new.failed ≡ self.old.failed }
     {
         match self.stream.read(room) {
             Ok(0) => self.dialogue.end(),

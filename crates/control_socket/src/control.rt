@@ -1,10 +1,11 @@
 //! The control socket with its clients.
 
-ghost use Rattle.std.specs.Prelude.{◌≡◌, max, min};
+ghost use Rattle.std.specs.Prelude.{◌≡◌, IfSome, true, max, min};
+ghost use Rattle.slab.specs.Slab.{get};
 ghost use Rattle.control_socket.specs.Serving.{Serves};
-ghost use Rattle.control_socket.specs.Clients.{MovesOn, StaysOrGoes};
+ghost use Rattle.control_socket.specs.Clients.{AllWait, MayGo, MovesOn, StaysOrGoes, WaitsAt};
 
-use crate::client::{Client, PIECES, Progress};
+use crate::client::{Client, PIECES, Progress, TOO_MANY};
 use crate::notices::Notices;
 use crate::turn::{Answers, LINES, Limit, Turn};
 use files_and_process::own_files::LockFile;
@@ -29,8 +30,8 @@ const PIECE: usize = 16_384;
 /// As many milliseconds of `up` lie between two looks at the socket's file at least.
 const BETWEEN_LOOKS: u64 = 1_000;
 
-/// What a client gets for which there is no place.
-const TOO_MANY: &[u8] = b"{\"code\":2,\"text\":\"too many clients\\n\"}\n";
+/// So many milliseconds of `up` no place has to be found before a new client is turned away.
+const FULL: u64 = 1_000;
 
 /// The control socket: one listener at a path, and its clients.
 ///
@@ -59,6 +60,8 @@ pub struct ControlSocket {
     first: usize,
     // The last round looked at every client.
     is_whole: bool,
+    // Since this `up` no place was found for a new client.
+    full_since: Option<u64>,
 }
 
 // for the proof: who lets it go calls this, in place of letting each part go
@@ -81,6 +84,7 @@ impl Drop for ControlSocket {
             next_look: _,
             first: _,
             is_whole: _,
+            full_since: _,
         } = self;
     }
 }
@@ -94,6 +98,18 @@ enum Place {
     /// That is known only once a round looked at every client.
     Unknown,
     Nowhere,
+}
+
+/// How it goes in a call of `accept`.
+#[derive(Drop)]
+struct Taking {
+    // The last client that came was taken, and no accept was refused.
+    is_well: bool,
+    // An accept was refused, and a descriptor was given up for one more.
+    is_short: bool,
+    // Why it was refused, if it is not known whether somebody waits.
+    untold: Option<Error>,
+    is_over: bool,
 }
 
 /// How a client stands still: it says nothing, or it takes nothing of its reply.
@@ -143,6 +159,7 @@ impl ControlSocket {
             next_look: 0,
             first: 0,
             is_whole: true,
+            full_since: None,
         })
     }
 
@@ -257,9 +274,10 @@ impl ControlSocket {
 
     /// Takes the clients that wait, after a `serve`, which lets go of the clients that are done. Where as many are there already as
     /// may be ([`set_room`](ControlSocket::set_room)), the one is let go that has been silent for longest: the last `serve` found nothing new of it, no whole line to
-    /// answer and nothing to send. If none is silent, one that has taken nothing of its reply for longest, and for a second at
-    /// least. If there is none of these too, the new client waits until a `serve` has looked at every client; if that one was
-    /// the last, it gets the reply `too many clients` of code 2, and is closed.
+    /// answer and nothing to send, and nothing came since. It gets the reply `too many clients` of code 2. If none is silent, one is let go that has taken nothing of its
+    /// reply for longest, and for a second at
+    /// least. If there is none of these too, the new client waits. If no place was found for a second, and the last `serve` looked at every client, it gets that reply, and is
+    /// closed. No line of a client is answered here.
     ///
     /// Without a free descriptor the system refuses an accept also if nobody waits. So it is tried once more by the descriptor that is
     /// kept for this. If nobody waits, that is kept again, nobody is let go, and nothing is told. If somebody waits, the refusal is
@@ -269,7 +287,9 @@ impl ControlSocket {
     /// Once a second of `up` at most it looks whether the socket's file is still the one that was bound, and then the lock's. If the first is not, it
     /// binds the socket anew as [`open`](ControlSocket::open) does, and keeps its clients; if the second is not, it takes the lock on a new one.
     /// That, or why it can't be done, is told. Where the system does not say whether a file is there, that is told, and nothing is made.
-    pub fn accept<R: Files<File = File> + Net>(&mut self, rt: &R, registry: &Registry) {
+    pub fn accept<R: Files<File = File> + Net>(&mut self, rt: &R, registry: &Registry)
+        ensures { AllWait self.old.up self.old.clients self.new.clients }
+    {
         self.accept_all(rt, registry);
         if self.up >= self.next_look {
             self.next_look = self.up.saturating_add(BETWEEN_LOOKS);
@@ -278,7 +298,9 @@ impl ControlSocket {
     }
 
     // Binds the socket anew if its file is gone, or another is in its place, and takes the lock anew if its file is.
-    fn keep_file<R: Files<File = File> + Net>(&mut self, rt: &R, registry: &Registry) {
+    fn keep_file<R: Files<File = File> + Net>(&mut self, rt: &R, registry: &Registry)
+        ensures { self.new.clients ≡ self.old.clients }
+    {
         match socket_file::is_at(rt, self.path.as_str(), self.mark) {
             Ok(true) => self.keep_lock(rt),
             Ok(false) => match self.bind_again(rt, registry) {
@@ -290,7 +312,9 @@ impl ControlSocket {
     }
 
     // Takes the lock anew if its file is gone, or another is in its place. The one that is held is kept until then.
-    fn keep_lock<R: Files<File = File>>(&mut self, rt: &R) {
+    fn keep_lock<R: Files<File = File>>(&mut self, rt: &R)
+        ensures { self.new.clients ≡ self.old.clients }
+    {
         match self.lock.is_at_its_path(rt) {
             Ok(true) => self.notices.files_stand(),
             Ok(false) => match self.lock_again(rt) {
@@ -301,7 +325,9 @@ impl ControlSocket {
         }
     }
 
-    fn lock_again<R: Files<File = File>>(&mut self, rt: &R) -> io::Result<()> {
+    fn lock_again<R: Files<File = File>>(&mut self, rt: &R) -> io::Result<()>
+        ensures { self.new.clients ≡ self.old.clients }
+    {
         match lock_beside(rt, self.alloc, self.path.as_str()) {
             Ok(lock) => {
                 drop(mem::replace(&mut self.lock, lock));
@@ -316,7 +342,9 @@ impl ControlSocket {
         &mut self,
         rt: &R,
         registry: &Registry,
-    ) -> io::Result<()> {
+    ) -> io::Result<()>
+        ensures { self.new.clients ≡ self.old.clients }
+    {
         if let Ok(false) = self.lock.is_at_its_path(rt) {
             self.lock_again(rt)?;
         }
@@ -339,46 +367,130 @@ impl ControlSocket {
     }
 
     // Takes the clients that wait.
-    fn accept_all<R: Files<File = File>>(&mut self, rt: &R, registry: &Registry) {
+    fn accept_all<R: Files<File = File>>(&mut self, rt: &R, registry: &Registry)
+        ensures wait { AllWait self.old.up self.old.clients self.new.clients }
+    {
         self.keep_spare(rt);
-        let mut is_well = false;
-        let mut is_short = false;
-        let mut untold = None;
+        let mut taking = Taking {
+            is_well: false,
+            is_short: false,
+            untold: None,
+            is_over: false,
+        };
         for _ in 0..2 * CLIENTS {
-            let place = self.place();
-            if matches!(place, Place::Unknown) {
-                break;
-            }
-            match self.listener.accept() {
-                Ok((stream, _)) => {
-                    if let Some(error) = untold.take() {
-                        self.give_way(rt, error);
-                    }
-                    is_well = self.welcome(registry, stream, place) && !is_short;
-                }
-                Err(error) if error.kind() == ErrorKind::Interrupted => {}
-                Err(error) if error.kind() == ErrorKind::WouldBlock => {
-                    if is_well {
-                        self.notices.accepted();
-                    }
-                    break;
-                }
-                Err(error) => {
-                    if is_short || !self.free_descriptor() {
-                        self.notices.accept_refused(error);
-                        break;
-                    }
-                    is_short = true;
-                    is_well = false;
-                    untold = Some(error);
-                }
-            }
+            self.accept_next(rt, registry, &mut taking);
         }
+        drop(taking);
         self.keep_spare(rt);
     }
 
+    // Takes the next client that waits, if there is a place for it.
+    fn accept_next<R: Files<File = File>>(
+        &mut self,
+        rt: &R,
+        registry: &Registry,
+        taking: &mut Taking,
+    )
+        ensures wait { AllWait self.old.up self.old.clients self.new.clients }
+        ensures up { self.new.up ≡ self.old.up }
+    {
+        if taking.is_over {
+            return;
+        }
+        let place = self.place();
+        if let Place::Unknown = place {
+            taking.is_over = true;
+            return;
+        }
+        match self.listener.accept() {
+            Ok((stream, _)) => self.take(rt, registry, stream, place, taking),
+            Err(error) => self.go_on(error, taking),
+        }
+    }
+
+    // A client came. If a descriptor was given up for it, one is kept again first.
+    fn take<R: Files<File = File>>(
+        &mut self,
+        rt: &R,
+        registry: &Registry,
+        stream: UnixStream,
+        place: Place,
+        taking: &mut Taking,
+    )
+        ensures wait { AllWait self.old.up self.old.clients self.new.clients }
+        ensures up { self.new.up ≡ self.old.up }
+    {
+        self.make_good(rt, taking);
+        let is_welcome = self.welcome(registry, stream, place);
+        taking.is_well = is_welcome && !taking.is_short;
+    }
+
+    fn make_good<R: Files<File = File>>(&mut self, rt: &R, taking: &mut Taking)
+        ensures wait { AllWait self.old.up self.old.clients self.new.clients }
+        ensures up { self.new.up ≡ self.old.up }
+    {
+        if let Some(error) = taking.untold.take() {
+            self.give_way(rt, error);
+        }
+    }
+
+    // No client came, for this reason: nobody waits, or it is tried again.
+    fn go_on(&mut self, error: Error, taking: &mut Taking)
+        ensures wait { AllWait self.old.up self.old.clients self.new.clients }
+        ensures up { self.new.up ≡ self.old.up }
+    {
+        match error.kind() {
+            ErrorKind::Interrupted => drop(error),
+            ErrorKind::WouldBlock => {
+                drop(error);
+                self.end_well(taking);
+            }
+            _ => self.try_once_more(error, taking),
+        }
+    }
+
+    // Nobody waits any more.
+    fn end_well(&mut self, taking: &mut Taking)
+        ensures clients { self.new.clients ≡ self.old.clients }
+        ensures up { self.new.up ≡ self.old.up }
+    {
+        taking.is_over = true;
+        if taking.is_well {
+            self.notices.accepted();
+        }
+    }
+
+    fn end_refused(&mut self, error: Error, taking: &mut Taking)
+        ensures clients { self.new.clients ≡ self.old.clients }
+        ensures up { self.new.up ≡ self.old.up }
+    {
+        taking.is_over = true;
+        self.notices.accept_refused(error);
+    }
+
+    // An accept was refused. Once a descriptor is given up for one more.
+    fn try_once_more(&mut self, error: Error, taking: &mut Taking)
+        ensures wait { AllWait self.old.up self.old.clients self.new.clients }
+        ensures up { self.new.up ≡ self.old.up }
+    {
+        if taking.is_short {
+            self.end_refused(error, taking);
+            return;
+        }
+        if self.free_descriptor() {
+            taking.is_short = true;
+            taking.is_well = false;
+            drop(mem::replace(&mut taking.untold, Some(error)));
+        } else {
+            self.end_refused(error, taking);
+        }
+    }
+
     // Whether there is a spare descriptor now.
-    fn keep_spare<R: Files<File = File>>(&mut self, rt: &R) -> bool {
+    fn keep_spare<R: Files<File = File>>(&mut self, rt: &R) -> bool
+        ensures clients { self.new.clients ≡ self.old.clients }
+        ensures up { self.new.up ≡ self.old.up }
+    {
         if self.spare.is_none() {
             drop(mem::replace(&mut self.spare, spare_descriptor(rt)));
         }
@@ -387,12 +499,21 @@ impl ControlSocket {
 
     // Frees a descriptor for one more accept: the spare one, or if a client has it, that of the longest silent one. False: no client is
     // silent.
-    fn free_descriptor(&mut self) -> bool {
-        self.spare.take().is_some() || self.let_silent_go()
+    fn free_descriptor(&mut self) -> bool
+        ensures wait { AllWait self.old.up self.old.clients self.new.clients }
+        ensures up { self.new.up ≡ self.old.up }
+    {
+        if self.spare.take().is_some() {
+            return true;
+        }
+        self.let_silent_go()
     }
 
     // Somebody waited where an accept was refused with this error.
-    fn give_way<R: Files<File = File>>(&mut self, rt: &R, error: Error) {
+    fn give_way<R: Files<File = File>>(&mut self, rt: &R, error: Error)
+        ensures wait { AllWait self.old.up self.old.clients self.new.clients }
+        ensures up { self.new.up ≡ self.old.up }
+    {
         self.notices.accept_refused(error);
         if !self.keep_spare(rt) {
             self.let_silent_go();
@@ -400,32 +521,96 @@ impl ControlSocket {
     }
 
     // False: no client is silent.
-    fn let_silent_go(&mut self) -> bool {
-        match self.longest(Still::Silent) {
+    fn let_silent_go(&mut self) -> bool
+        ensures wait { AllWait self.old.up self.old.clients self.new.clients }
+        ensures up { self.new.up ≡ self.old.up }
+    {
+        match self.silent() {
             Some(key) => {
-                drop(self.clients.try_remove(key));
+                self.let_go(key);
                 true
             }
             None => false,
         }
     }
 
-    // False: the system refuses to tell when the client is ready.
-    fn welcome(&mut self, registry: &Registry, stream: UnixStream, place: Place) -> bool {
-        match place {
-            Place::Free => {}
-            Place::Of(key) => drop(self.clients.try_remove(key)),
-            Place::Unknown | Place::Nowhere => {
-                self.turn_away(stream);
-                return true;
+    // The client that is silent for longest, and still is. Who sent something since the last round looked at it is not silent.
+    fn silent(&mut self) -> Option<usize>
+        ensures wait { AllWait self.old.up self.old.clients self.new.clients }
+        ensures up { self.new.up ≡ self.old.up }
+    {
+        for _ in 0..CLIENTS {
+            let Some(key) = self.longest(Still::Silent) else {
+                return None;
+            };
+            if !self.hear(key) {
+                return Some(key);
             }
         }
+        None
+    }
+
+    // Takes what the client of the key sent since the last round. False: nothing came.
+    fn hear(&mut self, key: usize) -> bool
+        ensures waits { WaitsAt key self.old.up self.old.clients self.new.clients }
+        ensures up { self.new.up ≡ self.old.up }
+    {
+        match self.clients.get_mut(key) {
+            Some(client) => client.hear(&mut self.room),
+            None => false,
+        }
+    }
+
+    // Lets the client of the key go for another one, if it may go.
+    fn let_go(&mut self, key: usize)
+        ensures wait { AllWait self.old.up self.old.clients self.new.clients }
+        ensures up { self.new.up ≡ self.old.up }
+    {
+        if self.makes_way(key) {
+            drop(self.clients.try_remove(key));
+        }
+    }
+
+    fn makes_way(&mut self, key: usize) -> bool
+        ensures waits { WaitsAt key self.old.up self.old.clients self.new.clients }
+        ensures may { result ≡ true → IfSome (get self.new.clients key) (MayGo self.old.up) }
+        ensures up { self.new.up ≡ self.old.up }
+    {
+        let up = self.up;
+        match self.clients.get_mut(key) {
+            Some(client) => client.makes_way(up),
+            None => false,
+        }
+    }
+
+    // False: the system refuses to tell when the client is ready.
+    fn welcome(&mut self, registry: &Registry, stream: UnixStream, place: Place) -> bool
+        ensures wait { AllWait self.old.up self.old.clients self.new.clients }
+        ensures up { self.new.up ≡ self.old.up }
+    {
+        match place {
+            Place::Free => self.admit(registry, stream),
+            Place::Of(key) => {
+                self.let_go(key);
+                self.admit(registry, stream)
+            }
+            Place::Unknown | Place::Nowhere => {
+                self.turn_away(stream);
+                true
+            }
+        }
+    }
+
+    // False: the system refuses to tell when the client is ready.
+    fn admit(&mut self, registry: &Registry, stream: UnixStream) -> bool
+        ensures wait { AllWait self.old.up self.old.clients self.new.clients }
+        ensures up { self.new.up ≡ self.old.up }
+    {
         let mut stream = stream;
         let interest = Interest::READABLE | Interest::WRITABLE;
         match registry.register(&mut stream, self.token, interest) {
             Ok(()) => {
-                let client = Client::new(self.alloc, stream, self.rounds);
-                drop(self.clients.insert(client));
+                self.take_in(stream);
                 true
             }
             Err(error) => {
@@ -436,18 +621,56 @@ impl ControlSocket {
         }
     }
 
+    // The new client has a place, if there is memory for it.
+    fn take_in(&mut self, stream: UnixStream)
+        ensures wait { AllWait self.old.up self.old.clients self.new.clients }
+        ensures up { self.new.up ≡ self.old.up }
+    {
+        let client = Client::new(self.alloc, stream, self.rounds);
+        match self.clients.insert(client) {
+            Ok(_) => {}
+            Err(failed) => drop(failed),
+        }
+    }
+
     // What the client sent already is taken first: a close before that would take its reply from it.
-    fn turn_away(&mut self, stream: UnixStream) {
+    fn turn_away(&mut self, stream: UnixStream)
+        ensures clients { self.new.clients ≡ self.old.clients }
+        ensures up { self.new.up ≡ self.old.up }
+    {
         let mut stream = stream;
         let _taken = stream.read(&mut self.room);
         let _sent = stream.write(TOO_MANY);
     }
 
-    fn place(&self) -> Place {
+    fn place(&mut self) -> Place
+        ensures wait { AllWait self.old.up self.old.clients self.new.clients }
+        ensures up { self.new.up ≡ self.old.up }
+    {
+        let place = self.place_now();
+        match place {
+            Place::Free | Place::Of(_) => {
+                self.full_since = None;
+                return place;
+            }
+            Place::Unknown | Place::Nowhere => {}
+        }
+        let since = self.full_since.unwrap_or(self.up);
+        self.full_since = Some(since);
+        if self.up.saturating_sub(since) < FULL {
+            return Place::Unknown;
+        }
+        place
+    }
+
+    fn place_now(&mut self) -> Place
+        ensures wait { AllWait self.old.up self.old.clients self.new.clients }
+        ensures up { self.new.up ≡ self.old.up }
+    {
         if self.clients.len() < self.most {
             return Place::Free;
         }
-        if let Some(key) = self.longest(Still::Silent) {
+        if let Some(key) = self.silent() {
             return Place::Of(key);
         }
         match self.longest(Still::Stuck) {

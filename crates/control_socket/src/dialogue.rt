@@ -1,7 +1,7 @@
 //! What passes between a client and the launcher: the requests that came and are not yet answered, and the replies that are
 //! not yet sent.
 
-ghost use Rattle.std.specs.Prelude.{◌≡◌, ◌++◌, OnOk, true};
+ghost use Rattle.std.specs.Prelude.{◌≡◌, ◌++◌, [], OnOk, true, false};
 ghost use Rattle.ctl_protocol.specs.OutcomeLines.{reply_line as line_of};
 ghost use Rattle.control_socket.specs.Serving.{Serves};
 ghost use Rattle.control_socket.specs.Dialogues.{AnswersNext, Ends, Sends, Takes, Talks, intake_after, told_after};
@@ -187,7 +187,9 @@ impl Dialogue {
     }
 
     /// No whole line is left to be answered, and nothing to be sent: at most a part of a line came.
-    pub(crate) fn is_silent(&self) -> bool {
+    pub(crate) fn is_silent(&self) -> bool
+        ensures { result ≡ true → (self.now.has_lines ≡ false) × (self.now.replies.items ≡ []) }
+    {
         !self.has_lines && self.replies.is_empty()
     }
 

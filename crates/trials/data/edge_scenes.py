@@ -735,6 +735,32 @@ def silent_clients_of_the_control_socket(stage):
         client.close()
 
 
+def a_line_sent_while_the_launcher_stands(stage):
+    """A launcher stands for a while. A client that came before and sends its line meanwhile is answered, also if 70 others come behind it. Those that said nothing
+    go for them, and are told so."""
+    launcher = stage.serve()
+    before = descriptors(launcher.pid)
+    late = connect(launcher.path)
+    silent = [connect(launcher.path) for _ in range(63)]
+    wait_for(lambda: descriptors(launcher.pid) >= before + 64, "64 clients are not held")
+    # A few rounds, in which all are silent.
+    time.sleep(0.3)
+    os.kill(launcher.pid, signal.SIGSTOP)
+    late.sendall(b'{"req":"list"}\n')
+    others = [connect(launcher.path) for _ in range(70)]
+    os.kill(launcher.pid, signal.SIGCONT)
+    reply = read_line(late)
+    check(reply and json.loads(reply)["code"] == 0, f"a line that was sent meanwhile got {reply!r}")
+    for client in silent:
+        told = read_all(client)
+        check(told and json.loads(told) == {"code": 2, "text": TOO_MANY}, f"a client that goes for another got {told!r}")
+    launcher.answers("beside 70 silent clients of the control socket")
+    for client in [late, *silent, *others]:
+        client.close()
+    wait_for(lambda: descriptors(launcher.pid) <= before, "descriptors are left")
+    launcher.shut_down()
+
+
 def no_descriptor_left(stage):
     """No descriptor is left: nobody is let go as long as nobody waits. A silent client of the control socket gives way to the next one,
     and the refusal is told once."""
@@ -1450,7 +1476,8 @@ def end_all(launcher):
 SCENES = [
     a_client_still_for_a_minute, a_stream_at_a_fifo, clients_that_never_read, clients_of_a_slow_job, slow_clients_of_one_port, ends_that_cannot_be_seen, a_second_launcher,
     a_start_that_fails, spool_links_and_fifos, a_spool_that_others_may_write, another_ones_socket, many_at_a_stale_socket,
-    a_lost_spool_file, closed_standard_streams, pipelined_settings, silent_clients_of_the_control_socket, no_descriptor_left,
+    a_lost_spool_file, closed_standard_streams, pipelined_settings, silent_clients_of_the_control_socket,
+    a_line_sent_while_the_launcher_stands, no_descriptor_left,
     half_lines_at_a_low_limit, many_sockets_at_a_low_limit, a_start_with_no_descriptor_left, a_control_socket_that_was_removed,
     settings_in_the_log, logs_that_go_away, a_disk_that_fails_and_mends, too_many_labels, settings_of_the_first_version,
     limits_and_ignored_signals, private_files, a_journal_at_a_fifo, places_that_are_one_file,

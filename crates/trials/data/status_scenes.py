@@ -78,7 +78,7 @@ def what_a_status_file_holds(stage):
     check(job["demand"] == "load" and job["reasons"]["wants"]["demand"] is True and job["state"] == "idle", f"what wants it: {job}")
     check(job["reasons"]["throttled_until"] == job["moments"]["spawn"] is not None, f"its throttle: {job}")
 
-    launcher.load(shell_job("ended", "exit 3", RunAtLoad=True))
+    launcher.load(shell_job("ended", "exit 3", RunAtLoad=True, ThrottleInterval=1))
     job = job_where(path, "ended", lambda job: job["last_end"])
     end = job["last_end"]
     check(end["run"] == 1 and end["code"] == 3 and "signal" not in end, f"its end: {end}")

@@ -66,7 +66,7 @@ const A_ROUND_WITHOUT_TIME_ANSWERS_A_LINE: &[Step] = &[
     Busy(false),
 ];
 
-/// At 64 clients the one that has been silent for longest gives way to a new one, also with half a line.
+/// At 64 clients the one that has been silent for longest gives way to a new one, also with half a line, and is told so.
 const THE_LONGEST_SILENT_CLIENT_GIVES_WAY: &[Step] = &[
     Connect(64),
     Rounds(1),
@@ -77,7 +77,7 @@ const THE_LONGEST_SILENT_CLIENT_GIVES_WAY: &[Step] = &[
     Rounds(1),
     Connect(1),
     Rounds(1),
-    IsLetGo(7),
+    HearsLast(7, "{\"code\":2,\"text\":\"too many clients\\n\"}\n"),
     Sends(64, "b\n"),
     Rounds(1),
     Hears(64, "{\"code\":0,\"text\":\"b\"}\n"),
@@ -85,6 +85,38 @@ const THE_LONGEST_SILENT_CLIENT_GIVES_WAY: &[Step] = &[
     Sends(6, "c\n"),
     Rounds(1),
     Hears(6, "{\"code\":0,\"text\":\"c\"}\n"),
+];
+
+/// Who sent something since the last round is not silent, and keeps its place.
+const A_CLIENT_THAT_SENT_ITS_LINE_LATE_KEEPS_ITS_PLACE: &[Step] = &[
+    Connect(64),
+    Rounds(2),
+    Sends(0, "a\n"),
+    Connect(1),
+    Accepts,
+    HearsLast(1, "{\"code\":2,\"text\":\"too many clients\\n\"}\n"),
+    Rounds(1),
+    Hears(0, "{\"code\":0,\"text\":\"a\"}\n"),
+    Hears(64, ""),
+];
+
+/// Where all sent something since the last round, a new one waits. A round later the first of them is silent.
+const A_NEW_CLIENT_WAITS_WHERE_ALL_SENT_SOMETHING: &[Step] = &[
+    Connect(64),
+    Rounds(2),
+    OthersSend(64, "a\n"),
+    Connect(1),
+    Accepts,
+    Hears(64, ""),
+    Rounds(1),
+    Hears(0, "{\"code\":0,\"text\":\"a\"}\n"),
+    Hears(63, "{\"code\":0,\"text\":\"a\"}\n"),
+    Hears(64, ""),
+    Rounds(1),
+    HearsLast(0, "{\"code\":2,\"text\":\"too many clients\\n\"}\n"),
+    Sends(64, "b\n"),
+    Rounds(1),
+    Hears(64, "{\"code\":0,\"text\":\"b\"}\n"),
 ];
 
 /// Of 65 that come at once the last waits until a round looked at the others. The first of them is then the longest silent.
@@ -95,13 +127,13 @@ const CLIENTS_THAT_COME_AT_ONCE_GET_IN: &[Step] = &[
     Hears(64, ""),
     Sends(64, "b\n"),
     Rounds(1),
-    IsLetGo(0),
+    HearsLast(0, "{\"code\":2,\"text\":\"too many clients\\n\"}\n"),
     Rounds(1),
     Hears(64, "{\"code\":0,\"text\":\"b\"}\n"),
     Hears(1, ""),
 ];
 
-/// In the round in which a client leaves, another takes its place. A further one is turned away if all 64 ask.
+/// In the round in which a client leaves, another takes its place. A further one waits, and is turned away if all 64 ask on for a second.
 const A_CLIENT_BEHIND_64_IS_TURNED_AWAY: &[Step] = &[
     Connect(64),
     Rounds(1),
@@ -112,12 +144,17 @@ const A_CLIENT_BEHIND_64_IS_TURNED_AWAY: &[Step] = &[
     Hears(64, ""),
     Hears(65, ""),
     OthersSend(65, "b\n"),
+    Later(999),
+    Rounds(1),
+    Hears(65, ""),
+    OthersSend(65, "c\n"),
+    Later(1),
     Rounds(1),
     HearsLast(65, "{\"code\":2,\"text\":\"too many clients\\n\"}\n"),
-    Hears(64, "{\"code\":0,\"text\":\"b\"}\n"),
+    Hears(64, "{\"code\":0,\"text\":\"b\"}\n{\"code\":0,\"text\":\"c\"}\n"),
     Hears(
         63,
-        "{\"code\":0,\"text\":\"a\"}\n{\"code\":0,\"text\":\"b\"}\n",
+        "{\"code\":0,\"text\":\"a\"}\n{\"code\":0,\"text\":\"b\"}\n{\"code\":0,\"text\":\"c\"}\n",
     ),
 ];
 
@@ -132,17 +169,15 @@ const A_CLIENT_THAT_TAKES_NOTHING_GIVES_WAY: &[Step] = &[
     OthersSend(9, "a\n"),
     Connect(1),
     Rounds(1),
-    HearsLast(64, "{\"code\":2,\"text\":\"too many clients\\n\"}\n"),
-    Leaves(64),
+    Hears(64, ""),
     Later(1),
     OthersSend(9, "a\n"),
-    Connect(1),
     Rounds(1),
     IsLetGo(9),
     Quiet(true),
-    Sends(65, "b\n"),
+    Sends(64, "b\n"),
     Rounds(1),
-    Hears(65, "{\"code\":0,\"text\":\"b\"}\n"),
+    Hears(64, "{\"code\":0,\"text\":\"a\"}\n{\"code\":0,\"text\":\"b\"}\n"),
 ];
 
 /// Who may give way is known only once a round looked at every client. Until then a new one waits.
@@ -157,6 +192,7 @@ const A_NEW_CLIENT_WAITS_FOR_A_WHOLE_ROUND: &[Step] = &[
     Sends(64, "b\n"),
     OthersSend(64, "c\n"),
     Time(1_000),
+    Later(1_000),
     Rounds(1),
     HearsLast(64, "{\"code\":2,\"text\":\"too many clients\\n\"}\n"),
     Hears(
@@ -219,6 +255,8 @@ pub const CASES: &[Case] = &[
     Case::Control("time", A_ROUND_ENDS_WITH_ITS_TIME),
     Case::Control("least", A_ROUND_WITHOUT_TIME_ANSWERS_A_LINE),
     Case::Control("silent", THE_LONGEST_SILENT_CLIENT_GIVES_WAY),
+    Case::Control("late", A_CLIENT_THAT_SENT_ITS_LINE_LATE_KEEPS_ITS_PLACE),
+    Case::Control("all_late", A_NEW_CLIENT_WAITS_WHERE_ALL_SENT_SOMETHING),
     Case::Control("burst", CLIENTS_THAT_COME_AT_ONCE_GET_IN),
     Case::Control("many", A_CLIENT_BEHIND_64_IS_TURNED_AWAY),
     Case::Control("stuck", A_CLIENT_THAT_TAKES_NOTHING_GIVES_WAY),

@@ -32,6 +32,8 @@ pub enum Step {
     Later(u64),
     /// So many rounds: the clients are served, and then those that wait are taken.
     Rounds(usize),
+    /// Those that wait are taken, and no client is served before.
+    Accepts,
     /// A round, and whether it tells that one may go on at once.
     Busy(bool),
     /// These lines were asked since the last such step, each told with a newline.
@@ -144,6 +146,10 @@ impl Stage {
             Step::IsLetGo(number) => hears(rt.alloc(), &mut self.clients, number, None, true),
             Step::Rounds(count) => {
                 let _is_busy = self.rounds(rt, count);
+                true
+            }
+            Step::Accepts => {
+                self.socket.accept(rt, self.watch.poll.registry());
                 true
             }
             Step::Busy(is_busy) => self.rounds(rt, 1) == is_busy,

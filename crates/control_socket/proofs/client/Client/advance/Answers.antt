@@ -1,8 +1,12 @@
 -- What a client says, and is sent.
 use Rattle.std.proofs.Common.{rules, ◌≡◌, subst, sym}
 use Rattle.control_socket.specs.Dialogues.{Converses, SendsOn}
+use Rattle.control_socket.specs.Serving.{nobody}
 use Rattle.control_socket.proofs.DialoguesLemmas.{converses_sends}
 use Rattle.control_socket.proofs.client.Client.advance.Goals as goal
+
+pub returns-in-Some-clause-serves : goal.returns-in-Some-clause-serves
+returns-in-Some-clause-serves g c = nobody
 
 pub returns-clause-converses : goal.returns-clause-converses
 returns-clause-converses g c =

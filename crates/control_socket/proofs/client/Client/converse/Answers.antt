@@ -17,10 +17,10 @@ returns-in_err-answer-2-clause-serves g c = serves_append c.loop.invariant.serve
 
 pub loop-preserved : goal.loop-preserved
 loop-preserved g c = record {
-  converses = talked (converses_reads c.loop.invariant.converses c.in_ok-read.ensures) c.in_ok-answer-2.ensures.talks;
+  converses = talked (converses_reads c.loop.invariant.converses c.in_ok-read.ensures.reads) c.in_ok-answer-2.ensures.talks;
   serves = serves_append c.loop.invariant.serves c.answer-in-loop.ensures.serves;
   name = c.answer-in-loop.ensures.name ∙ c.loop.invariant.name;
 }
 
 pub returns-then-not-branch-clause-converses : goal.returns-then-not-branch-clause-converses
-returns-then-not-branch-clause-converses g c = converses_reads c.loop.invariant.converses c.in_ok-read.ensures
+returns-then-not-branch-clause-converses g c = converses_reads c.loop.invariant.converses c.in_ok-read.ensures.reads

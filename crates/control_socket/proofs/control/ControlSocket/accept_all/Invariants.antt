@@ -1,0 +1,10 @@
+-- All waited so far.
+use Rattle.std.proofs.Common.{◌≡◌}
+use Rattle.control_socket.specs.Clients.{AllWait}
+use Rattle.control_socket.proofs.control.ControlSocket.accept_all.Given as goal
+
+abbrev pub invariant-loop : goal.invariant-loop
+invariant-loop g l = record {
+  wait : AllWait l.fn.self.up l.fn.self.clients l.self.clients;
+  up : l.self.up ≡ l.fn.self.up;
+}
