@@ -151,7 +151,10 @@ const A_CLIENT_BEHIND_64_IS_TURNED_AWAY: &[Step] = &[
     Later(1),
     Rounds(1),
     HearsLast(65, "{\"code\":2,\"text\":\"too many clients\\n\"}\n"),
-    Hears(64, "{\"code\":0,\"text\":\"b\"}\n{\"code\":0,\"text\":\"c\"}\n"),
+    Hears(
+        64,
+        "{\"code\":0,\"text\":\"b\"}\n{\"code\":0,\"text\":\"c\"}\n",
+    ),
     Hears(
         63,
         "{\"code\":0,\"text\":\"a\"}\n{\"code\":0,\"text\":\"b\"}\n{\"code\":0,\"text\":\"c\"}\n",
@@ -177,7 +180,10 @@ const A_CLIENT_THAT_TAKES_NOTHING_GIVES_WAY: &[Step] = &[
     Quiet(true),
     Sends(64, "b\n"),
     Rounds(1),
-    Hears(64, "{\"code\":0,\"text\":\"a\"}\n{\"code\":0,\"text\":\"b\"}\n"),
+    Hears(
+        64,
+        "{\"code\":0,\"text\":\"a\"}\n{\"code\":0,\"text\":\"b\"}\n",
+    ),
 ];
 
 /// Who may give way is known only once a round looked at every client. Until then a new one waits.
