@@ -29,30 +29,30 @@ const LABEL: usize = 130;
 /// So many ticks are written at most.
 const MOST_TICKS: u64 = 9;
 
-/// The head: how large it is, its title, its colours, and the span. Its holes are for the height, and the span. Where the image is a document of its own and has
+/// The head: how large it is, its title, its colours, and the span. The colours are literal ones, since viewers that are no browsers know no variables. Its holes are for the height, and the span. Where the image is a document of its own and has
 /// fewer than 700 pixels, it fits in them, and its labels are of twice the size, so that they can be read.
 const OPENING: &str =
     r#"<svg xmlns="http://www.w3.org/2000/svg" class="runs" viewBox="0 0 1000 $0" width="1000" height="$0" role="img">
 <title>Runs from $1 to $2</title>
 <style>
-.runs { color-scheme: light dark; --ground: #ffffff; --ink: #1c2733; --faint: #5b6875; --line: #d9dfe5; --well: #2e7d5b; --code: #b86200; --signal: #7b4fb5; --crash: #c62828; --stopped: #4a6a8a; --lives: #1b76c4; }
-@media (prefers-color-scheme: dark) { .runs { --ground: #11171d; --ink: #e6ebf0; --faint: #9aa7b4; --line: #2c3742; --well: #56b88c; --code: #f0a040; --signal: #b794f0; --crash: #ff6b6b; --stopped: #8fb0d0; --lives: #5fb0f5; } }
-.runs text { font: 12px ui-monospace, 'DejaVu Sans Mono', Menlo, Consolas, monospace; fill: var(--ink); }
-.runs .ground { fill: var(--ground); }
-.runs .faint { fill: var(--faint); }
+.runs { color-scheme: light dark; }
+.runs text { font: 12px ui-monospace, 'DejaVu Sans Mono', Menlo, Consolas, monospace; fill: #1c2733; }
+.runs .ground { fill: #ffffff; }
+.runs .faint { fill: #5b6875; }
 .runs .label { font-weight: bold; }
-.runs .tick, .runs .base { stroke: var(--line); fill: none; }
-.runs .well { fill: var(--well); stroke: var(--well); }
-.runs .code { fill: var(--code); stroke: var(--code); }
-.runs .signal { fill: var(--signal); stroke: var(--signal); }
-.runs .crash { fill: var(--crash); stroke: var(--crash); }
-.runs .stopped { fill: var(--ground); stroke: var(--stopped); stroke-width: 1.5; }
-.runs .lives { fill: var(--lives); stroke: var(--lives); }
-.runs .end { stroke: var(--ink); stroke-width: 1; }
-.runs .open { fill: none; stroke: var(--ink); stroke-width: 2; }
-.runs .demand { fill: var(--lives); }
-.runs .throttle { fill: var(--ground); stroke: var(--code); stroke-width: 1.5; }
-.runs .refusal { fill: none; stroke: var(--crash); stroke-width: 2; }
+.runs .tick, .runs .base { stroke: #d9dfe5; fill: none; }
+.runs .well { fill: #2e7d5b; stroke: #2e7d5b; }
+.runs .code { fill: #b86200; stroke: #b86200; }
+.runs .signal { fill: #7b4fb5; stroke: #7b4fb5; }
+.runs .crash { fill: #c62828; stroke: #c62828; }
+.runs .stopped { fill: #ffffff; stroke: #4a6a8a; stroke-width: 1.5; }
+.runs .lives { fill: #1b76c4; stroke: #1b76c4; }
+.runs .end { stroke: #1c2733; stroke-width: 1; }
+.runs .open { fill: none; stroke: #1c2733; stroke-width: 2; }
+.runs .demand { fill: #1b76c4; }
+.runs .throttle { fill: #ffffff; stroke: #b86200; stroke-width: 1.5; }
+.runs .refusal { fill: none; stroke: #c62828; stroke-width: 2; }
+@media (prefers-color-scheme: dark) { .runs text { fill: #e6ebf0; } .runs .ground { fill: #11171d; } .runs .faint { fill: #9aa7b4; } .runs .tick, .runs .base { stroke: #2c3742; } .runs .well { fill: #56b88c; stroke: #56b88c; } .runs .code { fill: #f0a040; stroke: #f0a040; } .runs .signal { fill: #b794f0; stroke: #b794f0; } .runs .crash { fill: #ff6b6b; stroke: #ff6b6b; } .runs .stopped { fill: #11171d; stroke: #8fb0d0; } .runs .lives { fill: #5fb0f5; stroke: #5fb0f5; } .runs .end { stroke: #e6ebf0; } .runs .open { stroke: #e6ebf0; } .runs .demand { fill: #5fb0f5; } .runs .throttle { fill: #11171d; stroke: #f0a040; } .runs .refusal { stroke: #ff6b6b; } }
 @media (max-width: 700px) { svg:root { width: 100%; height: auto; } svg:root .label { font-size: 24px; } }
 </style>
 <rect class="ground" width="1000" height="$0"/>
