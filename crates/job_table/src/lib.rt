@@ -6,11 +6,12 @@ ghost use Rattle.std.specs.Borrow.{sem};
 ghost use Rattle.std.specs.String.{string_bytes};
 ghost use Rattle.std.specs.Option.{option_map};
 ghost use Rattle.history_model.specs.Reasons.{reasons_of};
+ghost use Rattle.history_model.specs.Clock.{definition_of};
 ghost use Rattle.history_model.specs.declared.TheConstants.{MAX_UP, MAX_WALL};
 ghost use Rattle.calendar_due.specs.ZoneRules.{minute_at};
 ghost use Rattle.history_model.specs.Acceptance.{refusal_in};
 ghost use Rattle.history_model.specs.declared.Refusal.TheVariants.{NoMemory};
-ghost use Rattle.history_model.specs.Machine.{State, opened, past_of, ListJobs, PrintJob, OfJob, UnloadJob, ShutDown, Tick, Sight};
+ghost use Rattle.history_model.specs.Machine.{State, opened, past_of, is_disabled, ListJobs, PrintJob, OfJob, UnloadJob, ShutDown, Tick, Sight};
 
 mod calls;
 mod moments;
@@ -267,6 +268,15 @@ impl JobTable {
             option_map (λ path. path.now) result ≡ holding (past_of s label.now) }
     {
         self.jobs.path_that_holds(label)
+    }
+
+    /// Whether the label of a loaded job is disabled: its setting decides, or else its definition. None if no job with this label is loaded.
+    /// It takes no memory, and changes nothing.
+    pub fn is_disabled(&self, label: &str) -> Option<bool>
+        ensures { (s : State) → KeepsState self.now s →
+            result ≡ option_map (λ past. is_disabled s label.now (definition_of past).disabled) (past_of s label.now) }
+    {
+        self.jobs.is_disabled(label)
     }
 
     /// Whether a shutdown was accepted, after which no load is accepted. It takes no memory, and changes nothing.

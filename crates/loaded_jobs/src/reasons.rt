@@ -1,13 +1,15 @@
-//! Why a loaded job has no spawn due, and when time alone may change that.
+//! Why a loaded job has no spawn due, when time alone may change that, and whether its label is disabled.
 
 ghost use Rattle.std.specs.Prelude.{◌≡◌};
 ghost use Rattle.std.specs.Option.{option_map};
-ghost use Rattle.history_model.specs.Machine.{State, past_of};
+ghost use Rattle.history_model.specs.Machine.{State, past_of, is_disabled};
+ghost use Rattle.history_model.specs.Clock.{definition_of};
 ghost use Rattle.history_model.specs.Reasons.{reasons_of};
 ghost use Rattle.loaded_jobs.specs.StandsFor.{KeepsState};
 ghost use Rattle.loaded_jobs.specs.Waking.{spawning, demanding, holding, HasMoments};
 
 use crate::jobs::Jobs;
+use crate::settings;
 use history_model::{DemandKind, Reasons};
 use job_core::Moments;
 
@@ -71,6 +73,22 @@ impl Jobs {
         match self.here(label) { // for the proof
             None => None,
             Some(seat) => seat.core.path_that_holds(),
+        }
+    }
+
+    /// Whether the label of the job is disabled: its setting decides, or else its definition. None if no such job is loaded.
+    pub fn is_disabled(&self, label: &str) -> Option<bool>
+        requires { IsSound self.now }
+        ensures { (s : State) → KeepsState (seen_table self.now) s →
+            result ≡ option_map (λ past. is_disabled s label.now (definition_of past).disabled) (past_of s label.now) }
+    {
+        match self.here(label) { // for the proof
+            None => None,
+            Some(seat) => Some(settings::is_disabled(
+                &self.settings,
+                label,
+                seat.def.disabled(),
+            )),
         }
     }
 }

@@ -1,10 +1,10 @@
 //! The lines of all loaded jobs.
 
-ghost use Rattle.std.specs.Prelude.{Some};
-ghost use Rattle.history_model.specs.Machine.{State, past_of};
+ghost use Rattle.std.specs.Prelude.{◌≡◌, true, Some, is_some};
+ghost use Rattle.history_model.specs.Machine.{State};
 ghost use Rattle.loaded_jobs.specs.StandsFor.{KeepsState};
-ghost use Rattle.status_file.specs.Facts.{HasFacts};
-ghost use Rattle.status_file.specs.Jobs.{AddsJobs};
+ghost use Rattle.status_file.specs.declared.status.DisabledBy.TheVariants.{Definition, Override};
+ghost use Rattle.status_file.specs.Jobs.{AddsJobs, Tells};
 
 use crate::facts::facts_of;
 use crate::line::StatusText;
@@ -16,9 +16,6 @@ use history_model::{Entry, JobNo};
 use job_table::JobTable;
 use std::alloc::{AllocError, Global};
 use std::cmp::Ordering;
-
-/// How `print` ends for a label that is disabled.
-const DISABLED: &str = "\tdisabled = true\n}\n";
 
 /// As many numbers are asked for. A table gives a job the least number that is free, and a job that is gone has its own until the next event.
 pub(crate) const NUMBERS: JobNo = 2048;
@@ -142,18 +139,18 @@ fn add_loaded(
 )
     ensures { AddsJobs table.now text.old text.new }
 {
-    match facts_of(table, label) {
-        Some(facts) => {
+    match (facts_of(table, label), table.is_disabled(label)) {
+        (Some(facts), Some(is_disabled)) => {
             let job = JobStatus {
                 label,
                 facts,
                 note,
                 keys: JobKeys::of(def, facts.path),
-                disabled: disabled_by(alloc, table, def),
+                disabled: disabled_by(is_disabled, def.disabled()),
             };
             add_line(text, alloc, table, &job, def.calendar());
         }
-        None => {}
+        _ => {}
     }
 }
 
@@ -165,24 +162,21 @@ fn add_line(
     job: &JobStatus<'_>,
     calendar: &[Entry],
 )
-    requires { (s : State) → KeepsState table.now s → HasFacts (past_of s job.now.label.now) (Some job.now.facts) }
+    requires { (s : State) → KeepsState table.now s → Tells s job.now }
     ensures { AddsJobs table.now text.old text.new }
 {
     let _ = table; // for the proof
     add_job(text, alloc, job, calendar);
 }
 
-// By what the label is disabled. Both may disable it: then the definition is told. Without memory it is told as enabled.
-fn disabled_by(alloc: Global, table: &JobTable, def: &Def) -> Option<DisabledBy> {
-    let is_disabled = match table.print(alloc, def.label()) {
-        Ok(shown) => shown.as_str().ends_with(DISABLED),
-        Err(_) => false,
-    };
-    if !is_disabled {
-        None
-    } else if def.disabled() {
-        Some(DisabledBy::Definition)
-    } else {
-        Some(DisabledBy::Override)
+// By what a label is disabled, if it is. Both may disable it: then the definition is told.
+fn disabled_by(is_disabled: bool, in_definition: bool) -> Option<DisabledBy>
+    ensures { is_some result ≡ is_disabled }
+    ensures by { is_disabled ≡ true → result ≡ Some (if in_definition then Definition else Override) }
+{
+    match (is_disabled, in_definition) {
+        (false, _) => None,
+        (true, true) => Some(DisabledBy::Definition),
+        (true, false) => Some(DisabledBy::Override),
     }
 }
