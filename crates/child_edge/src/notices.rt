@@ -10,8 +10,8 @@ use crate::words::{Hole, filled, refusal};
 use history_model::{Ended, JobNo, Obs, Text};
 use std::alloc::Global;
 use std::collections::{BTreeMap, VecDeque};
-use std::io;
 use std::rt::Clock;
+use std::{io, mem};
 use std::time::Duration;
 
 /// What a notice is about.
@@ -131,6 +131,8 @@ pub(crate) struct Notices {
     dropped: u64,
     told: BTreeMap<Call, String>,
     paths: BTreeMap<String, String>,
+    /// Why the last start was refused; none if it went well, or if there was no memory for the words.
+    pub(crate) start_refusal: Option<String>,
 }
 
 impl Notices {
@@ -142,6 +144,7 @@ impl Notices {
             dropped: 0,
             told: BTreeMap::new(alloc),
             paths: BTreeMap::new(alloc),
+            start_refusal: None,
         }
     }
 
@@ -176,6 +179,7 @@ impl Notices {
         if run <= 1 {
             self.all_done(job, OF_RUNS);
         }
+        self.keep_refusal(start, answer);
         match answer {
             Ok(pid) => {
                 self.done(job, Asked::Start);
@@ -191,6 +195,17 @@ impl Notices {
                 self.start_refused(start, Asked::Start, form, path, failure.error);
             }
         }
+    }
+
+    fn keep_refusal(&mut self, start: Start<'_>, answer: Result<u32, Failure>) {
+        let refusal = match answer {
+            Ok(_) => None,
+            Err(failure) => {
+                let (form, path) = failure.said(start.def);
+                filled(self.alloc, form, &[Words(path), Error(failure.error)])
+            }
+        };
+        drop(mem::replace(&mut self.start_refusal, refusal));
     }
 
     /// A start found that a file of its connection is lost.

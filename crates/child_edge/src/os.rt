@@ -128,6 +128,15 @@ impl<R: Processes> OsEdge<R> {
         self.notices.next()
     }
 
+    /// Why the last start was refused: what could not be done, with the system's reason. None if it went well, or if there was no memory
+    /// for the words.
+    pub fn start_refusal(&self) -> Option<&str> {
+        match &self.notices.start_refusal {
+            Some(words) => Some(words.as_str()),
+            None => None,
+        }
+    }
+
     /// From now on each start, end, TERM and KILL of a run is told too. Takes no memory.
     pub fn log_runs(&mut self)
         ensures { self.new ≡ self.old }

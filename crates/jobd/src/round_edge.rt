@@ -72,6 +72,9 @@ pub trait RoundEdge: ChildEdge + SleepEdge + PathEdge + SocketEdge {
     /// The oldest of what is to be told and was not.
     fn next_notice(&mut self) -> Option<Notice>;
 
+    /// Why the last start was refused, in the words of the edge; none if it went well.
+    fn start_refusal(&self) -> Option<&str>;
+
     /// A client was answered: with this refusal, or well.
     fn note_reply(&mut self, refusal: Option<Refusal>);
 
@@ -155,6 +158,10 @@ impl<R: System> RoundEdge for OsEdge<R> {
 
     fn next_notice(&mut self) -> Option<Notice> {
         OsEdge::next_notice(self)
+    }
+
+    fn start_refusal(&self) -> Option<&str> {
+        OsEdge::start_refusal(self)
     }
 
     fn note_reply(&mut self, _refusal: Option<Refusal>) {}

@@ -74,6 +74,11 @@ impl<R: System> StandingFile<R> {
         self.has_changed && !is_soon
     }
 
+    /// What it tells is another since it was written.
+    pub(crate) fn note_change(&mut self) {
+        self.has_changed = true;
+    }
+
     /// Puts the text in the place of the file. What the system refuses is told once, until it is written again.
     pub(crate) fn put(&mut self, text: &[u8], at: Reading) {
         self.tried = Some(at.up);

@@ -7,7 +7,7 @@ use crate::keeper::Keeper;
 use crate::round_edge::{RoundEdge, SleepEdge};
 use crate::standing_file::StandingFile;
 use child_edge::{
-    ChildEdge, Client, ClockEdge, Edge, EdgeFault, Notice, NoticeKind, PathEdge, SocketEdge, System,
+    ChildEdge, Client, ClockEdge, Edge, EdgeFault, Notice, PathEdge, SocketEdge, System,
 };
 use history_model::definition::Def;
 use history_model::{Ended, JobNo, Obs, Reading, Refusal};
@@ -83,7 +83,10 @@ impl<E: RoundEdge, R: System> ChildEdge for StatusEdge<E, R> {
     ) -> Result<u32, EdgeFault> {
         let answer = self.edge.start(job, run, def, conn);
         if let Some(keeper) = &mut self.keeper {
-            keeper.notes.started(job, run, def.label(), answer.is_err());
+            match &answer {
+                Ok(_) => keeper.notes.started(job, run),
+                Err(_) => keeper.notes.refused(job, run, self.edge.start_refusal()),
+            }
         }
         answer
     }
@@ -223,13 +226,11 @@ impl<E: RoundEdge, R: System> RoundEdge for StatusEdge<E, R> {
                 return Some(notice);
             }
         }
-        let notice = self.edge.next_notice()?;
-        if let Some(keeper) = &mut self.keeper {
-            if let NoticeKind::Refusal = notice.kind {
-                keeper.notes.told(notice.text.as_str());
-            }
-        }
-        Some(notice)
+        self.edge.next_notice()
+    }
+
+    fn start_refusal(&self) -> Option<&str> {
+        self.edge.start_refusal()
     }
 
     fn note_reply(&mut self, refusal: Option<Refusal>) {
@@ -241,6 +242,9 @@ impl<E: RoundEdge, R: System> RoundEdge for StatusEdge<E, R> {
     fn note_closing(&mut self) {
         if let Some(keeper) = &mut self.keeper {
             keeper.close();
+        }
+        if let Some(file) = &mut self.file {
+            file.note_change();
         }
     }
 

@@ -32,7 +32,7 @@ pub fn job_count(table: &JobTable) -> u64 {
 }
 
 // Whether the number is that of a loaded job, and of none that is just gone.
-fn is_loaded(table: &JobTable, job: JobNo) -> bool {
+pub(crate) fn is_loaded(table: &JobTable, job: JobNo) -> bool {
     match job_of(table, job) {
         Some((label, _)) => table.moments(label).is_some(),
         None => false,
@@ -40,7 +40,7 @@ fn is_loaded(table: &JobTable, job: JobNo) -> bool {
 }
 
 /// The label and the definition of the job with this number, also of one that is just gone; None for a number that no job has. It takes no memory.
-pub(crate) fn job_of(table: &JobTable, job: JobNo) -> Option<(&str, &Def)> {
+fn job_of(table: &JobTable, job: JobNo) -> Option<(&str, &Def)> {
     let step = table.last_step();
     let label = step.label(job);
     if label.is_empty() {

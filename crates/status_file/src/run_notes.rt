@@ -1,6 +1,6 @@
 //! What was heard of the runs of each loaded job: a small record beside the table, which is forgotten once its job is gone.
 
-use crate::jobs::{NUMBERS, job_of};
+use crate::jobs::{NUMBERS, is_loaded};
 use crate::status::{JobNote, RefusedStart, RunEnd};
 use history_model::{Ended, JobNo, Reading, Text};
 use job_table::JobTable;
@@ -38,14 +38,30 @@ impl Counted {
             refused: None,
         }
     }
+
+    // The start of a run was ordered.
+    fn order(&mut self, run: u64, at: Reading) {
+        self.since = at;
+        self.run = run;
+        self.starts = self.starts.saturating_add(1);
+        self.started = Some(at);
+        self.term = None;
+        self.kill = None;
+    }
+
+    // It was refused.
+    fn refuse(&mut self, run: u64, at: Reading) {
+        self.failures = self.failures.saturating_add(1);
+        self.refusals = self.refusals.saturating_add(1);
+        self.refused = Some((run, at));
+    }
 }
 
 /// What was heard of a job since its load.
 #[derive(Drop)]
 struct RunNote {
     counted: Counted,
-    // Of a job whose start was refused: its label, and what was told of it last.
-    label: Option<Text>,
+    // Why the last refused start was refused, if the edge had words for it.
     reason: Option<Text>,
 }
 
@@ -53,20 +69,7 @@ impl RunNote {
     fn new(at: Reading) -> RunNote {
         RunNote {
             counted: Counted::new(at),
-            label: None,
             reason: None,
-        }
-    }
-
-    // Takes the reason, if the line tells the refused start that is the last.
-    fn take_reason(&mut self, alloc: Global, line: &str) {
-        let reason = match (&self.label, self.counted.refused) {
-            (Some(label), Some((run, _))) => reason_in(line, label.as_str(), run),
-            _ => None,
-        };
-        if let Some(reason) = reason {
-            let kept = Text::copy_of(alloc, reason).ok();
-            drop(mem::replace(&mut self.reason, kept));
         }
     }
 }
@@ -75,17 +78,6 @@ fn lent(text: &Option<Text>) -> Option<&str> {
     match text {
         Some(text) => Some(text.as_str()),
         None => None,
-    }
-}
-
-// The reason in the line that tells a refused start: the label, the run, and what could not be done.
-fn reason_in<'a>(line: &'a str, label: &str, run: u64) -> Option<&'a str> {
-    let behind = line.strip_prefix(label)?.strip_prefix(": run ")?;
-    let (number, reason) = behind.split_once(": ")?;
-    if number.parse::<u64>().ok() == Some(run) && reason.starts_with("cannot ") {
-        Some(reason)
-    } else {
-        None
     }
 }
 
@@ -134,36 +126,36 @@ impl RunNotes {
         }
     }
 
-    /// Each job of the table has its place. One that had none was loaded since this was called last.
+    /// Each loaded job of the table has its place. One that had none was loaded since this was called last.
     pub fn see_all(&mut self, table: &JobTable) {
         for job in 0..NUMBERS {
-            if job_of(table, job).is_some() {
+            if is_loaded(table, job) {
                 self.make_place(job);
             }
         }
     }
 
-    /// A start was ordered; whether it was refused.
-    pub fn started(&mut self, job: JobNo, run: u64, label: &str, is_refused: bool) {
+    /// A run was started.
+    pub fn started(&mut self, job: JobNo, run: u64) {
+        let at = self.at;
+        if let Some(note) = self.note(job) {
+            note.counted.order(run, at);
+        }
+    }
+
+    /// The start of a run was refused, for this reason if the edge had words for it.
+    pub fn refused(&mut self, job: JobNo, run: u64, reason: Option<&str>) {
         let (alloc, at) = (self.alloc, self.at);
         let Some(note) = self.note(job) else {
             return;
         };
-        let counted = &mut note.counted;
-        counted.since = at;
-        counted.run = run;
-        counted.starts = counted.starts.saturating_add(1);
-        counted.started = Some(at);
-        counted.term = None;
-        counted.kill = None;
-        if is_refused {
-            counted.failures = counted.failures.saturating_add(1);
-            counted.refusals = counted.refusals.saturating_add(1);
-            counted.refused = Some((run, at));
-            if note.label.is_none() {
-                note.label = Text::copy_of(alloc, label).ok();
-            }
-        }
+        note.counted.order(run, at);
+        note.counted.refuse(run, at);
+        let kept = match reason {
+            Some(reason) => Text::copy_of(alloc, reason).ok(),
+            None => None,
+        };
+        drop(mem::replace(&mut note.reason, kept));
     }
 
     /// TERM was ordered.
@@ -204,16 +196,6 @@ impl RunNotes {
     pub fn gone(&mut self, job: JobNo) {
         if let Some(slot) = self.jobs.get_mut(job as usize) {
             drop(slot.take());
-        }
-    }
-
-    /// A refusal is told in this line: it may be the reason of a refused start.
-    pub fn told(&mut self, line: &str) {
-        let alloc = self.alloc;
-        for slot in self.jobs.iter_mut() {
-            if let Some(note) = slot {
-                note.take_reason(alloc, line);
-            }
         }
     }
 
