@@ -222,7 +222,7 @@ PLACES = [
     ("man/jobd.journal.5", "The text of a refusal ends with a newline", "what a reply's text ends with"),
     ("man/jobscope.1", "A fault is one line on standard error", "how a fault is told"),
     ("SECURITY.md", "in the repository", "where faults are told"),
-    ("README.md", "Faults are told in the repository", "where faults are told"),
+    ("README.md", "Report bugs as issues in the repository", "where to report bugs"),
     ("packaging/debian/control", "Faults are told in the repository", "where faults are told"),
 ]
 for path, words, why in PLACES:
