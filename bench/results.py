@@ -15,13 +15,15 @@ import sys
 HERE = os.path.dirname(os.path.abspath(__file__))
 PAGE = f"{HERE}/RESULTS.md"
 README = f"{os.path.dirname(HERE)}/README.md"
-# The rows of README with figures: what history.csv says behind `1000 jobs under NAME: `, and the unit; and whose figure stands in which column.
+# The rows of README with figures: what history.csv says after `1000 jobs under NAME, a quiet machine: `, and the unit; and whose figure stands in which column.
 README_ROWS = {
-    "1,000 jobs started, seconds": ("all started", "s"),
-    "memory beside 1,000 jobs, MB": ("memory, shared pages parted", "MB"),
-    "processes beside 1,000 jobs": ("processes beside the jobs", "processes"),
+    "all started, seconds": ("all started", "s"),
+    "memory beside the jobs, MB": ("memory, shared pages parted", "MB"),
+    "a restart after a kill, ms": ("a restart after a kill, median of twenty", "ms"),
+    "status of one job, ms": ("status of one, by a program", "ms"),
+    "**processor a minute at rest, ms**": ("processor a minute at rest", "ms"),
 }
-README_COLUMNS = {1: "jobd", 4: "runit", 5: "s6"}
+README_COLUMNS = {1: "jobd", 2: "runit", 3: "daemontools", 4: "supervisor"}
 NUMBER = re.compile(r"[\d,]+(?:\.\d+)?")
 
 
@@ -65,7 +67,7 @@ def readme_compared(last):
                 rows.add(cells[0])
                 what, unit = README_ROWS[cells[0]]
                 for place, name in README_COLUMNS.items():
-                    figure = written(last[f"1000 jobs under {name}: {what}", unit])
+                    figure = written(last[f"1000 jobs under {name}, a quiet machine: {what}", unit])
                     if cells[place] != figure:
                         faults.append(f"README: {cells[0]}, {name}: {cells[place]}, and the last is {figure}")
                         cells[place] = figure

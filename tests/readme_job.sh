@@ -1,6 +1,6 @@
 #!/usr/bin/env bash
-# Types what README.md shows first, beside a launcher, and then its first job, line by line, and compares what comes with what the page shows. Process ids,
-# dates and times may differ. It is run by hand, after `make build`. The folder of the programs is the first word, or build. With the kit on the PATH and
+# Types the first block of README.md in an empty folder, line by line, and compares what comes with what the page shows. Process ids, dates, times and
+# spans may differ. It is run by hand, after `make build`. The folder of the programs is the first word, or build. With the kit on the PATH and
 # the second word `make`, what `make run` prints is compared too.
 set -euo pipefail
 
@@ -11,15 +11,12 @@ for program in jobd jobctl jobscope; do
 done
 folder=$(mktemp -d)
 end() {
-    for it in shown job; do "$programs/jobctl" --socket "$folder/$it/jobd.sock" shutdown > /dev/null 2>&1 || true; done
+    "$programs/jobctl" --socket "$folder/job/jobd.sock" shutdown > /dev/null 2>&1 || true
     wait
     rm -rf "$folder"
 }
 trap end EXIT
-mkdir "$folder/shown" "$folder/job"
-mkdir -m 700 "$folder/shown/spool"
-(cd "$folder/shown" && exec "$programs/jobd" serve --socket jobd.sock --store overrides.db --spool spool --journal journal.jsonl > jobd.log 2>&1) &
-for _ in $(seq 50); do [ -S "$folder/shown/jobd.sock" ] && break; sleep 0.1; done
+mkdir "$folder/job"
 python3 - "$programs" "$folder" <<'END'
 import os, sys
 
@@ -28,16 +25,14 @@ sys.path.insert(0, "tests")
 from typed_page import type_page
 
 programs, folder = sys.argv[1:]
-shown = f"{folder}/shown"
-count = type_page("README.md", "shown", programs, shown, variables={"JOBD_SOCKET": f"{shown}/jobd.sock", "JOBD_JOURNAL": f"{shown}/journal.jsonl"})
-first = count and type_page("README.md", "first job", programs, f"{folder}/job")
-if not first:
+count = type_page("README.md", "first", programs, f"{folder}/job")
+if not count:
     sys.exit(1)
 left = sorted(os.listdir(f"{folder}/job"))
 if "jobd.sock" in left or os.listdir(f"{folder}/job/spool"):
     print(f"readme_job: left over: {left}", file=sys.stderr)
     sys.exit(1)
-print(f"readme_job: {count + first} lines were typed, and what came is what the page shows")
+print(f"readme_job: {count} lines were typed, and what came is what the page shows")
 END
 if [ "${2:-}" = make ]; then
     sed -n '/^`make run` prints$/,/^Job /p' README.md | sed -n 's/^    //p' > "$folder/wanted"

@@ -37,18 +37,24 @@ def steps_of(text, mark):
 
 def plain(rows):
     """The lines without what differs from run to run."""
-    forms = [(r"^\d+\t", "PID\t"), (r"(?<=pid = )\d+", "PID"), (r"\b\d{4}-\d\d-\d\d\b( [A-Z][a-z]{2}\b)?", "DATE"), (r"\b\d\d:\d\d:\d\d\b", "TIME"), (r"\bafter \d+\.\d s", "after SPAN"),
+    forms = [(r"^\d+\t", "PID\t"), (r"(?<=pid = )\d+", "PID"), (r"\b\d{4}-\d\d-\d\d\b( [A-Z][a-z]{2}\b)?", "DATE"), (r"\b\d\d:\d\d:\d\d\b", "TIME"), (r"\b(after|in) \d+\.\d s", r"\1 SPAN"),
              (r"[+-]\d{4}\b", "ZONE")]
     for form, word in forms:
         rows = [re.sub(form, word, row) for row in rows]
     return rows
 
 
+def is_said(row):
+    """Whether the page may show the line: a program of `make quick` says at each start that it is not proved."""
+    return not re.fullmatch(r"\w+: not proved \(make quick made it; .*\)", row.rstrip("\n"))
+
+
 def came_of(shell, typed, shown):
     if typed[-1].endswith("&"):
         shell.stdin.write("\n".join(typed) + "\n")
         shell.stdin.flush()
-        return [shell.stdout.readline().rstrip("\n") for _ in shown]
+        lines = (row.rstrip("\n") for row in shell.stdout if is_said(row))
+        return [next(lines, "the shell has ended") for _ in shown]
     shell.stdin.write("\n".join(typed) + f"\necho '{END}'\n")
     shell.stdin.flush()
     came = []
@@ -56,7 +62,8 @@ def came_of(shell, typed, shown):
         if row.rstrip("\n").endswith(END):
             rest = row.rstrip("\n")[: -len(END)]
             return came + ([rest] if rest else [])
-        came.append(row.rstrip("\n"))
+        if is_said(row):
+            came.append(row.rstrip("\n"))
     return [*came, "the shell has ended"]
 
 
