@@ -11,8 +11,8 @@ use history_model::{Ended, JobNo, Obs, Text};
 use std::alloc::Global;
 use std::collections::{BTreeMap, VecDeque};
 use std::rt::Clock;
-use std::{io, mem};
 use std::time::Duration;
+use std::{io, mem};
 
 /// What a notice is about.
 #[derive(Clone, Copy)]

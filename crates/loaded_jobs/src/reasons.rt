@@ -84,11 +84,7 @@ impl Jobs {
     {
         match self.here(label) { // for the proof
             None => None,
-            Some(seat) => Some(settings::is_disabled(
-                &self.settings,
-                label,
-                seat.def.disabled(),
-            )),
+            Some(seat) => Some(settings::is_disabled(&self.settings, label, seat.def.disabled())),
         }
     }
 }
