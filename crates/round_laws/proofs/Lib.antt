@@ -8,3 +8,4 @@ pub mod TurnQuietLemmas
 pub mod RoundQuietLemmas
 pub mod DecidingLemmas
 pub mod FollowingLemmas
+pub mod CalledLemmas

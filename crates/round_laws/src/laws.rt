@@ -13,6 +13,7 @@ ghost use Rattle.live_loop.specs.Looks.{IsEmpty};
 ghost use Rattle.live_loop.specs.Rounds.{AreRounds, IsNew as IsNobodyYet, Left};
 ghost use Rattle.outside.specs.Stores.{StoreCall};
 ghost use Rattle.jobd.specs.declared.round_launcher.RoundLauncher.{RoundLauncher as Launcher};
+ghost use Rattle.round_laws.specs.Called.{AsksBetween};
 ghost use Rattle.round_laws.specs.Following.{AreFollowed, deeds_of};
 ghost use Rattle.round_laws.specs.Hearing.{DecideAsOne, Decides, HeardReadings, lines_of};
 ghost use Rattle.round_laws.specs.Marks.{Mark, snapshot, turns_in};
@@ -29,6 +30,21 @@ pub fn rounds_are_turns<T: SettingStore, E: RoundEdge, W: Write>(round: &RoundLa
         AreTurns T.holds (snapshot E.told T.told first.host.host)
         (turns_in (marks_of E.told T.told T.holds T.stamped E.Finds E.Looks E.Accepts E.Holds rounds))
         (snapshot E.told T.told last.host.host) }
+{
+    let _ = round;
+}
+
+/// Over any rounds the edge is called within turns, for what each turn says, and else for questions alone: it is asked after a child, a path or
+/// the clocks, or closes a connection (that of a client that was refused, by `TellsCame` of `jobd`). By no round is a child started or signalled, or a
+/// socket bound or given up, but by a turn.
+pub fn between_turns_are_questions<T: SettingStore, E: RoundEdge, W: Write>(
+    round: &RoundLauncher<T, E, W>,
+)
+    ensures { (first last : Left (Launcher T E W)) →
+        (rounds : AreRounds (launcher E.told T.told T.holds T.stamped E.Finds E.Looks E.Accepts E.Holds) first last) →
+        AsksBetween (E.told first.host.host.edge)
+        (marks_of E.told T.told T.holds T.stamped E.Finds E.Looks E.Accepts E.Holds rounds)
+        (E.told last.host.host.edge) }
 {
     let _ = round;
 }
