@@ -9,3 +9,6 @@ pub mod RoundQuietLemmas
 pub mod DecidingLemmas
 pub mod FollowingLemmas
 pub mod CalledLemmas
+pub mod DueStartsLemmas
+pub mod NotPutOffLemmas
+pub mod StartingRoundLemmas

@@ -3,3 +3,4 @@ pub mod RoundMarks
 pub mod Hearing
 pub mod Following
 pub mod Called
+pub mod DueStarts
