@@ -12,7 +12,7 @@ use Rattle.control_socket.specs.Dialogues.{Answers, Converses, Talks, begun, tal
 use Rattle.control_socket.specs.Exchanges.{brought_by, reply_to, line_in, replied_in, replies_in, sent_in, lines_talked, lines_in, brought_in}
 
 -- the lines that a feed holds after a piece
-brought-on : (piece : List ℕ) (feed : Feed) (intake : Intake) → (requests_with piece feed intake).lines ≡ feed.lines ++ brought_by piece feed intake
+pub brought-on : (piece : List ℕ) (feed : Feed) (intake : Intake) → (requests_with piece feed intake).lines ≡ feed.lines ++ brought_by piece feed intake
 brought-on piece feed Open = go (takes feed piece) feed.refusing where
   go : (t r : Bool) → (if t then record feed { lines = feed.lines ++ lines_of (feed.rest ++ piece); rest = rest_of (feed.rest ++ piece) }
       else if r then feed else record { lines = feed.lines ++ take_while (is_short feed.limit) (lines_of (feed.rest ++ piece)); rest = []; limit = feed.limit; refusing = true }).lines

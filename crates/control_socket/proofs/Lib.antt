@@ -2,3 +2,5 @@ pub mod DialoguesLemmas
 pub mod ServingLemmas
 pub mod ExchangesLemmas
 pub mod WaitingLemmas
+pub mod GoingOnLemmas
+pub mod LivesLemmas

@@ -2,7 +2,7 @@
 use Rattle.std.specs.Prelude.{◌≡◌, ◌⊎◌, ℕ, true, false, List, [], ◌++◌, drop, Option, Some, None, if◌then◌else◌}
 use Rattle.history_model.specs.declared.Reply.{Reply}
 use Rattle.history_model.specs.declared.Refusal.TheVariants.{BadRequest}
-use Rattle.ctl_protocol.specs.Lines.{Feed, GivesLine, fed, stopped, takes}
+use Rattle.ctl_protocol.specs.Lines.{Feed, GivesLine, fed, line_limit, stopped, takes}
 use Rattle.ctl_protocol.specs.OutcomeLines.{reply_line}
 use Rattle.control_socket.specs.declared.dialogue.Dialogue.{Dialogue}
 use Rattle.control_socket.specs.declared.dialogue.Intake.{Intake}
@@ -48,6 +48,13 @@ pub record Sends (count : ℕ) (old new : Dialogue) : Type 0 where
   pub intake : new.intake ≡ old.intake
   pub lines : new.has_lines ≡ old.has_lines
   pub replies : new.replies.items ≡ drop count old.replies.items
+
+-- Nothing came yet, nothing was answered, and nothing waits to be sent.
+pub record IsEmpty (dialogue : Dialogue) : Type 0 where
+  pub requests : dialogue.requests ≡ record { lines = []; rest = []; limit = line_limit; refusing = false }
+  pub replies : dialogue.replies.items ≡ []
+  pub intake : dialogue.intake ≡ Open
+  pub lines : dialogue.has_lines ≡ false
 
 -- parts of the replies were sent, one after another
 pub data SendsOn (first : Dialogue) : Dialogue → Type 0 where
@@ -97,6 +104,12 @@ module _ {A : Type 0} (Answered : List ℕ → Reply → A → A → Type 0) whe
     pub gives : GivesLine old.requests line new.requests
     pub answers : Answers line old before new after
 
+  -- Where there was no memory the client's next whole line may have been answered, and its reply lost. Nobody else was answered.
+  pub data Loses (old : Dialogue) (before : A) : A → Type 0 where
+    unanswered : Loses old before before
+    reply_lost : {line : List ℕ} {rest : Feed} {reply : Reply} {after : A} →
+        GivesLine old.requests (Some line) rest → Answered line reply before after → Loses old before after
+
   -- the steps of a dialogue, one after another
   pub data Talks (first : Dialogue) (from : A) : Dialogue → A → Type 0 where
     silent : Talks first from first from
@@ -114,3 +127,17 @@ module _ {A : Type 0} (Answered : List ℕ → Reply → A → A → Type 0) whe
         Converses first from mid now → Ends mid new → Converses first from new now
     sent : {count : ℕ} {mid new : Dialogue} {now : A} →
         Converses first from mid now → Sends count mid new → Converses first from new now
+
+  -- answers that were broken off, behind some
+  pub record TalkEnds (first : Dialogue) (from after : A) : Type 0 where
+    pub last : Dialogue
+    pub before : A
+    pub talks : Talks first from last before
+    pub loses : Loses last before after
+
+  -- A dialogue that ends: it went on by its steps alone, and the reply to the line behind them may be lost.
+  pub record EndsWith (first : Dialogue) (from after : A) : Type 0 where
+    pub last : Dialogue
+    pub before : A
+    pub converses : Converses first from last before
+    pub loses : Loses last before after

@@ -1,8 +1,8 @@
 //! A client of the control socket.
 
-ghost use Rattle.std.specs.Prelude.{◌≡◌, ◌≢◌, [], OnOk, true};
-ghost use Rattle.control_socket.specs.Clients.{IsStuck, MayGo, Waits};
-ghost use Rattle.control_socket.specs.Dialogues.{Converses, Reads, SendsOn};
+ghost use Rattle.std.specs.Prelude.{◌≡◌, ◌≢◌, [], None, OnErr, OnOk, true};
+ghost use Rattle.control_socket.specs.Clients.{IsFresh, IsStuck, MayEnd, MayGo, Waits};
+ghost use Rattle.control_socket.specs.Dialogues.{Converses, EndsWith, Reads, SendsOn};
 ghost use Rattle.control_socket.specs.Serving.{Serves};
 
 use crate::dialogue::Dialogue;
@@ -51,7 +51,9 @@ pub(crate) struct Client {
 
 impl Client {
     /// A client that came after the round of this number.
-    pub(crate) fn new(alloc: Global, stream: UnixStream, round: u64) -> Client {
+    pub(crate) fn new(alloc: Global, stream: UnixStream, round: u64) -> Client
+        ensures { IsFresh result }
+    {
         Client {
             stream,
             dialogue: Dialogue::new(alloc),
@@ -138,7 +140,9 @@ impl Client {
         room: &mut [u8],
         turn: &mut Turn<'_, A, L>,
     ) -> io::Result<Progress>
-        ensures converses { OnOk result (Converses A.Answered self.old.dialogue turn.old.answers.now self.new.dialogue turn.new.answers.now) }
+        ensures converses { OnOk result ((self.old.failed ≡ None)
+            × Converses A.Answered self.old.dialogue turn.old.answers.now self.new.dialogue turn.new.answers.now) }
+        ensures ends { MayEnd A.Answered self.old turn.old.answers.now turn.new.answers.now }
         ensures serves { Serves A.Answered turn.old.answers.now turn.new.answers.now }
         ensures name { turn.new.answers.ghost_name ≡ turn.old.answers.ghost_name }
     {
@@ -181,6 +185,7 @@ impl Client {
         turn: &mut Turn<'_, A, L>,
     ) -> io::Result<bool>
         ensures converses { OnOk result (Converses A.Answered self.old.dialogue turn.old.answers.now self.new.dialogue turn.new.answers.now) }
+        ensures ends { OnErr result (EndsWith A.Answered self.old.dialogue turn.old.answers.now turn.new.answers.now) }
         ensures serves { Serves A.Answered turn.old.answers.now turn.new.answers.now }
         ensures name { turn.new.answers.ghost_name ≡ turn.old.answers.ghost_name }
     {

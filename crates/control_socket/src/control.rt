@@ -1,9 +1,10 @@
 //! The control socket with its clients.
 
-ghost use Rattle.std.specs.Prelude.{◌≡◌, IfSome, true, max, min};
+ghost use Rattle.std.specs.Prelude.{◌≡◌, [], IfOk, IfSome, true, max, min};
 ghost use Rattle.slab.specs.Slab.{get};
+ghost use Rattle.control_socket.specs.Lives.{IsVacant};
 ghost use Rattle.control_socket.specs.Serving.{Serves};
-ghost use Rattle.control_socket.specs.Clients.{AllWait, MayGo, MovesOn, StaysOrGoes, WaitsAt};
+ghost use Rattle.control_socket.specs.Clients.{AllGoOn, AllWait, MayGo, MovesOn, StaysOrGoes, WaitsAt};
 
 use crate::client::{Client, PIECES, Progress, TOO_MANY};
 use crate::notices::Notices;
@@ -128,7 +129,9 @@ impl ControlSocket {
         rt: &R,
         alloc: Global,
         path: &str,
-    ) -> io::Result<ControlSocket> {
+    ) -> io::Result<ControlSocket>
+        ensures nobody { IfOk result (λ control. IsVacant control.clients) }
+    {
         let (own_path, room, clients) = match memory_for(alloc, path) {
             Ok(memory) => memory,
             Err(error) => return Err(Error::from(error)),
@@ -164,7 +167,9 @@ impl ControlSocket {
     }
 
     /// Has clients that come wake the poll, under the token, and what they send too. An error is that of the system's call.
-    pub fn register(&mut self, registry: &Registry, token: Token) -> io::Result<()> {
+    pub fn register(&mut self, registry: &Registry, token: Token) -> io::Result<()>
+        ensures clients { self.new.clients ≡ self.old.clients }
+    {
         self.token = token;
         registry.register(&mut self.listener, token, Interest::READABLE)
     }
@@ -193,7 +198,9 @@ impl ControlSocket {
         answers: &mut A,
         limit: &mut L,
     ) -> bool
-        ensures { Serves A.Answered answers.old answers.new }
+        ensures serves { Serves A.Answered answers.old answers.new }
+        // Each line that is answered is the next one of a client, whose dialogue alone has the reply.
+        ensures clients { AllGoOn A.Answered self.old.clients answers.old self.new.clients answers.new }
     {
         self.rounds = self.rounds.saturating_add(1);
         let mut turn = Turn::new(self.rounds, answers, limit);
@@ -217,6 +224,7 @@ impl ControlSocket {
         alloc: Global,
         turn: &mut Turn<'_, A, L>,
     ) -> Option<bool>
+        ensures clients { AllGoOn A.Answered self.old.clients turn.old.answers.now self.new.clients turn.new.answers.now }
         ensures serves { Serves A.Answered turn.old.answers.now turn.new.answers.now }
         ensures name { turn.new.answers.ghost_name ≡ turn.old.answers.ghost_name }
     {
@@ -713,7 +721,9 @@ impl ControlSocket {
     /// that took a client and was refused nothing, a client after one that had all its replies. A client that only went away is
     /// not told. That the socket's file or the lock's was gone and is made again is told each time; why it can't be made again, or looked at, once
     /// for each reason, until both are there.
-    pub fn next_notice(&mut self) -> Option<Text> {
+    pub fn next_notice(&mut self) -> Option<Text>
+        ensures clients { self.new.clients ≡ self.old.clients }
+    {
         self.notices.next(self.alloc)
     }
 
@@ -736,7 +746,9 @@ impl ControlSocket {
 }
 
 // The socket's path, the room for a piece, and that for the clients.
-fn memory_for(alloc: Global, path: &str) -> Result<(Text, Vec<u8>, Slab<Client>), AllocError> {
+fn memory_for(alloc: Global, path: &str) -> Result<(Text, Vec<u8>, Slab<Client>), AllocError>
+    ensures nobody { IfOk result (λ memory. memory.2.slots ≡ []) }
+{
     let path = match Text::copy_of(alloc, path) {
         Ok(path) => path,
         Err(error) => return Err(error),

@@ -1,10 +1,10 @@
 //! What passes between a client and the launcher: the requests that came and are not yet answered, and the replies that are
 //! not yet sent.
 
-ghost use Rattle.std.specs.Prelude.{◌≡◌, ◌++◌, [], OnOk, true, false};
+ghost use Rattle.std.specs.Prelude.{◌≡◌, ◌++◌, [], OnErr, OnOk, true, false};
 ghost use Rattle.ctl_protocol.specs.OutcomeLines.{reply_line as line_of};
 ghost use Rattle.control_socket.specs.Serving.{Serves};
-ghost use Rattle.control_socket.specs.Dialogues.{AnswersNext, Ends, Sends, Takes, Talks, intake_after, told_after};
+ghost use Rattle.control_socket.specs.Dialogues.{AnswersNext, Ends, IsEmpty, Loses, Sends, Takes, TalkEnds, Talks, intake_after, told_after};
 
 use crate::turn::{Answers, LINES, Limit, Turn};
 use ctl_protocol::{LINE_LIMIT, LineFault, LineFeed, reply_line};
@@ -39,7 +39,9 @@ pub(crate) struct Dialogue {
 }
 
 impl Dialogue {
-    pub(crate) fn new(alloc: Global) -> Dialogue {
+    pub(crate) fn new(alloc: Global) -> Dialogue
+        ensures { IsEmpty result }
+    {
         Dialogue {
             requests: LineFeed::new(alloc, LINE_LIMIT),
             replies: Vec::new(alloc),
@@ -93,6 +95,7 @@ impl Dialogue {
         turn: &mut Turn<'_, A, L>,
     ) -> Result<(), AllocError>
         ensures talks { OnOk result (Talks A.Answered self.old turn.old.answers.now self.new turn.new.answers.now) }
+        ensures breaks { OnErr result (TalkEnds A.Answered self.old turn.old.answers.now turn.new.answers.now) }
         ensures serves { Serves A.Answered turn.old.answers.now turn.new.answers.now }
         ensures name { turn.new.answers.ghost_name ≡ turn.old.answers.ghost_name }
     {
@@ -112,6 +115,7 @@ impl Dialogue {
     ) -> Result<(), AllocError>
         requires { self.old.has_lines ≡ true }
         ensures next { OnOk result (AnswersNext A.Answered self.old turn.old.answers.now self.new turn.new.answers.now) }
+        ensures loses { OnErr result (Loses A.Answered self.old turn.old.answers.now turn.new.answers.now) }
         ensures serves { Serves A.Answered turn.old.answers.now turn.new.answers.now }
         ensures name { turn.new.answers.ghost_name ≡ turn.old.answers.ghost_name }
     {

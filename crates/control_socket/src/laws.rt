@@ -1,9 +1,13 @@
 //! What holds of a client over any steps of its dialogue. The function does nothing: its contract is the law.
 
-ghost use Rattle.std.specs.Prelude.{◌≡◌, ◌++◌};
+ghost use Rattle.std.specs.Prelude.{◌≡◌, ◌++◌, ℕ, IfSome};
+ghost use Rattle.slab.specs.Slab.{Slab, get};
+ghost use Rattle.control_socket.specs.declared.client.Client.{Client};
 ghost use Rattle.control_socket.specs.declared.dialogue.Dialogue.{Dialogue};
+ghost use Rattle.control_socket.specs.Clients.{AllGoOn};
 ghost use Rattle.control_socket.specs.Dialogues.{Converses};
 ghost use Rattle.control_socket.specs.Exchanges.{brought_in, lines_in, replies_in, sent_in};
+ghost use Rattle.control_socket.specs.Lives.{AnswersClients, IsAlive, IsVacant, Lives, Rounds, answered_of, brought_to, replied_to, sent_to};
 
 use crate::turn::Answers;
 
@@ -17,6 +21,26 @@ pub fn a_client_is_sent_the_replies_to_its_lines<A: Answers>(answers: &A)
     ensures lines { (first new : Dialogue) (from after : A) →
         (all : Converses A.Answered first from new after) →
         lines_in all ++ new.requests.lines ≡ first.requests.lines ++ brought_in all }
+{
+    let _ = answers;
+}
+
+/// Behind any rounds of a socket that began with no client, in which clients are served and clients come, each line that is answered where clients are
+/// served is the next whole line of one client, which came with an empty dialogue and went on by the pieces that came for it alone.
+pub fn each_line_is_a_clients_next<A: Answers>(answers: &A)
+    ensures lines { (first mid new : Slab Client) (before after : A) →
+        IsVacant first → Rounds A.Answered first mid → AllGoOn A.Answered mid before new after →
+        AnswersClients A.Answered before after }
+    // So lives each client that has a place, unless a read of it failed.
+    ensures clients { (first new : Slab Client) →
+        IsVacant first → Rounds A.Answered first new →
+        (key : ℕ) → IfSome (get new key) (IsAlive A.Answered) }
+    // All that it was sent, and what waits to be sent, are the replies to its own lines, in their order, each once.
+    ensures sent { (dialogue : Dialogue) → (life : Lives A.Answered dialogue) →
+        sent_to life ++ dialogue.replies.items ≡ replied_to life }
+    // Its lines that were answered, and those that wait, are all that its pieces brought, in their order.
+    ensures brought { (dialogue : Dialogue) → (life : Lives A.Answered dialogue) →
+        answered_of life ++ dialogue.requests.lines ≡ brought_to life }
 {
     let _ = answers;
 }

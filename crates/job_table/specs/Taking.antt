@@ -1,5 +1,5 @@
 -- What the table does on an event of a journal, in which the outside's answers stand.
-use Rattle.std.specs.Prelude.{◌≡◌, false, true, List, [], Some, None, Result, Ok, Err}
+use Rattle.std.specs.Prelude.{◌≡◌, false, true, List, [], Some, None, Result, Ok, Err, OnOk}
 use Rattle.std.specs.List.{AllByRecursion}
 use Rattle.history_model.specs.declared.event.Event as journal
 use Rattle.history_model.specs.declared.event.Event.TheVariants as journaled
@@ -14,6 +14,9 @@ use Rattle.loaded_jobs.specs.StandsFor.{KeepsState, acts_in}
 use Rattle.loaded_jobs.specs.TableOutcomes.{IsSameFor}
 use Rattle.loaded_jobs.specs.Numbers.{KeepsNames}
 use Rattle.loaded_jobs.specs.Minutes.{has_calendars}
+use Rattle.loaded_jobs.specs.Counts.{Counts}
+use Rattle.loaded_jobs.specs.Room.{HasSameRoom}
+use Rattle.loaded_jobs.specs.Touching.{SparesOthers, SparesUntouched}
 use Rattle.job_table.specs.declared.take.Taken.{Taken}
 use Rattle.job_table.specs.declared.take.Taken.TheVariants.{Made, Told}
 use Rattle.job_table.specs.LoadOfBytes.{load_of_bytes}
@@ -75,3 +78,24 @@ WantsMemory (journaled.Print job) table result = Unit {0}
 WantsMemory (journaled.Clock at) table result =
     result ≡ Err NoMemory → has_calendars table.rows ≡ true
 WantsMemory e table result = NeedsNoMemory result
+
+-- An event that is no question asks each job once or not at all, and none that it is not for; a reading asks none that it does not touch.
+-- But for a load and a setting, no room of the table grows
+abbrev pub Spares : journal.Event → Result Taken Refusal → Table → Table → Type 0
+Spares (journaled.Clock at) result old new =
+    Counts result old new × OnOk result (SparesUntouched at old new) × HasSameRoom old new
+Spares (journaled.Saw path obs) result old new =
+    Counts result old new × SparesOthers (Sight path obs) old new × HasSameRoom old new
+Spares journaled.Shutdown result old new =
+    Counts result old new × SparesOthers ShutDown old new × HasSameRoom old new
+Spares (journaled.OfJob job item) result old new =
+    Counts result old new × SparesOthers (OfJob job (item_of item)) old new × HasSameRoom old new
+Spares (journaled.Unload job false store) result old new =
+    Counts result old new × SparesOthers (UnloadJob job false store) old new × HasSameRoom old new
+Spares (journaled.Unload job true store) result old new =
+    Counts result old new × SparesOthers (UnloadJob job true store) old new
+Spares (journaled.Set job disabled store) result old new =
+    Counts result old new × SparesOthers (Set job disabled store) old new
+Spares (journaled.Load def writes_setting force bind store) result old new =
+    Counts result old new × SparesOthers (load_of_bytes def writes_setting force bind store) old new
+Spares e result old new = Unit {0}

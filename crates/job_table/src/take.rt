@@ -7,9 +7,12 @@ ghost use Rattle.loaded_jobs.specs.StandsFor.{KeepsState};
 ghost use Rattle.loaded_jobs.specs.Loads.{refusal_outside};
 ghost use Rattle.loaded_jobs.specs.SettingChanges.{set_of};
 ghost use Rattle.job_table.specs.LoadOfBytes.{load_of_bytes};
+ghost use Rattle.loaded_jobs.specs.Counts.{Counts};
 ghost use Rattle.loaded_jobs.specs.Numbers.{KeepsNames};
+ghost use Rattle.loaded_jobs.specs.Room.{HasSameRoom};
+ghost use Rattle.loaded_jobs.specs.Touching.{SparesOthers};
 ghost use Rattle.job_core.specs.Memory.{NeedsNoMemory};
-ghost use Rattle.job_table.specs.Taking.{machine_event, Takes, NamesGoOn, KeepsNumbers, WantsMemory};
+ghost use Rattle.job_table.specs.Taking.{machine_event, Takes, NamesGoOn, KeepsNumbers, WantsMemory, Spares};
 ghost use Rattle.job_table.specs.declared.take.Taken.TheVariants.{Made};
 
 use crate::JobTable;
@@ -57,6 +60,7 @@ impl JobTable {
         ensures names { NamesGoOn event.now result self.old self.new }
         ensures rows { OnErr result (self.new.rows ≡ self.old.rows) }
         ensures memory { WantsMemory event.now self.old result }
+        ensures spares { Spares event.now result self.old self.new }
     {
         match event {
             Event::Load {
@@ -124,6 +128,9 @@ impl JobTable {
             self.old result self.new }
         ensures names { KeepsNumbers result self.old self.new }
         ensures rows { OnErr result (self.new.rows ≡ self.old.rows) }
+        ensures counts { Counts result self.old self.new }
+        ensures spared { SparesOthers (load_of_bytes def.now writes_setting force bind store)
+            self.old self.new }
     {
         let ready = self.prepare_load(alloc, def.as_bytes(), writes_setting, force)?;
         if let Some(refusal) = refused_outside(ready.def(), writes_setting, bind, store) {
@@ -150,6 +157,8 @@ impl JobTable {
         ensures takes { Takes (set_of job.now disabled unload store) self.old result self.new }
         ensures names { KeepsNames result self.old self.new }
         ensures rows { OnErr result (self.new.rows ≡ self.old.rows) }
+        ensures counts { Counts result self.old self.new }
+        ensures spared { SparesOthers (set_of job.now disabled unload store) self.old self.new }
     {
         let ready = self.prepare_set(alloc, job, disabled, unload)?;
         if !store {
@@ -171,6 +180,9 @@ impl JobTable {
         ensures names { KeepsNames result self.old self.new }
         ensures rows { OnErr result (self.new.rows ≡ self.old.rows) }
         ensures memory { writes_setting ≡ false → NeedsNoMemory result }
+        ensures counts { Counts result self.old self.new }
+        ensures spared { SparesOthers (UnloadJob job.now writes_setting store) self.old self.new }
+        ensures room { writes_setting ≡ false → HasSameRoom self.old self.new }
     {
         if writes_setting {
             return self.take_set(alloc, job, true, true, store);

@@ -36,14 +36,20 @@ use Rattle.jobd.specs.declared.round_launcher.RoundLauncher.{RoundLauncher}
 abbrev pub lent : {T E W : Type 0} → E → RoundLauncher T E W → RoundLauncher T E W
 lent edge round = record round { host = record round.host { edge = edge } }
 
--- The outside was asked something, and nothing was handed in; or the closing of the journal was reported.
-abbrev pub AsksEdge : {T E W : Type 0} → RoundLauncher T E W → RoundLauncher T E W → Type 0
-AsksEdge {E = E} old new = ((edge : E) × (new ≡ lent edge old))
-    ⊎ ((edge : E) × (new ≡ record old { host = record old.host { edge = edge; journal = reported old.host.journal } }))
+-- it was called for nothing, or for a reading alone
+abbrev pub MayRead : Option (List ToldCall) → Option (List ToldCall) → Type 0
+MayRead old new = (new ≡ old) ⊎ ((answer : Result Reading EdgeFault) × TellsOne old (Clock, read_answer answer) new)
 
--- The edge took a client that waited at the sockets of the job; nothing was handed in.
-abbrev pub TakesClient : {T E W : Type 0} → (ℕ → E → E → Type 0) → ℕ → RoundLauncher T E W → RoundLauncher T E W → Type 0
-TakesClient {E = E} Accepts job old new = (edge : E) × Accepts job old.host.edge edge × (new ≡ lent edge old)
+-- The outside was asked something, for a reading at most, and nothing was handed in; or the closing of the journal was reported.
+abbrev pub AsksEdge : {T E W : Type 0} → (E → Option (List ToldCall)) → RoundLauncher T E W → RoundLauncher T E W → Type 0
+AsksEdge {E = E} calls old new = ((edge : E) × MayRead (calls old.host.edge) (calls edge) × (new ≡ lent edge old))
+    ⊎ ((edge : E) × (calls edge ≡ calls old.host.edge)
+    × (new ≡ record old { host = record old.host { edge = edge; journal = reported old.host.journal } }))
+
+-- The edge took a client that waited at the sockets of the job; nothing was handed in, and nothing is told.
+abbrev pub TakesClient : {T E W : Type 0} → (E → Option (List ToldCall)) → (ℕ → E → E → Type 0) → ℕ → RoundLauncher T E W → RoundLauncher T E W → Type 0
+TakesClient {E = E} calls Accepts job old new =
+    (edge : E) × (calls edge ≡ calls old.host.edge) × Accepts job old.host.edge edge × (new ≡ lent edge old)
 
 -- what a look gives, if the system did not refuse it
 abbrev pub seen_by : Result Obs EdgeFault → Option Obs
@@ -178,8 +184,8 @@ module _ {T E W : Type 0} (calls : E → Option (List ToldCall)) (stores : T →
   abbrev pub PollsFrom : (ℕ → Option (ℕ × ℕ) → E → E → Type 0) → ℕ → Option ℕ →
       RoundLauncher T E W → RoundLauncher T E W → Type 0
   PollsFrom Finds first None old new =
-      (edge : E) × Finds first None old.host.edge edge × (new ≡ lent edge old)
-  PollsFrom Finds first (Some job) old new = (run : ℕ) × (edge : E)
+      (edge : E) × (calls edge ≡ calls old.host.edge) × Finds first None old.host.edge edge × (new ≡ lent edge old)
+  PollsFrom Finds first (Some job) old new = (run : ℕ) × (edge : E) × (calls edge ≡ calls old.host.edge)
       × Finds first (Some (job, run)) old.host.edge edge × PollsRun job run (lent edge old) new
 
   -- ---- paths
@@ -188,11 +194,11 @@ module _ {T E W : Type 0} (calls : E → Option (List ToldCall)) (stores : T →
   -- look at that path.
   abbrev pub DoesPath : (List ℕ → Result Obs EdgeFault → E → E → Type 0) → PathCall →
       RoundLauncher T E W → RoundLauncher T E W → Type 0
-  DoesPath Looks BeginsLooks old new = (edge : E) × (new ≡ lent edge old)
+  DoesPath Looks BeginsLooks old new = (edge : E) × (calls edge ≡ calls old.host.edge) × (new ≡ lent edge old)
   DoesPath Looks (HasLoaded loaded) old new =
       (loaded ≡ old.has_loaded) × (new ≡ record old { has_loaded = false })
-  DoesPath Looks (AsksAt path answer) old new = (edge : E) × (new ≡ lent edge old)
-  DoesPath Looks (Awaits path answer) old new = (edge : E) × (new ≡ lent edge old)
+  DoesPath Looks (AsksAt path answer) old new = (edge : E) × (calls edge ≡ calls old.host.edge) × (new ≡ lent edge old)
+  DoesPath Looks (Awaits path answer) old new = (edge : E) × (calls edge ≡ calls old.host.edge) × (new ≡ lent edge old)
   DoesPath Looks (LookedAt path seen) old new = (answer : Result Obs EdgeFault) × (edge : E)
       × TellsOne (calls old.host.edge) (Look, look_answer answer) (calls edge)
       × Looks path answer old.host.edge edge
@@ -218,6 +224,7 @@ module _ {T E W : Type 0} (calls : E → Option (List ToldCall)) (stores : T →
   pub record ComesIn (Holds : ℕ → ℕ → List ℕ → Bool → E → E → Type 0) (conn job : ℕ) (request : List ℕ) (answer : HandedIn)
       (old new : RoundLauncher T E W) : Type 0 where
     pub edge : E
+    pub told : calls edge ≡ calls old.host.edge
     pub given : Holds conn job request (is_held answer) old.host.edge edge
     pub label : List ℕ
     pub its : IsLabelOf old.host.table job label
@@ -228,4 +235,5 @@ module _ {T E W : Type 0} (calls : E → Option (List ToldCall)) (stores : T →
     pub mid : RoundLauncher T E W
     pub gives : Gives (asked_by line) reply.refusal reply.text old mid
     pub edge : E
+    pub told : calls edge ≡ calls mid.host.edge
     pub noted : new ≡ record (lent edge mid) { has_loaded = mid.has_loaded || mid.host.has_loaded }

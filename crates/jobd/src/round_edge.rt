@@ -24,7 +24,8 @@ impl<R: System> SleepEdge for OsEdge<R> {
     }
 }
 
-/// An edge as rounds ask it. Each call is that of `OsEdge`.
+/// An edge as rounds ask it. Each call is that of `OsEdge`. None of them is a call that an edge tells: by them no child is started or signalled,
+/// no connection is closed and no socket given up.
 pub trait RoundEdge: ChildEdge + SleepEdge + PathEdge + SocketEdge {
     /// To the question whose child is over, from this job on, this answer may lead from the one to the other: a job, and its run.
     ghost Finds: { ℕ → Option (ℕ × ℕ) → Self → Self → Type 0 };
@@ -41,10 +42,12 @@ pub trait RoundEdge: ChildEdge + SleepEdge + PathEdge + SocketEdge {
 
     /// The least job, this one or above it, whose child is over, with the child's run.
     fn over_from(&mut self, job: JobNo) -> Option<(JobNo, u64)>
-        ensures { Self.Finds job result self.old self.new };
+        ensures finds { Self.Finds job result self.old self.new }
+        ensures told { Self.told self.new ≡ Self.told self.old };
 
     /// Has clients that come to jobs' sockets wake the poll under the token. False: the poll refuses.
-    fn register(&mut self, registry: &Registry, token: Token) -> bool;
+    fn register(&mut self, registry: &Registry, token: Token) -> bool
+        ensures told { Self.told self.new ≡ Self.told self.old };
 
     /// The least job, this one or above it, that has sockets, with the bind that gave it these.
     fn listener_from(&self, job: JobNo) -> Option<Origin>;
@@ -57,36 +60,45 @@ pub trait RoundEdge: ChildEdge + SleepEdge + PathEdge + SocketEdge {
 
     /// The next client that waits at one of the job's sockets.
     fn accept(&mut self, job: JobNo) -> Option<Client>
-        ensures { OnSome result (Self.Accepts job self.old self.new) };
+        ensures accepts { OnSome result (Self.Accepts job self.old self.new) }
+        ensures told { Self.told self.new ≡ Self.told self.old };
 
     /// Holds the connection of a client whose request came whole, under a number that it has had for no other. False: it is let go.
     fn take(&mut self, conn: u64, caller: Caller) -> bool
-        ensures { Self.Holds conn caller.origin.job caller.exchange.request result self.old self.new };
+        ensures holds { Self.Holds conn caller.origin.job caller.exchange.request result self.old self.new }
+        ensures told { Self.told self.new ≡ Self.told self.old };
 
     /// Sends clients what their runs have written. True: one may go on at once.
-    fn forward(&mut self) -> bool;
+    fn forward(&mut self) -> bool
+        ensures told { Self.told self.new ≡ Self.told self.old };
 
     /// Lets each connection go that is held.
-    fn let_all_go(&mut self);
+    fn let_all_go(&mut self)
+        ensures told { Self.told self.new ≡ Self.told self.old };
 
     /// The oldest of what is to be told and was not.
-    fn next_notice(&mut self) -> Option<Notice>;
+    fn next_notice(&mut self) -> Option<Notice>
+        ensures told { Self.told self.new ≡ Self.told self.old };
 
     /// Why the last start was refused, in the words of the edge; none if it went well.
     fn start_refusal(&self) -> Option<&str>;
 
     /// A client was answered: with this refusal, or well.
-    fn note_reply(&mut self, refusal: Option<Refusal>);
+    fn note_reply(&mut self, refusal: Option<Refusal>)
+        ensures told { Self.told self.new ≡ Self.told self.old };
 
     /// The journal is closed.
-    fn note_closing(&mut self);
+    fn note_closing(&mut self)
+        ensures told { Self.told self.new ≡ Self.told self.old };
 
     /// What keeps the file on how the launcher stands, if it is to be written at this reading. It is given back by `hand`.
-    fn lend_keeper(&mut self, at: Reading, has_changed: bool) -> Option<Keeper>;
+    fn lend_keeper(&mut self, at: Reading, has_changed: bool) -> Option<Keeper>
+        ensures told { Self.told self.new ≡ Self.told self.old };
 
     /// Gives it back. If its text is whole, it is handed to the file.
     fn hand(&mut self, keeper: Keeper, is_whole: bool, at: Reading)
-        ensures { is_whole ≡ true → Self.Hands keeper.text.bytes.items self.old self.new };
+        ensures hands { is_whole ≡ true → Self.Hands keeper.text.bytes.items self.old self.new }
+        ensures told { Self.told self.new ≡ Self.told self.old };
 
     /// The job whose child is over is this one or one above it.
     ghost rises: { (first job run : ℕ) (old new : Self) → Finds first (Some (job, run)) old new → first ≤ job };

@@ -207,7 +207,7 @@ impl<T: SettingStore, E: RoundEdge, W: Write> RoundLauncher<T, E, W> {
     /// Has the file on how the launcher stands written, if it is kept and is to be written in this round. True: its text was handed to it, that of
     /// the table as it is now.
     pub fn write_status(&mut self) -> bool
-        ensures asks { (edge : E) × (self.new ≡ lent edge self.old) }
+        ensures asks { (edge : E) × (E.told edge ≡ E.told self.old.host.edge) × (self.new ≡ lent edge self.old) }
         ensures handed { result ≡ true → (text : List ℕ) × (edge : E) × IsStatusText self.old.host.table text × E.Hands text edge self.new.host.edge }
     {
         let (at, is_active) = (self.at, self.is_active);
@@ -218,7 +218,7 @@ impl<T: SettingStore, E: RoundEdge, W: Write> RoundLauncher<T, E, W> {
     }
 
     fn write_by(&mut self, keeper: Keeper, at: Reading) -> bool
-        ensures asks { (edge : E) × (self.new ≡ lent edge self.old) }
+        ensures asks { (edge : E) × (E.told edge ≡ E.told self.old.host.edge) × (self.new ≡ lent edge self.old) }
         ensures handed { result ≡ true → (text : List ℕ) × (edge : E) × IsStatusText self.old.host.table text × E.Hands text edge self.new.host.edge }
     {
         let mut keeper = keeper;
@@ -292,13 +292,13 @@ impl<T: SettingStore, E: RoundEdge, W: Write> LoopHost for RoundLauncher<T, E, W
 
     ghost Polled = { PollsFrom E.told T.told T.holds T.stamped E.Finds };
 
-    ghost Asked = { AsksEdge };
+    ghost Asked = { AsksEdge E.told };
 
-    ghost Taken = { TakesClient E.Accepts };
+    ghost Taken = { TakesClient E.told E.Accepts };
 
     ghost Came = { ComesIn E.told T.told T.holds T.stamped E.Holds };
 
-    ghost rises = { λ first job old new polled. E.rises first job polled.0 old.host.edge polled.1 polled.2 };
+    ghost rises = { λ first job old new polled. E.rises first job polled.0 old.host.edge polled.1 polled.3 };
 
     fn begin(&mut self, alloc: Global) {
         RoundLauncher::begin(self, alloc);

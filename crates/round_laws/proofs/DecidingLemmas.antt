@@ -26,7 +26,7 @@ use Rattle.child_edge.specs.declared.plain.EdgeFault.{EdgeFault}
 use Rattle.round_laws.proofs.QuietLemmas.{not-refused}
 use Rattle.round_laws.proofs.RoundQuietLemmas.{rounds_keep}
 
-in-range : (at : Reading) → nat_le at.up MAX_UP ≡ true → nat_le at.wall MAX_WALL ≡ true → is_clock_refused at at ≡ false
+pub in-range : (at : Reading) → nat_le at.up MAX_UP ≡ true → nat_le at.wall MAX_WALL ≡ true → is_clock_refused at at ≡ false
 in-range at up wall = not-refused at at (grind (arith, nat_tests)) (grind (arith, nat_tests, up)) (grind (arith, nat_tests, wall))
 
 module _ {T E W : Type 0} (calls : E → Option (List ToldCall)) (stores : T → Option (List StoreCall))

@@ -8,3 +8,7 @@ pub mod TurnQuietLemmas
 pub mod RoundQuietLemmas
 pub mod DecidingLemmas
 pub mod FollowingLemmas
+pub mod CalledLemmas
+pub mod DueStartsLemmas
+pub mod NotPutOffLemmas
+pub mod StartingRoundLemmas

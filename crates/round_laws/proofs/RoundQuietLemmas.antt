@@ -41,8 +41,8 @@ module _ {T E W : Type 0} (calls : E → Option (List ToldCall)) (stores : T →
 
   poll : (Finds : ℕ → Option (ℕ × ℕ) → E → E → Type 0) (first : ℕ) (job : Option ℕ) (old new : RoundLauncher T E W) (p : PollsFrom calls stores holds stamped Finds first job old new) →
       Keeps (of_poll calls stores holds stamped Finds first job old new p) old new
-  poll Finds first None old new p = subst (λ (r : RoundLauncher T E W). Keeps [] old r) (sym p.2) (lent_on p.0 old)
-  poll Finds first (Some job) old new p = let run = p.3 in
+  poll Finds first None old new p = subst (λ (r : RoundLauncher T E W). Keeps [] old r) (sym p.3) (lent_on p.0 old)
+  poll Finds first (Some job) old new p = let run = p.4 in
       then_ {xs = []} (lent_on run.edge old) (end run.label p.0 run.answer (lent run.edge (lent p.1 old)) new run.handed)
 
   polls : (Finds : ℕ → Option (ℕ × ℕ) → E → E → Type 0) {first : ℕ} {old : RoundLauncher T E W} {n next : ℕ} {new : RoundLauncher T E W} (p : children.Polls (PollsFrom calls stores holds stamped Finds) first old n next new) →
@@ -91,8 +91,8 @@ module _ {T E W : Type 0} (calls : E → Option (List ToldCall)) (stores : T →
 
   questions : (m : Mind) (Looks : List ℕ → Result Obs EdgeFault → E → E → Type 0) {first new : RoundLauncher T E W} → looks.Questions ListsNext (DoesPath calls stores holds stamped Looks) first new → KeepsTo m [] first m new
   questions m Looks {first = first} looks.no_question = nothing_to m first
-  questions m Looks {first = first} (looks.ahead {mid = mid} {new = new} more put_in) = then_to {xs = []} {ys = []} {m = m} {m' = m} {m'' = m} {a = first} {b = mid} {c = new} (questions m Looks more) (put m put_in.0 mid new put_in.1)
-  questions m Looks {first = first} (looks.awaits {mid = mid} {new = new} more put_in) = then_to {xs = []} {ys = []} {m = m} {m' = m} {m'' = m} {a = first} {b = mid} {c = new} (questions m Looks more) (put m put_in.0 mid new put_in.1)
+  questions m Looks {first = first} (looks.ahead {mid = mid} {new = new} more put_in) = then_to {xs = []} {ys = []} {m = m} {m' = m} {m'' = m} {a = first} {b = mid} {c = new} (questions m Looks more) (put m put_in.0 mid new put_in.2)
+  questions m Looks {first = first} (looks.awaits {mid = mid} {new = new} more put_in) = then_to {xs = []} {ys = []} {m = m} {m' = m} {m'' = m} {a = first} {b = mid} {c = new} (questions m Looks more) (put m put_in.0 mid new put_in.2)
 
   walk : (Looks : List ℕ → Result Obs EdgeFault → E → E → Type 0) {first : RoundLauncher T E W} {known : looks.Known} {from : List ℕ} {n : ℕ} {path : List ℕ} {new : RoundLauncher T E W} {known' : looks.Known}
       (w : looks.Walks ListsNext (DoesPath calls stores holds stamped Looks) first known from n path new known') → KeepsTo (heeded known) (of_walk calls stores holds stamped Looks w) first (heeded known') new
@@ -101,7 +101,7 @@ module _ {T E W : Type 0} (calls : E → Option (List ToldCall)) (stores : T →
       (then_to {ys = []} {m = heeded known} {m' = heeded after} {m'' = heeded after} {a = first} {b = mid} {c = new} (walk Looks more) (questions (heeded after) Looks asked_on))
   walk Looks {first = first} {known = known} (looks.one_more {next = next} {mid = mid} {seen = seen} {new = new} {before = before} {after = after} more is waits it) =
       then_to {m = heeded known} {m' = heeded before} {m'' = heeded after} {a = first} {b = mid} {c = new} (walk Looks more)
-      (then_to {xs = []} {m = heeded before} {m' = heeded before} {m'' = heeded after} {a = mid} {b = seen} {c = new} (put (heeded before) waits.0 mid seen waits.1)
+      (then_to {xs = []} {m = heeded before} {m' = heeded before} {m'' = heeded after} {a = mid} {b = seen} {c = new} (put (heeded before) waits.0 mid seen waits.2)
       (then_to {xs = []} {m = heeded before} {m' = heeded before} {m'' = heeded after} {a = seen} {b = it.mid} {c = new} (put (heeded before) it.looked.1 seen it.mid it.looked.5)
       (sight Looks next it.seen it.mid before new after it.taken)))
 
@@ -134,27 +134,27 @@ module _ {T E W : Type 0} (calls : E → Option (List ToldCall)) (stores : T →
       (subst (λ ms. Keeps ms old (lent came.1 came.0)) (append-nil (of_tells calls stores holds stamped (event_if_label label (journaled.OfJob label (happens.Came conn))) (Some refusal) old came.0 came.2))
       (then_ {ys = []} heard (lent_on came.1 came.0)))
 
-  took : (Accepts : ℕ → E → E → Type 0) {job : ℕ} {old mid new : RoundLauncher T E W} → TakesClient Accepts job old mid → rounds.Asks AsksEdge mid new → Keeps [] old new
-  took Accepts {old = old} {mid = mid} takes a = then_ {xs = []} {ys = []} (subst (λ (r : RoundLauncher T E W). Keeps [] old r) (sym takes.2) (lent_on takes.0 old)) (asks a)
+  took : (Accepts : ℕ → E → E → Type 0) {job : ℕ} {old mid new : RoundLauncher T E W} → TakesClient calls Accepts job old mid → rounds.Asks (AsksEdge calls) mid new → Keeps [] old new
+  took Accepts {old = old} {mid = mid} takes a = then_ {xs = []} {ys = []} (subst (λ (r : RoundLauncher T E W). Keeps [] old r) (sym takes.3) (lent_on takes.0 old)) (asks calls a)
 
   clients : (Accepts : ℕ → E → E → Type 0) (Holds : ℕ → ℕ → List ℕ → Bool → E → E → Type 0) {desk : rounds.Desk} {old : RoundLauncher T E W} {desk' : rounds.Desk} {new : RoundLauncher T E W}
-      (g : rounds.Gathers AsksEdge (TakesClient Accepts) (ComesIn calls stores holds stamped Holds) desk old desk' new) → Keeps (of_clients calls stores holds stamped Accepts Holds g) old new
+      (g : rounds.Gathers (AsksEdge calls) (TakesClient calls Accepts) (ComesIn calls stores holds stamped Holds) desk old desk' new) → Keeps (of_clients calls stores holds stamped Accepts Holds g) old new
   clients Accepts Holds {old = old} rounds.nobody = nothing old
-  clients Accepts Holds {old = old} (rounds.asked {new = new} more a) = subst (λ ms. Keeps ms old new) (append-nil (of_clients calls stores holds stamped Accepts Holds more)) (then_ {ys = []} (clients Accepts Holds more) (asked a))
+  clients Accepts Holds {old = old} (rounds.asked {new = new} more a) = subst (λ ms. Keeps ms old new) (append-nil (of_clients calls stores holds stamped Accepts Holds more)) (then_ {ys = []} (clients Accepts Holds more) (asked calls a))
   clients Accepts Holds {old = old} (rounds.taken {new = new} more t w a) = subst (λ ms. Keeps ms old new) (append-nil (of_clients calls stores holds stamped Accepts Holds more)) (then_ {ys = []} (clients Accepts Holds more) (took Accepts t a))
   clients Accepts Holds (rounds.heard more grows) = clients Accepts Holds more
   clients Accepts Holds (rounds.went more gone) = clients Accepts Holds more
   clients Accepts Holds (rounds.came {client = client} {answer = answer} {desk = desk} {mid = mid} {new = new} more is set comes) =
       then_ (clients Accepts Holds more) (then_ {xs = []} (lent_on comes.edge mid) (client_on comes.label client.origin.job desk.conn answer (lent comes.edge mid) new comes.handed))
 
-  ended : {marks : List (Mark T)} {a : RoundLauncher T E W} (b c d : RoundLauncher T E W) → Keeps marks a b → rounds.Asks AsksEdge b c → rounds.Asks AsksEdge c d → Keeps marks a d
-  ended {marks} {a} b c d goes first second = subst (λ ms. Keeps ms a d) (append-nil marks) (then_ {ys = []} goes (then_ {xs = []} {ys = []} (asks first) (asks second)))
+  ended : {marks : List (Mark T)} {a : RoundLauncher T E W} (b c d : RoundLauncher T E W) → Keeps marks a b → rounds.Asks (AsksEdge calls) b c → rounds.Asks (AsksEdge calls) c d → Keeps marks a d
+  ended {marks} {a} b c d goes first second = subst (λ ms. Keeps ms a d) (append-nil marks) (then_ {ys = []} goes (then_ {xs = []} {ys = []} (asks calls first) (asks calls second)))
 
   module _ (Finds : ℕ → Option (ℕ × ℕ) → E → E → Type 0) (Looks : List ℕ → Result Obs EdgeFault → E → E → Type 0)
       (Accepts : ℕ → E → E → Type 0) (Holds : ℕ → ℕ → List ℕ → Bool → E → E → Type 0) where
     looks_start : (at : Option (List ℕ)) (old : RoundLauncher T E W) (from : List ℕ) (started : RoundLauncher T E W) → looks.Starts ListsNext (DoesPath calls stores holds stamped Looks) at old from started → Keeps [] old started
     looks_start (Some path) old from started b = same b.1
-    looks_start None old from started b = subst (λ (r : RoundLauncher T E W). Keeps [] old r) (sym b.1.1) (lent_on b.1.0 old)
+    looks_start None old from started b = subst (λ (r : RoundLauncher T E W). Keeps [] old r) (sym b.1.2) (lent_on b.1.0 old)
 
     looks_begin : (at : Option (List ℕ)) (old : RoundLauncher T E W) (known : looks.Known) (from : List ℕ) (first : RoundLauncher T E W) (begun : looks.Known) →
         looks.Begins ListsNext (DoesPath calls stores holds stamped Looks) at old known from first begun → KeepsTo (mind known old) [] old (heeded begun) first
@@ -178,7 +178,7 @@ module _ {T E W : Type 0} (calls : E → Option (List ToldCall)) (stores : T →
     round : (old new : rounds.Left (RoundLauncher T E W)) (r : rounds.IsRound (launcher calls stores holds stamped Finds Looks Accepts Holds) old new) →
         KeepsTo (mind old.known old.host) (of_round calls stores holds stamped Finds Looks Accepts Holds old new r) old.host (mind new.known new.host) new.host
     round old new r =
-        let begun = then_ {xs = []} {a = old.host} {b = r.waited} {c = r.begun} (asks r.waits) (begins calls stores holds stamped r.waited r.begun r.begins) in
+        let begun = then_ {xs = []} {a = old.host} {b = r.waited} {c = r.begun} (asks calls r.waits) (begins calls stores holds stamped r.waited r.begun r.begins) in
         let served = then_ {a = r.looked} {b = r.serves.first} {c = new.host} (serves r.serves.serves)
         (then_ {a = r.serves.first} {b = r.serves.mid} {c = new.host} (clients Accepts Holds r.serves.gathers) (ended r.serves.last r.served new.host (serves r.serves.again) r.serves.asks r.tells)) in
         then_to {m = mind old.known old.host} {m' = mind old.known r.begun} {m'' = mind new.known new.host} {a = old.host} {b = r.begun} {c = new.host} (begun old.known)

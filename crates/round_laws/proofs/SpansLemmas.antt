@@ -8,11 +8,12 @@ use Rattle.history_model.specs.LeftOut.{Line, HandedIn, all_of, handed_in, last_
 use Rattle.loaded_jobs.specs.StandsFor.{KeepsState}
 use Rattle.job_table.specs.Taking.{machine_event}
 use Rattle.launcher.specs.HostTurns.{IsLed}
-use Rattle.std.proofs.Common.{◌≡◌, inl, inr, false, List, [], ◌∷◌, ◌++◌, map, refl, sym, ap, subst, ◌∙◌}
+use Rattle.std.proofs.Common.{◌≡◌, inl, inr, false, Option, List, [], ◌∷◌, ◌++◌, map, refl, sym, ap, subst, ◌∙◌}
 use Rattle.std.proofs.lemmas.List.{append-nil}
 use Rattle.launcher_laws.specs.TurnRuns.{Turn, Part, AreParts, IsPartOf, events_in, outcomes_in}
 use Rattle.live_loop.specs.Looks as looks
 use Rattle.live_loop.specs.Rounds as rounds
+use Rattle.child_edge.specs.Calls.{ToldCall}
 use Rattle.jobd.specs.declared.round_launcher.RoundLauncher.{RoundLauncher}
 use Rattle.jobd.specs.Launches.{lent, AsksEdge}
 use Rattle.round_laws.specs.Marks.{Mark, Turned, turns_in}
@@ -129,16 +130,16 @@ module _ {T E W : Type 0} where
   pub same : {old new : RoundLauncher T E W} → new ≡ old → Keeps [] old new
   same {old} {new} is = moved old new (ap (λ (r : RoundLauncher T E W). r.host.table) is) (ap (λ (r : RoundLauncher T E W). r.at) is) (ap (λ (r : RoundLauncher T E W). r.has_loaded) is)
 
-  pub asked : {old new : RoundLauncher T E W} → AsksEdge old new → Keeps [] old new
-  asked {old} {new} (inl edge) = moved old new (ap (λ (r : RoundLauncher T E W). r.host.table) edge.1) (ap (λ (r : RoundLauncher T E W). r.at) edge.1) (ap (λ (r : RoundLauncher T E W). r.has_loaded) edge.1)
-  asked {old} {new} (inr told) = moved old new (ap (λ (r : RoundLauncher T E W). r.host.table) told.1) (ap (λ (r : RoundLauncher T E W). r.at) told.1) (ap (λ (r : RoundLauncher T E W). r.has_loaded) told.1)
+  pub asked : (calls : E → Option (List ToldCall)) {old new : RoundLauncher T E W} → AsksEdge calls old new → Keeps [] old new
+  asked calls {old} {new} (inl edge) = moved old new (ap (λ (r : RoundLauncher T E W). r.host.table) edge.2) (ap (λ (r : RoundLauncher T E W). r.at) edge.2) (ap (λ (r : RoundLauncher T E W). r.has_loaded) edge.2)
+  asked calls {old} {new} (inr told) = moved old new (ap (λ (r : RoundLauncher T E W). r.host.table) told.2) (ap (λ (r : RoundLauncher T E W). r.at) told.2) (ap (λ (r : RoundLauncher T E W). r.has_loaded) told.2)
 
   pub lent_on : (edge : E) (old : RoundLauncher T E W) → Keeps [] old (lent edge old)
   lent_on edge old = moved old (lent edge old) refl refl refl
 
-  pub asks : {old new : RoundLauncher T E W} → rounds.Asks AsksEdge old new → Keeps [] old new
-  asks {old} rounds.nothing = nothing old
-  asks (rounds.further more a) = then_ {xs = []} {ys = []} (asks more) (asked a)
+  pub asks : (calls : E → Option (List ToldCall)) {old new : RoundLauncher T E W} → rounds.Asks (AsksEdge calls) old new → Keeps [] old new
+  asks calls {old} rounds.nothing = nothing old
+  asks calls (rounds.further more a) = then_ {xs = []} {ys = []} (asks calls more) (asked calls a)
 
   pub spans-of : (turn : Turn T) (p : Part) → IsPartOf turn p → (s : State) (m m' : Mind) → (Knows s m → Knows (run (map machine_event p.0) s) m') →
       (last next : Reading) (new : RoundLauncher T E W) → Comes last s (map machine_event p.0) next →

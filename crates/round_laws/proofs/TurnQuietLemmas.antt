@@ -86,7 +86,7 @@ module _ {T E W : Type 0} (calls : E → Option (List ToldCall)) (stores : T →
   reads_loaded old new (inl own) = ap (λ (r : RoundLauncher T E W). r.has_loaded) own.1
   reads_loaded old new (inr moves) = moves.1.loaded
 
-  missed : (b : Bool) (old new : RoundLauncher T E W) (r : ReadsIf calls stores holds stamped b old new) → Keeps (of_missed calls stores holds stamped b old new r) old new
+  pub missed : (b : Bool) (old new : RoundLauncher T E W) (r : ReadsIf calls stores holds stamped b old new) → Keeps (of_missed calls stores holds stamped b old new r) old new
   missed true old new r = λ known. reminded (mind known old) (mind known old) (mind known new) (as_loaded known old.has_loaded new.has_loaded (reads_loaded old new r))
       (λ s last had f. (reads old new r (mind known old) s last had f).spans)
   missed false old new is = same is

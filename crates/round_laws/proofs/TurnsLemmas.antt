@@ -86,14 +86,14 @@ module _ {T E W : Type 0} (calls : E → Option (List ToldCall)) (stores : T →
   one_turn event refusal words old new heard =
       record { are = (still (snapshot calls stores old.host), (heard.hears, heard.writable), still (snapshot calls stores new.host)) }
 
-  asked : {old new : RoundLauncher T E W} → AsksEdge old new → Goes [] old new
-  asked {old} {new} (inl edge) = subst (λ (r : RoundLauncher T E W). Goes [] old r) (sym edge.1) (record { are = record { table = refl; store = refl; journal = inl refl } })
-  asked {old} {new} (inr told) = subst (λ (r : RoundLauncher T E W). Goes [] old r) (sym told.1) (record { are = record { table = refl; store = refl; journal = inr refl } })
+  asked : {old new : RoundLauncher T E W} → AsksEdge calls old new → Goes [] old new
+  asked {old} {new} (inl edge) = subst (λ (r : RoundLauncher T E W). Goes [] old r) (sym edge.2) (record { are = record { table = refl; store = refl; journal = inl refl } })
+  asked {old} {new} (inr told) = subst (λ (r : RoundLauncher T E W). Goes [] old r) (sym told.2) (record { are = record { table = refl; store = refl; journal = inr refl } })
 
   lent_on : (edge : E) (old : RoundLauncher T E W) → Goes [] old (lent edge old)
   lent_on edge old = record { are = record { table = refl; store = refl; journal = inl refl } }
 
-  asks : {old new : RoundLauncher T E W} → rounds.Asks AsksEdge old new → Goes [] old new
+  asks : {old new : RoundLauncher T E W} → rounds.Asks (AsksEdge calls) old new → Goes [] old new
   asks {old} rounds.nothing = nothing old
   asks (rounds.further more a) = then_ {xs = []} {ys = []} (asks more) (asked a)
 
@@ -138,8 +138,8 @@ module _ {T E W : Type 0} (calls : E → Option (List ToldCall)) (stores : T →
 
   poll : (Finds : ℕ → Option (ℕ × ℕ) → E → E → Type 0) (first : ℕ) (job : Option ℕ) (old new : RoundLauncher T E W) (p : PollsFrom calls stores holds stamped Finds first job old new) →
       Goes (of_poll calls stores holds stamped Finds first job old new p) old new
-  poll Finds first None old new p = subst (λ (r : RoundLauncher T E W). Goes [] old r) (sym p.2) (lent_on p.0 old)
-  poll Finds first (Some job) old new p = let run = p.3 in
+  poll Finds first None old new p = subst (λ (r : RoundLauncher T E W). Goes [] old r) (sym p.3) (lent_on p.0 old)
+  poll Finds first (Some job) old new p = let run = p.4 in
       then_ {xs = []} (lent_on run.edge old) (end run.label p.0 run.answer (lent run.edge (lent p.1 old)) new run.handed)
 
   polls : (Finds : ℕ → Option (ℕ × ℕ) → E → E → Type 0) {first : ℕ} {old : RoundLauncher T E W} {n next : ℕ} {new : RoundLauncher T E W} (p : children.Polls (PollsFrom calls stores holds stamped Finds) first old n next new) →
@@ -169,15 +169,15 @@ module _ {T E W : Type 0} (calls : E → Option (List ToldCall)) (stores : T →
 
   questions : (Looks : List ℕ → Result Obs EdgeFault → E → E → Type 0) {first new : RoundLauncher T E W} → looks.Questions ListsNext (DoesPath calls stores holds stamped Looks) first new → Goes [] first new
   questions Looks {first = first} looks.no_question = nothing first
-  questions Looks (looks.ahead {mid = mid} {new = new} more put_in) = then_ {xs = []} {ys = []} (questions Looks more) (put put_in.0 mid new put_in.1)
-  questions Looks (looks.awaits {mid = mid} {new = new} more put_in) = then_ {xs = []} {ys = []} (questions Looks more) (put put_in.0 mid new put_in.1)
+  questions Looks (looks.ahead {mid = mid} {new = new} more put_in) = then_ {xs = []} {ys = []} (questions Looks more) (put put_in.0 mid new put_in.2)
+  questions Looks (looks.awaits {mid = mid} {new = new} more put_in) = then_ {xs = []} {ys = []} (questions Looks more) (put put_in.0 mid new put_in.2)
 
   walk : (Looks : List ℕ → Result Obs EdgeFault → E → E → Type 0) {first : RoundLauncher T E W} {known : looks.Known} {from : List ℕ} {n : ℕ} {path : List ℕ} {new : RoundLauncher T E W} {known' : looks.Known}
       (w : looks.Walks ListsNext (DoesPath calls stores holds stamped Looks) first known from n path new known') → Goes (of_walk calls stores holds stamped Looks w) first new
   walk Looks {first = first} looks.no_look = nothing first
   walk Looks {first = first} (looks.asked {new = new} more asked_on) = subst (λ ms. Goes ms first new) (append-nil (of_walk calls stores holds stamped Looks more)) (then_ {ys = []} (walk Looks more) (questions Looks asked_on))
   walk Looks (looks.one_more {next = next} {mid = mid} {seen = seen} {new = new} {before = before} {after = after} more is waits it) =
-      then_ (walk Looks more) (then_ {xs = []} (put waits.0 mid seen waits.1) (then_ {xs = []} (put it.looked.1 seen it.mid it.looked.5)
+      then_ (walk Looks more) (then_ {xs = []} (put waits.0 mid seen waits.2) (then_ {xs = []} (put it.looked.1 seen it.mid it.looked.5)
       (sight Looks next it.seen it.mid before new after it.taken)))
 
   serves : {old new : RoundLauncher T E W} (s : Serves (AnswersLine calls stores holds stamped) old new) → Goes (of_serves calls stores holds stamped s) old new
@@ -198,11 +198,11 @@ module _ {T E W : Type 0} (calls : E → Option (List ToldCall)) (stores : T →
       (subst (λ ms. Goes ms old (lent came.1 came.0)) (append-nil (of_tells calls stores holds stamped (event_if_label label (journaled.OfJob label (happens.Came conn))) (Some refusal) old came.0 came.2))
       (then_ {ys = []} heard (lent_on came.1 came.0)))
 
-  took : (Accepts : ℕ → E → E → Type 0) {job : ℕ} {old mid new : RoundLauncher T E W} → TakesClient Accepts job old mid → rounds.Asks AsksEdge mid new → Goes [] old new
-  took Accepts {old = old} {mid = mid} takes a = then_ {xs = []} {ys = []} (subst (λ (r : RoundLauncher T E W). Goes [] old r) (sym takes.2) (lent_on takes.0 old)) (asks a)
+  took : (Accepts : ℕ → E → E → Type 0) {job : ℕ} {old mid new : RoundLauncher T E W} → TakesClient calls Accepts job old mid → rounds.Asks (AsksEdge calls) mid new → Goes [] old new
+  took Accepts {old = old} {mid = mid} takes a = then_ {xs = []} {ys = []} (subst (λ (r : RoundLauncher T E W). Goes [] old r) (sym takes.3) (lent_on takes.0 old)) (asks a)
 
   clients : (Accepts : ℕ → E → E → Type 0) (Holds : ℕ → ℕ → List ℕ → Bool → E → E → Type 0) {desk : rounds.Desk} {old : RoundLauncher T E W} {desk' : rounds.Desk} {new : RoundLauncher T E W}
-      (g : rounds.Gathers AsksEdge (TakesClient Accepts) (ComesIn calls stores holds stamped Holds) desk old desk' new) → Goes (of_clients calls stores holds stamped Accepts Holds g) old new
+      (g : rounds.Gathers (AsksEdge calls) (TakesClient calls Accepts) (ComesIn calls stores holds stamped Holds) desk old desk' new) → Goes (of_clients calls stores holds stamped Accepts Holds g) old new
   clients Accepts Holds {old = old} rounds.nobody = nothing old
   clients Accepts Holds {old = old} (rounds.asked {new = new} more a) = subst (λ ms. Goes ms old new) (append-nil (of_clients calls stores holds stamped Accepts Holds more)) (then_ {ys = []} (clients Accepts Holds more) (asked a))
   clients Accepts Holds {old = old} (rounds.taken {new = new} more t w a) = subst (λ ms. Goes ms old new) (append-nil (of_clients calls stores holds stamped Accepts Holds more)) (then_ {ys = []} (clients Accepts Holds more) (took Accepts t a))
@@ -211,14 +211,14 @@ module _ {T E W : Type 0} (calls : E → Option (List ToldCall)) (stores : T →
   clients Accepts Holds (rounds.came {client = client} {answer = answer} {desk = desk} {mid = mid} {new = new} more is set comes) =
       then_ (clients Accepts Holds more) (then_ {xs = []} (lent_on comes.edge mid) (client_on comes.label client.origin.job desk.conn answer (lent comes.edge mid) new comes.handed))
 
-  ended : {marks : List (Mark T)} {a : RoundLauncher T E W} (b c d : RoundLauncher T E W) → Goes marks a b → rounds.Asks AsksEdge b c → rounds.Asks AsksEdge c d → Goes marks a d
+  ended : {marks : List (Mark T)} {a : RoundLauncher T E W} (b c d : RoundLauncher T E W) → Goes marks a b → rounds.Asks (AsksEdge calls) b c → rounds.Asks (AsksEdge calls) c d → Goes marks a d
   ended {marks} {a} b c d goes first second = subst (λ ms. Goes ms a d) (append-nil marks) (then_ {ys = []} goes (then_ {xs = []} {ys = []} (asks first) (asks second)))
 
   module _ (Finds : ℕ → Option (ℕ × ℕ) → E → E → Type 0) (Looks : List ℕ → Result Obs EdgeFault → E → E → Type 0)
       (Accepts : ℕ → E → E → Type 0) (Holds : ℕ → ℕ → List ℕ → Bool → E → E → Type 0) where
     looks_start : (at : Option (List ℕ)) (old : RoundLauncher T E W) (from : List ℕ) (started : RoundLauncher T E W) → looks.Starts ListsNext (DoesPath calls stores holds stamped Looks) at old from started → Goes [] old started
     looks_start (Some path) old from started b = same b.1
-    looks_start None old from started b = put b.1.0 old started b.1.1
+    looks_start None old from started b = put b.1.0 old started b.1.2
 
     looks_begin : (at : Option (List ℕ)) (old : RoundLauncher T E W) (known : looks.Known) (from : List ℕ) (first : RoundLauncher T E W) (begun : looks.Known) →
         looks.Begins ListsNext (DoesPath calls stores holds stamped Looks) at old known from first begun → Goes [] old first

@@ -35,8 +35,8 @@ module _ {T E W : Type 0} (calls : E → Option (List ToldCall)) (stores : T →
     Answered = AnswersLine calls stores holds stamped;
     Begun = Begins calls stores holds stamped;
     Polled = PollsFrom calls stores holds stamped Finds;
-    Asked = AsksEdge;
-    Taken = TakesClient Accepts;
+    Asked = AsksEdge calls;
+    Taken = TakesClient calls Accepts;
     Came = ComesIn calls stores holds stamped Holds;
   }
 
@@ -90,7 +90,7 @@ module _ {T E W : Type 0} (calls : E → Option (List ToldCall)) (stores : T →
   abbrev pub of_poll : (Finds : ℕ → Option (ℕ × ℕ) → E → E → Type 0) (first : ℕ) (job : Option ℕ) (old new : RoundLauncher T E W) →
       PollsFrom calls stores holds stamped Finds first job old new → List (Mark T)
   of_poll Finds first None old new polls = []
-  of_poll Finds first (Some job) old new polls = let run = polls.3 in
+  of_poll Finds first (Some job) old new polls = let run = polls.4 in
       of_end run.label polls.0 run.answer (lent run.edge (lent polls.1 old)) new run.handed
 
   abbrev pub of_polls : (Finds : ℕ → Option (ℕ × ℕ) → E → E → Type 0) {first : ℕ} {old : RoundLauncher T E W} {n next : ℕ} {new : RoundLauncher T E W} →
@@ -133,7 +133,7 @@ module _ {T E W : Type 0} (calls : E → Option (List ToldCall)) (stores : T →
 
   abbrev pub of_clients : (Accepts : ℕ → E → E → Type 0) (Holds : ℕ → ℕ → List ℕ → Bool → E → E → Type 0)
       {desk : rounds.Desk} {old : RoundLauncher T E W} {desk' : rounds.Desk} {new : RoundLauncher T E W} →
-      rounds.Gathers AsksEdge (TakesClient Accepts) (ComesIn calls stores holds stamped Holds) desk old desk' new → List (Mark T)
+      rounds.Gathers (AsksEdge calls) (TakesClient calls Accepts) (ComesIn calls stores holds stamped Holds) desk old desk' new → List (Mark T)
   of_clients Accepts Holds rounds.nobody = []
   of_clients Accepts Holds (rounds.asked gathers asks) = of_clients Accepts Holds gathers
   of_clients Accepts Holds (rounds.taken gathers takes welcomes asks) = of_clients Accepts Holds gathers

@@ -1,22 +1,30 @@
 //! What holds of a launcher over any list of rounds. The functions do nothing: their contracts are the laws. A round is what
 //! `live_loop::round` promises of it; each begins with what the one before left.
 
-ghost use Rattle.std.specs.Prelude.{◌≡◌, List, Option};
+ghost use Rattle.std.specs.Prelude.{◌≡◌, false, List, Option};
 ghost use Rattle.child_edge.specs.Calls.{ToldCall};
 ghost use Rattle.ctl_protocol.specs.declared.header.Header.{Header};
 ghost use Rattle.history_model.specs.LeftOut.{MayBeLeftOut};
+ghost use Rattle.history_model.specs.Items.{History};
+ghost use Rattle.history_model.specs.Labels.{Label};
+ghost use Rattle.history_model.specs.Machine.{State};
+ghost use Rattle.history_model.specs.Refusals.{is_clock_refused};
+ghost use Rattle.launcher.specs.HostTurns.{IsLed};
 ghost use Rattle.launcher.specs.Hosts.{IsNew, stands};
+ghost use Rattle.loaded_jobs.specs.StandsFor.{KeepsState};
 ghost use Rattle.launcher.specs.Journals.{JournalState};
 ghost use Rattle.launcher_laws.specs.Lasting.{Lasts};
 ghost use Rattle.launcher_laws.specs.TurnRuns.{AreTurns, Snapshot};
 ghost use Rattle.live_loop.specs.Looks.{IsEmpty};
-ghost use Rattle.live_loop.specs.Rounds.{AreRounds, IsNew as IsNobodyYet, Left};
+ghost use Rattle.live_loop.specs.Rounds.{AreRounds, IsNew as IsNobodyYet, IsRound, Left, one_round};
 ghost use Rattle.outside.specs.Stores.{StoreCall};
 ghost use Rattle.jobd.specs.declared.round_launcher.RoundLauncher.{RoundLauncher as Launcher};
+ghost use Rattle.round_laws.specs.Called.{AsksBetween};
+ghost use Rattle.round_laws.specs.DueStarts.{IsDueAt, IsStartedIn, StartsAllDue, StartsWhatWaits, turns_before};
 ghost use Rattle.round_laws.specs.Following.{AreFollowed, deeds_of};
 ghost use Rattle.round_laws.specs.Hearing.{DecideAsOne, Decides, HeardReadings, lines_of};
 ghost use Rattle.round_laws.specs.Marks.{Mark, snapshot, turns_in};
-ghost use Rattle.round_laws.specs.RoundMarks.{launcher, marks_of};
+ghost use Rattle.round_laws.specs.RoundMarks.{launcher, marks_of, of_round};
 
 use jobd::{RoundEdge, RoundLauncher};
 use outside::SettingStore;
@@ -29,6 +37,21 @@ pub fn rounds_are_turns<T: SettingStore, E: RoundEdge, W: Write>(round: &RoundLa
         AreTurns T.holds (snapshot E.told T.told first.host.host)
         (turns_in (marks_of E.told T.told T.holds T.stamped E.Finds E.Looks E.Accepts E.Holds rounds))
         (snapshot E.told T.told last.host.host) }
+{
+    let _ = round;
+}
+
+/// Over any rounds the edge is called within turns, for what each turn says, and else for questions alone: it is asked after a child, a path or
+/// the clocks, or closes a connection (that of a client that was refused, by `TellsCame` of `jobd`). By no round is a child started or signalled, or a
+/// socket bound or given up, but by a turn.
+pub fn between_turns_are_questions<T: SettingStore, E: RoundEdge, W: Write>(
+    round: &RoundLauncher<T, E, W>,
+)
+    ensures { (first last : Left (Launcher T E W)) →
+        (rounds : AreRounds (launcher E.told T.told T.holds T.stamped E.Finds E.Looks E.Accepts E.Holds) first last) →
+        AsksBetween (E.told first.host.host.edge)
+        (marks_of E.told T.told T.holds T.stamped E.Finds E.Looks E.Accepts E.Holds rounds)
+        (E.told last.host.host.edge) }
 {
     let _ = round;
 }
@@ -74,6 +97,52 @@ pub fn each_client_is_followed<T: SettingStore, E: RoundEdge, W: Write>(
         (rounds : AreRounds (launcher E.told T.told T.holds T.stamped E.Finds E.Looks E.Accepts E.Holds) first last) →
         AreFollowed (launcher E.told T.told T.holds T.stamped E.Finds E.Looks E.Accepts E.Holds)
         (deeds_of (launcher E.told T.told T.holds T.stamped E.Finds E.Looks E.Accepts E.Holds) rounds) }
+{
+    let _ = round;
+}
+
+/// A job that is wanted and free from a moment on, and needs no event, is ordered to start in the first round whose reading is not before
+/// that moment. The reading is handed in, and the start is ordered in its turn. So it is of each machine for which the table stands when the
+/// clocks were read, if it accepts the reading. Memory was not wanting at a reading.
+pub fn a_due_start_is_ordered_in_its_round<T: SettingStore, E: RoundEdge, W: Write>(
+    round: &RoundLauncher<T, E, W>,
+)
+    ensures one { (old new : Left (Launcher T E W)) →
+        (round : IsRound (launcher E.told T.told T.holds T.stamped E.Finds E.Looks E.Accepts E.Holds) old new) →
+        HeardReadings (of_round E.told T.told T.holds T.stamped E.Finds E.Looks E.Accepts E.Holds old new round) →
+        (s : State) → KeepsState round.begins.begun.host.table s → IsLed s →
+        is_clock_refused s.reading round.begins.begun.at ≡ false →
+        (label : Label) (past : History) → IsDueAt s label past round.begins.begun.at →
+        IsStartedIn label past round.begins.begun.at
+        (turns_in (of_round E.told T.told T.holds T.stamped E.Finds E.Looks E.Accepts E.Holds old new round)) }
+    // So it is in each round of a new launcher, which takes no reading that the machine refuses.
+    ensures each { (header : Header) (calls : Option (List ToldCall)) (stores : Option (List StoreCall))
+        (journal : JournalState) (before : T) (first old new : Left (Launcher T E W)) →
+        (opened : IsNew header calls stores journal (stands E.told T.told first.host.host)
+        (T.holds before) (T.holds first.host.host.store)) →
+        first.host.at ≡ first.host.host.table.reading →
+        (more : AreRounds (launcher E.told T.told T.holds T.stamped E.Finds E.Looks E.Accepts E.Holds) first old) →
+        (round : IsRound (launcher E.told T.told T.holds T.stamped E.Finds E.Looks E.Accepts E.Holds) old new) →
+        HeardReadings (marks_of E.told T.told T.holds T.stamped E.Finds E.Looks E.Accepts E.Holds (one_round more round)) →
+        StartsAllDue opened.machine (turns_before E.told T.told T.holds T.stamped E.Finds E.Looks E.Accepts E.Holds more round)
+        round.begins.begun.host.table round.begins.begun.at
+        (turns_in (of_round E.told T.told T.holds T.stamped E.Finds E.Looks E.Accepts E.Holds old new round)) }
+    // And a job that waits so after any rounds is started in the rounds that come then, or in the first one whose reading is late enough, if nothing
+    // happens to it meanwhile but that the clocks are read.
+    ensures waits { (header : Header) (calls : Option (List ToldCall)) (stores : Option (List StoreCall))
+        (journal : JournalState) (before : T) (first from old new : Left (Launcher T E W)) →
+        (opened : IsNew header calls stores journal (stands E.told T.told first.host.host)
+        (T.holds before) (T.holds first.host.host.store)) →
+        first.host.at ≡ first.host.host.table.reading →
+        (more : AreRounds (launcher E.told T.told T.holds T.stamped E.Finds E.Looks E.Accepts E.Holds) first from) →
+        (meanwhile : AreRounds (launcher E.told T.told T.holds T.stamped E.Finds E.Looks E.Accepts E.Holds) from old) →
+        (round : IsRound (launcher E.told T.told T.holds T.stamped E.Finds E.Looks E.Accepts E.Holds) old new) →
+        HeardReadings (marks_of E.told T.told T.holds T.stamped E.Finds E.Looks E.Accepts E.Holds more) →
+        HeardReadings (marks_of E.told T.told T.holds T.stamped E.Finds E.Looks E.Accepts E.Holds (one_round meanwhile round)) →
+        StartsWhatWaits opened.machine (turns_in (marks_of E.told T.told T.holds T.stamped E.Finds E.Looks E.Accepts E.Holds more))
+        from.host.host.table (turns_before E.told T.told T.holds T.stamped E.Finds E.Looks E.Accepts E.Holds meanwhile round)
+        round.begins.begun.at
+        (turns_in (of_round E.told T.told T.holds T.stamped E.Finds E.Looks E.Accepts E.Holds old new round)) }
 {
     let _ = round;
 }

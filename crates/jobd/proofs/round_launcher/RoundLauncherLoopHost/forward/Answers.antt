@@ -1,6 +1,8 @@
 -- The edge was asked, and the file may have been written by it.
-use Rattle.std.proofs.Common.{inl}
+use Rattle.std.proofs.Common.{inl, rules, ◌≡◌}
 use Rattle.jobd.proofs.round_launcher.RoundLauncherLoopHost.forward.Goals as goal
 
 pub returns : goal.returns
-returns g c = inl (c.write_status.ensures.asks.0, c.write_status.ensures.asks.1)
+returns g c =
+    let told : g.E.Edge.told c.write_status.ensures.asks.0 ≡ g.E.Edge.told c.args.self.now.host.edge = search rules in
+    inl (c.write_status.ensures.asks.0, inl told, c.write_status.ensures.asks.2)

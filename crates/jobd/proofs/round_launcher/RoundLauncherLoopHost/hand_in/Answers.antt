@@ -6,6 +6,7 @@ use Rattle.jobd.proofs.round_launcher.RoundLauncherLoopHost.hand_in.Goals as goa
 pub returns-then-not-take : goal.returns-then-not-take
 returns-then-not-take g c = record {
   edge = c.take.new.self;
+  told = search rules;
   given = search rules;
   label = label_of c.args.self.now.host.table.names c.args.caller.origin.job;
   its = λ short. refl;
@@ -18,6 +19,7 @@ returns-in-Some g c =
     c.label.ensures ∙ ap (λ names. label_of names c.args.caller.origin.job) (c.last_step.ensures.names ∙ ap (λ t. t.names) c.table.ensures) in
     record {
       edge = c.take.new.self;
+      told = search rules;
       given = search rules;
       label = c.as_str.result.now;
       its = λ short. c.as_str.ensures.text ∙ c.copy.ensures (subst (λ label. length label ≤ 255) (sym is) short) ∙ is;

@@ -1,0 +1,252 @@
+-- Between the turns of rounds the edge is called for questions alone.
+use Rattle.std.proofs.Common.{◌≡◌, inl, inr, ℕ, Bool, true, false, List, [], ◌∷◌, ◌++◌, Option, Some, None, refl, sym, ap, subst, append_assoc, ◌∙◌}
+use Rattle.std.proofs.lemmas.List.{append-nil}
+use Rattle.std.specs.Prelude.{Result, Ok, Err}
+use Rattle.std.specs.List.{AllByRecursion}
+use Rattle.history_model.specs.declared.Ended.{Ended}
+use Rattle.history_model.specs.declared.Obs.{Obs}
+use Rattle.history_model.specs.declared.Refusal.{Refusal}
+use Rattle.history_model.specs.declared.event.Event as journal
+use Rattle.history_model.specs.declared.event.Event.TheVariants as journaled
+use Rattle.history_model.specs.declared.event.JobItem.TheVariants as happens
+use Rattle.history_model.specs.declared.event.Setting.{Setting}
+use Rattle.child_edge.specs.Calls.{ToldCall, TellsOne, poll_answer, look_answer, read_answer}
+use Rattle.child_edge.specs.Calls as calling
+use Rattle.child_edge.specs.declared.plain.EdgeCall.{EdgeCall}
+use Rattle.child_edge.specs.declared.plain.EdgeCall.TheVariants.{Poll, Close, Look, Clock}
+use Rattle.child_edge.specs.declared.plain.Scripted.{Scripted}
+use Rattle.child_edge.specs.declared.plain.Scripted.TheVariants.{Done}
+use Rattle.child_edge.specs.declared.plain.EdgeFault.{EdgeFault}
+use Rattle.outside.specs.Stores.{Stamp, StoreCall}
+use Rattle.launcher.specs.Inputs.{Incoming, asked_by, event_if_label, happened}
+use Rattle.control_socket.specs.Serving.{Serves, nobody, one_more}
+use Rattle.live_loop.specs.declared.loop_host.HandedIn.{HandedIn}
+use Rattle.live_loop.specs.declared.loop_host.HandedIn.TheVariants as handed
+use Rattle.live_loop.specs.Children as children
+use Rattle.live_loop.specs.Looks as looks
+use Rattle.live_loop.specs.Rounds as rounds
+use Rattle.jobd.specs.declared.round_launcher.RoundLauncher.{RoundLauncher}
+use Rattle.jobd.specs.Launches.{lent, AsksEdge, MayRead, ListsNext, Heard, HeardReading, Reads, ReadsIf, ReadsClock, HeardIf, Begins, Gives, Tells, TellsEnd, PollsFrom, DoesPath, TakesClient, TellsCame, ComesIn, AnswersLine}
+use Rattle.round_laws.specs.Called.{AsksBetween, AsksOnly, is_question}
+use Rattle.round_laws.specs.Marks.{Mark, Turned, Spared, turned}
+use Rattle.round_laws.specs.RoundMarks.{launcher, of_reading, of_reads, of_missed, of_news, of_begins, of_gives, of_tells, of_end, of_poll, of_polls, of_sight, of_walk, of_serves, of_client, of_clients, of_looks, of_round, marks_of}
+
+nothing_told : (calls : Option (List ToldCall)) → AsksOnly calls calls
+nothing_told calls = record { asked = []; told = λ after is. (after, is, sym (append-nil after)); questions = tt }
+
+kept : {old new : Option (List ToldCall)} → new ≡ old → AsksOnly old new
+kept {old = old} {new = new} same = subst (λ calls. AsksOnly old calls) (sym same) (nothing_told old)
+
+one_told : (call : EdgeCall) (answer : Scripted) {old new : Option (List ToldCall)} → is_question call ≡ true → TellsOne old (call, answer) new → AsksOnly old new
+one_told call answer is told = record { asked = (call, answer) ∷ []; told = told; questions = (is, tt) }
+
+all_both : (P : ToldCall → Type 0) (xs ys : List ToldCall) → AllByRecursion P xs → AllByRecursion P ys → AllByRecursion P (xs ++ ys)
+all_both P [] ys first second = second
+all_both P (x ∷ xs) ys first second = (first.0, all_both P xs ys first.1 second)
+
+told_both : {a b c : Option (List ToldCall)} (xs ys : List ToldCall) → calling.Tells a xs b → calling.Tells b ys c → calling.Tells a (xs ++ ys) c
+told_both xs ys first second = λ after is.
+    let then_told = second after is in
+    let one = first then_told.0 then_told.1 in
+    (one.0, one.1, then_told.2 ∙ ap (λ l. l ++ ys) one.2 ∙ append_assoc one.0 xs ys)
+
+between : {a b c : Option (List ToldCall)} → AsksOnly a b → AsksOnly b c → AsksOnly a c
+between first second = record {
+  asked = first.asked ++ second.asked;
+  told = told_both first.asked second.asked first.told second.told;
+  questions = all_both (λ (told : ToldCall). is_question told.0 ≡ true) first.asked second.asked first.questions second.questions;
+}
+
+may_read : (old new : Option (List ToldCall)) → MayRead old new → AsksOnly old new
+may_read old new (inl same) = kept same
+may_read old new (inr read) = one_told Clock (read_answer read.0) refl read.1
+
+module _ {T : Type 0} where
+  later : (marks : List (Mark T)) (a b c : Option (List ToldCall)) → AsksOnly a b → AsksBetween b marks c → AsksBetween a marks c
+  later [] a b c first goes = between first goes
+  later (Turned turn ∷ marks) a b c first goes = (between first goes.0, goes.1)
+  later (Spared event ∷ marks) a b c first goes = later marks a b c first goes
+
+  both : (xs ys : List (Mark T)) (a b c : Option (List ToldCall)) → AsksBetween a xs b → AsksBetween b ys c → AsksBetween a (xs ++ ys) c
+  both [] ys a b c first second = later ys a b c first second
+  both (Turned turn ∷ xs) ys a b c first second = (first.0, both xs ys turn.after.stands.calls b c first.1 second)
+  both (Spared event ∷ xs) ys a b c first second = both xs ys a b c first second
+
+module _ {T E W : Type 0} (calls : E → Option (List ToldCall)) (stores : T → Option (List StoreCall))
+    (holds : T → List Setting → Type 0) (stamped : T → List Stamp → Type 0) where
+  -- from the one to the other, but for what happens within the turns of these marks
+  pub record Goes (marks : List (Mark T)) (old new : RoundLauncher T E W) : Type 0 where
+    pub are : AsksBetween (calls old.host.edge) marks (calls new.host.edge)
+
+  nothing : (r : RoundLauncher T E W) → Goes [] r r
+  nothing r = record { are = nothing_told (calls r.host.edge) }
+
+  then_ : {xs ys : List (Mark T)} {a b c : RoundLauncher T E W} → Goes xs a b → Goes ys b c → Goes (xs ++ ys) a c
+  then_ {xs} {ys} {a} {b} {c} f g = record { are = both xs ys (calls a.host.edge) (calls b.host.edge) (calls c.host.edge) f.are g.are }
+
+  same : {old new : RoundLauncher T E W} → new ≡ old → Goes [] old new
+  same {old} {new} is = subst (λ r. Goes [] old r) (sym is) (nothing old)
+
+  one_turn : (event : Option Incoming) (refusal : Option Refusal) (words : List ℕ) (old new : RoundLauncher T E W) →
+      Heard calls stores holds stamped event refusal words old.host new.host → Goes (turned calls stores event refusal words old.host new.host ∷ []) old new
+  one_turn event refusal words old new heard =
+      record { are = (nothing_told (calls old.host.edge), nothing_told (calls new.host.edge)) }
+
+  asked : {old new : RoundLauncher T E W} → AsksEdge calls old new → Goes [] old new
+  asked {old} {new} (inl edge) = subst (λ (r : RoundLauncher T E W). Goes [] old r) (sym edge.2) (record { are = may_read (calls old.host.edge) (calls edge.0) edge.1 })
+  asked {old} {new} (inr told) = subst (λ (r : RoundLauncher T E W). Goes [] old r) (sym told.2) (record { are = kept told.1 })
+
+  lent_on : (edge : E) (old : RoundLauncher T E W) → AsksOnly (calls old.host.edge) (calls edge) → Goes [] old (lent edge old)
+  lent_on edge old told = record { are = told }
+
+  asks : {old new : RoundLauncher T E W} → rounds.Asks (AsksEdge calls) old new → Goes [] old new
+  asks {old} rounds.nothing = nothing old
+  asks (rounds.further more a) = then_ {xs = []} {ys = []} (asks more) (asked a)
+
+  reading : (old new : RoundLauncher T E W) (heard : HeardReading calls stores holds stamped old new) → Goes (of_reading calls stores holds stamped old new heard) old new
+  reading old new heard = one_turn (Some (happened (journaled.Clock old.at))) heard.refusal heard.words old new heard.heard
+
+  reads : (old new : RoundLauncher T E W) (r : Reads calls stores holds stamped old new) → Goes (of_reads calls stores holds stamped old new r) old new
+  reads old new (inl own) = same own.1
+  reads old new (inr moved) = reading old new moved.1
+
+  missed : (b : Bool) (old new : RoundLauncher T E W) (r : ReadsIf calls stores holds stamped b old new) → Goes (of_missed calls stores holds stamped b old new r) old new
+  missed true old new r = reads old new r
+  missed false old new is = same is
+
+  news : (b : Bool) (old new : RoundLauncher T E W) (r : HeardIf calls stores holds stamped b old new) → Goes (of_news calls stores holds stamped b old new r) old new
+  news true old new heard = reading old new heard
+  news false old new is = record { are = (same is).are }
+
+  clock : (old new : RoundLauncher T E W) → ReadsClock calls stores holds stamped old new → Goes [] old new
+  clock old new r = subst (λ (x : RoundLauncher T E W). Goes [] old x) (sym r.read) (record { are = one_told Clock (read_answer r.answer) refl r.told })
+
+  begins : (old new : RoundLauncher T E W) (b : Begins calls stores holds stamped old new) → Goes (of_begins calls stores holds stamped old new b) old new
+  begins old new b =
+      record {
+        are = (then_ {a = record old { is_active = false }} {b = b.first} {c = new} (missed old.is_refused (record old { is_active = false }) b.first b.missed)
+            (then_ {xs = []} {b = b.begun} (clock b.first b.begun b.reads) (news b.news.is_news b.begun new b.news.handed))).are;
+      }
+
+  gives : (event : Option Incoming) (refusal : Option Refusal) (words : List ℕ) (old new : RoundLauncher T E W) (g : Gives calls stores holds stamped event refusal words old new) →
+      Goes (of_gives calls stores holds stamped event refusal words old new g) old new
+  gives event refusal words old new g = then_ {b = g.mid} (reads old g.mid g.reading) (one_turn event refusal words g.mid new g.heard)
+
+  tells : (event : Option Incoming) (refusal : Option Refusal) (old new : RoundLauncher T E W) (t : Tells calls stores holds stamped event refusal old new) →
+      Goes (of_tells calls stores holds stamped event refusal old new t) old new
+  tells event refusal old new t = gives event refusal t.words old new t.gives
+
+  end : (label : List ℕ) (run : ℕ) (answer : Result (Option Ended) EdgeFault) (old new : RoundLauncher T E W) (t : TellsEnd calls stores holds stamped label run answer old new) →
+      Goes (of_end calls stores holds stamped label run answer old new t) old new
+  end label run (Ok None) old new is = same is
+  end label run (Ok (Some how)) old new t = tells (event_if_label label (journaled.OfJob label (happens.Ended run how))) t.0 old new t.1
+  end label run (Err fault) old new t = tells (event_if_label label (journaled.OfJob label (happens.WaitRefused run))) t.0 old new t.1
+
+  poll : (Finds : ℕ → Option (ℕ × ℕ) → E → E → Type 0) (first : ℕ) (job : Option ℕ) (old new : RoundLauncher T E W) (p : PollsFrom calls stores holds stamped Finds first job old new) →
+      Goes (of_poll calls stores holds stamped Finds first job old new p) old new
+  poll Finds first None old new p = subst (λ (r : RoundLauncher T E W). Goes [] old r) (sym p.3) (lent_on p.0 old (kept p.1))
+  poll Finds first (Some j) old new p = let run = p.4 in
+      then_ {xs = []} {b = lent run.edge (lent p.1 old)} (lent_on run.edge old (between (kept p.2) (one_told (Poll j p.0) (poll_answer run.answer) refl run.told))) (end run.label p.0 run.answer (lent run.edge (lent p.1 old)) new run.handed)
+
+  polls : (Finds : ℕ → Option (ℕ × ℕ) → E → E → Type 0) {first : ℕ} {old : RoundLauncher T E W} {n next : ℕ} {new : RoundLauncher T E W} (p : children.Polls (PollsFrom calls stores holds stamped Finds) first old n next new) →
+      Goes (of_polls calls stores holds stamped Finds p) old new
+  polls Finds {old = old} children.no_poll = nothing old
+  polls Finds (children.one_more {next = next} {job = job} {mid = mid} {new = new} more polled) = then_ (polls Finds more) (poll Finds next (Some job) mid new polled)
+
+  polls_all : (Finds : ℕ → Option (ℕ × ℕ) → E → E → Type 0) {first next : ℕ} {old new : RoundLauncher T E W} (p : children.PollsAll (PollsFrom calls stores holds stamped Finds) first old next new) →
+      Goes (of_polls calls stores holds stamped Finds p.over) old new
+  polls_all Finds {old = old} {new = new} p = elim p.rest [
+    | inl none ↦ subst (λ ms. Goes ms old new) (append-nil (of_polls calls stores holds stamped Finds p.over)) (then_ {ys = []} (polls Finds p.over) (poll Finds p.behind None p.mid new none.0))
+    | inr rest ↦ elim rest [
+      | inl some ↦ subst (λ (r : RoundLauncher T E W). Goes (of_polls calls stores holds stamped Finds p.over) old r) (sym some.1) (polls Finds p.over)
+      | inr all ↦ subst (λ (r : RoundLauncher T E W). Goes (of_polls calls stores holds stamped Finds p.over) old r) (sym all.1) (polls Finds p.over)
+    ]
+  ]
+
+  sight : (Looks : List ℕ → Result Obs EdgeFault → E → E → Type 0) (path : List ℕ) (seen : Option Obs) (old : RoundLauncher T E W) (known : looks.Known) (new : RoundLauncher T E W) (known' : looks.Known)
+      (t : looks.TakesIf (DoesPath calls stores holds stamped Looks) path seen old known new known') → Goes (of_sight calls stores holds stamped Looks path seen old known new known' t) old new
+  sight Looks path None old known new known' none = same none.0
+  sight Looks path (Some obs) old known new known' (inl is) = record { are = (same is.1).are }
+  sight Looks path (Some obs) old known new known' (inr differs) = tells (Some (happened (journaled.Saw path obs))) differs.1.0 old new differs.1.2
+
+  -- a question about paths
+  put : (edge : E) (old new : RoundLauncher T E W) → AsksOnly (calls old.host.edge) (calls edge) → new ≡ lent edge old → Goes [] old new
+  put edge old new told is = subst (λ (r : RoundLauncher T E W). Goes [] old r) (sym is) (lent_on edge old told)
+
+  questions : (Looks : List ℕ → Result Obs EdgeFault → E → E → Type 0) {first new : RoundLauncher T E W} → looks.Questions ListsNext (DoesPath calls stores holds stamped Looks) first new → Goes [] first new
+  questions Looks {first = first} looks.no_question = nothing first
+  questions Looks (looks.ahead {mid = mid} {new = new} more put_in) = then_ {xs = []} {ys = []} (questions Looks more) (put put_in.0 mid new (kept put_in.1) put_in.2)
+  questions Looks (looks.awaits {mid = mid} {new = new} more put_in) = then_ {xs = []} {ys = []} (questions Looks more) (put put_in.0 mid new (kept put_in.1) put_in.2)
+
+  walk : (Looks : List ℕ → Result Obs EdgeFault → E → E → Type 0) {first : RoundLauncher T E W} {known : looks.Known} {from : List ℕ} {n : ℕ} {path : List ℕ} {new : RoundLauncher T E W} {known' : looks.Known}
+      (w : looks.Walks ListsNext (DoesPath calls stores holds stamped Looks) first known from n path new known') → Goes (of_walk calls stores holds stamped Looks w) first new
+  walk Looks {first = first} looks.no_look = nothing first
+  walk Looks {first = first} (looks.asked {new = new} more asked_on) = subst (λ ms. Goes ms first new) (append-nil (of_walk calls stores holds stamped Looks more)) (then_ {ys = []} (walk Looks more) (questions Looks asked_on))
+  walk Looks (looks.one_more {next = next} {mid = mid} {seen = seen} {new = new} {before = before} {after = after} more is waits it) =
+      then_ (walk Looks more) (then_ {xs = []} (put waits.0 mid seen (kept waits.1) waits.2) (then_ {xs = []} (put it.looked.1 seen it.mid (one_told Look (look_answer it.looked.0) refl it.looked.2) it.looked.5)
+      (sight Looks next it.seen it.mid before new after it.taken)))
+
+  serves : {old new : RoundLauncher T E W} (s : Serves (AnswersLine calls stores holds stamped) old new) → Goes (of_serves calls stores holds stamped s) old new
+  serves {old = old} nobody = nothing old
+  serves (one_more {line = line} {reply = reply} {mid = mid} {new = new} more answers) = then_ (serves more)
+      (let marks = of_gives calls stores holds stamped (asked_by line) reply.refusal reply.text mid answers.mid answers.gives in
+      let given : Goes (marks ++ []) mid (lent answers.edge answers.mid) = then_ {ys = []} (gives (asked_by line) reply.refusal reply.text mid answers.mid answers.gives) (lent_on answers.edge answers.mid (kept answers.told)) in
+      let heard : Goes marks mid (lent answers.edge answers.mid) = subst (λ ms. Goes ms mid (lent answers.edge answers.mid)) (append-nil marks) given in
+      subst (λ (r : RoundLauncher T E W). Goes marks mid r) (sym answers.noted) (record { are = heard.are }))
+
+  client_on : (label : List ℕ) (job conn : ℕ) (answer : HandedIn) (old new : RoundLauncher T E W) (t : TellsCame calls stores holds stamped label job conn answer old new) →
+      Goes (of_client calls stores holds stamped label job conn answer old new t) old new
+  client_on label job conn handed.Dropped old new is = same is
+  client_on label job conn handed.Heard old new t = tells (event_if_label label (journaled.OfJob label (happens.Came conn))) None old new t
+  client_on label job conn (handed.Refused refusal) old new came =
+      let heard = tells (event_if_label label (journaled.OfJob label (happens.Came conn))) (Some refusal) old came.0 came.2 in
+      subst (λ (r : RoundLauncher T E W). Goes (of_tells calls stores holds stamped (event_if_label label (journaled.OfJob label (happens.Came conn))) (Some refusal) old came.0 came.2) old r) (sym came.4)
+      (subst (λ ms. Goes ms old (lent came.1 came.0)) (append-nil (of_tells calls stores holds stamped (event_if_label label (journaled.OfJob label (happens.Came conn))) (Some refusal) old came.0 came.2))
+      (then_ {ys = []} heard (lent_on came.1 came.0 (one_told (Close job conn) Done refl came.3))))
+
+  took : (Accepts : ℕ → E → E → Type 0) {job : ℕ} {old mid new : RoundLauncher T E W} → TakesClient calls Accepts job old mid → rounds.Asks (AsksEdge calls) mid new → Goes [] old new
+  took Accepts {old = old} {mid = mid} takes a = then_ {xs = []} {ys = []} (subst (λ (r : RoundLauncher T E W). Goes [] old r) (sym takes.3) (lent_on takes.0 old (kept takes.1))) (asks a)
+
+  clients : (Accepts : ℕ → E → E → Type 0) (Holds : ℕ → ℕ → List ℕ → Bool → E → E → Type 0) {desk : rounds.Desk} {old : RoundLauncher T E W} {desk' : rounds.Desk} {new : RoundLauncher T E W}
+      (g : rounds.Gathers (AsksEdge calls) (TakesClient calls Accepts) (ComesIn calls stores holds stamped Holds) desk old desk' new) → Goes (of_clients calls stores holds stamped Accepts Holds g) old new
+  clients Accepts Holds {old = old} rounds.nobody = nothing old
+  clients Accepts Holds {old = old} (rounds.asked {new = new} more a) = subst (λ ms. Goes ms old new) (append-nil (of_clients calls stores holds stamped Accepts Holds more)) (then_ {ys = []} (clients Accepts Holds more) (asked a))
+  clients Accepts Holds {old = old} (rounds.taken {new = new} more t w a) = subst (λ ms. Goes ms old new) (append-nil (of_clients calls stores holds stamped Accepts Holds more)) (then_ {ys = []} (clients Accepts Holds more) (took Accepts t a))
+  clients Accepts Holds (rounds.heard more grows) = clients Accepts Holds more
+  clients Accepts Holds (rounds.went more gone) = clients Accepts Holds more
+  clients Accepts Holds (rounds.came {client = client} {answer = answer} {desk = desk} {mid = mid} {new = new} more is set comes) =
+      then_ (clients Accepts Holds more) (then_ {xs = []} (lent_on comes.edge mid (kept comes.told)) (client_on comes.label client.origin.job desk.conn answer (lent comes.edge mid) new comes.handed))
+
+  ended : {marks : List (Mark T)} {a : RoundLauncher T E W} (b c d : RoundLauncher T E W) → Goes marks a b → rounds.Asks (AsksEdge calls) b c → rounds.Asks (AsksEdge calls) c d → Goes marks a d
+  ended {marks} {a} b c d goes first second = subst (λ ms. Goes ms a d) (append-nil marks) (then_ {ys = []} goes (then_ {xs = []} {ys = []} (asks first) (asks second)))
+
+  module _ (Finds : ℕ → Option (ℕ × ℕ) → E → E → Type 0) (Looks : List ℕ → Result Obs EdgeFault → E → E → Type 0)
+      (Accepts : ℕ → E → E → Type 0) (Holds : ℕ → ℕ → List ℕ → Bool → E → E → Type 0) where
+    looks_start : (at : Option (List ℕ)) (old : RoundLauncher T E W) (from : List ℕ) (started : RoundLauncher T E W) → looks.Starts ListsNext (DoesPath calls stores holds stamped Looks) at old from started → Goes [] old started
+    looks_start (Some path) old from started b = same b.1
+    looks_start None old from started b = put b.1.0 old started (kept b.1.1) b.1.2
+
+    looks_begin : (at : Option (List ℕ)) (old : RoundLauncher T E W) (known : looks.Known) (from : List ℕ) (first : RoundLauncher T E W) (begun : looks.Known) →
+        looks.Begins ListsNext (DoesPath calls stores holds stamped Looks) at old known from first begun → Goes [] old first
+    looks_begin at old known from first begun b =
+        then_ {xs = []} {ys = []} (looks_start at old from b.started b.starts)
+        (subst (λ (r : RoundLauncher T E W). Goes [] b.started r) (sym b.asks.1) (record { are = nothing_told (calls b.started.host.edge) }))
+
+    looks_all : (polled : RoundLauncher T E W) (old : rounds.Left (RoundLauncher T E W)) (looked : RoundLauncher T E W) (new : rounds.Left (RoundLauncher T E W)) (s : rounds.Sees (launcher calls stores holds stamped Finds Looks Accepts Holds) polled old looked new) →
+        Goes (of_looks calls stores holds stamped Finds Looks Accepts Holds polled old looked new s) polled looked
+    looks_all polled old looked new (inl early) = same early.1
+    looks_all polled old looked new (inr due) = let all = due.3 in
+        then_ {xs = []} (looks_begin old.walk polled old.known all.from all.first all.begun all.begins) (then_ {xs = []} (questions Looks all.asks) (walk Looks all.walks.walk))
+
+    round : (old new : rounds.Left (RoundLauncher T E W)) (r : rounds.IsRound (launcher calls stores holds stamped Finds Looks Accepts Holds) old new) → Goes (of_round calls stores holds stamped Finds Looks Accepts Holds old new r) old.host new.host
+    round old new r =
+        then_ {xs = []} {b = r.waited} (asks r.waits)
+        (then_ {b = r.begun} (begins r.waited r.begun r.begins)
+        (then_ {b = r.polled} (polls_all Finds r.polls)
+        (then_ {b = r.looked} (looks_all r.polled old r.looked new r.looks)
+        (then_ {b = r.serves.first} (serves r.serves.serves)
+        (then_ {b = r.serves.mid} (clients Accepts Holds r.serves.gathers) (ended r.serves.last r.served new.host (serves r.serves.again) r.serves.asks r.tells))))))
+
+    pub rounds_go : {first last : rounds.Left (RoundLauncher T E W)} (rs : rounds.AreRounds (launcher calls stores holds stamped Finds Looks Accepts Holds) first last) → Goes (marks_of calls stores holds stamped Finds Looks Accepts Holds rs) first.host last.host
+    rounds_go {first = first} rounds.no_round = nothing first.host
+    rounds_go (rounds.one_round {mid = mid} {new = new} more r) = then_ (rounds_go more) (round mid new r)
