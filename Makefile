@@ -1,4 +1,5 @@
 # make run    builds the replay of a journal without a proof and runs the first example: a look, in about a minute
+# make quick  compiles the three programs without a proof, as build/quick/jobd, jobctl and jobscope, in some minutes; each says that it is not proved
 # make try    runs what is tried of calls, without a proof, in half an hour on one processor: for whoever changes a text, or only looks
 # make test   the gate: every proof, the wrong bodies, the tests, the programs; with kit 13f, what an earlier run on this machine
 #             passed over the same files is not proved or tried again; with 13b everything is. It leaves the program in build/ too
@@ -8,15 +9,17 @@
 # make dist   the archive of the program in build/, with what belongs to it; make deb, the Debian package of it
 # make bench  times build/jobd, the calendar and the live launcher, and counts the instructions of a line; BASELINE=PROGRAM takes turns
 #             with another program
-.PHONY: run try test times bench need_rt build install uninstall dist deb
+.PHONY: run quick try test times bench need_rt build install uninstall dist deb
 
 # One job a check, as many checks side by side as there are processors: two jobs of one check cost a quarter more.
 RT_JOBS ?= $(shell nproc)
 
 run: need_rt
 	@mkdir -p build
-	@cd crates/try_replay && { rt try -- look < ../../examples/first.jsonl 2> ../../build/run.log || { cat ../../build/run.log >&2; exit 1; }; }
-	@echo "make run: nothing was proved for this look; make build proves the program and leaves it as build/jobd, build/jobctl and build/jobscope" >&2
+	@python3 tools/look.py
+
+quick: need_rt
+	@python3 tools/quick.py
 
 # The lines that a case writes are those of crates/trials/stdout; another one is a fault.
 try: need_rt
