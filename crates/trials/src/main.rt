@@ -40,7 +40,6 @@ enum List {
     Edges,
     Rounds,
     Stores,
-    Openings,
     Turns,
     Journals,
 }
@@ -53,7 +52,6 @@ fn lines_of(list: List) -> &'static [Line] {
         List::Edges => edges::list(),
         List::Rounds => rounds::list(),
         List::Stores => stores::list(),
-        List::Openings => turns::opening_lines(),
         List::Turns => turns::launchers::list(),
         List::Journals => turns::journal_lines(),
     }
@@ -67,7 +65,6 @@ const CALLS: &[List] = &[
     List::Edges,
     List::Rounds,
     List::Stores,
-    List::Openings,
     List::Turns,
     List::Journals,
 ];
@@ -88,10 +85,7 @@ static TASKS: &[(&str, Task)] = &[
     ("edges", Task::Calls(&[List::Edges])),
     ("rounds", Task::Calls(&[List::Rounds])),
     ("stores", Task::Calls(&[List::Stores])),
-    (
-        "turns",
-        Task::Calls(&[List::Openings, List::Turns, List::Journals]),
-    ),
+    ("turns", Task::Calls(&[List::Turns, List::Journals])),
     ("short", Task::Short),
     ("runs", Task::Runs),
 ];
