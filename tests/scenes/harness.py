@@ -14,7 +14,7 @@ import sys
 import threading
 import time
 
-from pace import BOUND, Deadline, Fault, Late, check, comes, in_time, patience, text_at, wait_for  # noqa: F401
+from pace import BOUND, Deadline, Fault, Late, check, comes, in_time, patience, seconds, text_at, wait_for  # noqa: F401
 
 HERE = os.path.dirname(os.path.abspath(__file__))
 BUILD = os.path.join(HERE, "..", "..", "build")
@@ -335,7 +335,8 @@ def end_all(launcher):
 # ---- one who asks beside others
 
 class Honest:
-    """Asks for a list again and again, and keeps how long each took. One that got no answer in so many seconds counts as `most`, and ends it."""
+    """Asks for a list again and again, and keeps how long each took, by the clock of `pace.py`. One that got no answer in so many seconds counts as `most`,
+    and ends it."""
 
     def __init__(self, launcher, most=None):
         self.launcher, self.most, self.times, self.is_over = launcher, BOUND if most is None else most, [], False
@@ -344,13 +345,13 @@ class Honest:
 
     def go(self):
         while not self.is_over:
-            begun = time.monotonic()
+            begun = seconds()
             try:
                 self.launcher.ask({"req": "list"}, self.most)
             except (Fault, OSError):
                 self.times.append(self.most)
                 return
-            self.times.append(time.monotonic() - begun)
+            self.times.append(seconds() - begun)
             time.sleep(0.005)
 
     def end(self):

@@ -94,6 +94,11 @@ class Pace:
     MOST = 10
 
 
+def seconds():
+    """A clock of the seconds that a wait is charged with."""
+    return Pace.probe.counted() if Pace.probe else time.monotonic()
+
+
 def patience(bound=None):
     """How many seconds a call may last that takes a plain timeout: more where the machine is slow now."""
     bound = BOUND if bound is None else bound
@@ -107,14 +112,10 @@ class Deadline:
     """Whether so many seconds are over, as the probe counts them."""
 
     def __init__(self, bound):
-        self.bound, self.begun = bound, time.monotonic()
-        self.counted = Pace.probe.counted() if Pace.probe else 0
+        self.bound, self.begun, self.counted = bound, time.monotonic(), seconds()
 
     def is_over(self):
-        took = time.monotonic() - self.begun
-        if Pace.probe is None:
-            return took > self.bound
-        return Pace.probe.counted() - self.counted > self.bound or took > Pace.MOST * self.bound
+        return seconds() - self.counted > self.bound or time.monotonic() - self.begun > Pace.MOST * self.bound
 
 
 def comes(fact, bound=None):
