@@ -1,22 +1,27 @@
 # make run    builds the replay of a journal without a proof and runs the first example: a look, in about a minute
+# make quick  compiles the three programs without a proof, as build/quick/jobd, jobctl and jobscope, in some minutes; each says that it is not proved
 # make try    runs what is tried of calls, without a proof, in half an hour on one processor: for whoever changes a text, or only looks
-# make test   the gate: every proof, the wrong bodies, the tests, the programs; with kit 13f, what an earlier run on this machine
-#             passed over the same files is not proved or tried again; with 13b everything is. It leaves the program in build/ too
+# make test   the gate: every proof, the wrong bodies, the tests, the programs (rt ci), and then the scenes over the program that it proved
+#             (tests/scenes); with kit 13f, what an earlier run on this machine passed over the same files is not proved or tried again; with 13b
+#             everything is. It leaves the program in build/ too
+# make scenes plays the scenes alone, with the program of build/
 # make times  the build and then the gate, with nothing kept from earlier runs: how long the build took, and what each crate cost in processor seconds
 # make build  proves, and leaves the program as build/jobd, with build/jobctl and build/jobscope as links to it
 # make install  puts the program of build/ under its three names below PREFIX; make uninstall removes it
 # make dist   the archive of the program in build/, with what belongs to it; make deb, the Debian package of it
 # make bench  times build/jobd, the calendar and the live launcher, and counts the instructions of a line; BASELINE=PROGRAM takes turns
 #             with another program
-.PHONY: run try test times bench need_rt build install uninstall dist deb
+.PHONY: run quick try test scenes times bench need_rt build install uninstall dist deb
 
 # One job a check, as many checks side by side as there are processors: two jobs of one check cost a quarter more.
 RT_JOBS ?= $(shell nproc)
 
 run: need_rt
 	@mkdir -p build
-	@cd crates/try_replay && { rt try -- look < ../../examples/first.jsonl 2> ../../build/run.log || { cat ../../build/run.log >&2; exit 1; }; }
-	@echo "make run: nothing was proved for this look; make build proves the program and leaves it as build/jobd, build/jobctl and build/jobscope" >&2
+	@python3 tools/look.py
+
+quick: need_rt
+	@python3 tools/quick.py
 
 # The lines that a case writes are those of crates/trials/stdout; another one is a fault.
 try: need_rt
@@ -31,10 +36,13 @@ try: need_rt
 test: need_rt
 	@mkdir -p build
 	@rm -f build/gate.txt
-	@{ RT_JOBS=$(RT_JOBS) rt ci; echo $$? > build/gate.status; } 2>&1 | tee build/gate.log
+	@{ RT_JOBS=$(RT_JOBS) python3 tools/gate.py; echo $$? > build/gate.status; } 2>&1 | tee build/gate.log
 	@[ "$$(cat build/gate.status)" -eq 0 ] || exit 1; \
 	    { echo "Commit: $$(git rev-parse HEAD)"; echo "Gate: $$(tail -n 1 build/gate.log)"; } > build/gate.txt
 	@rm -f build/proved.txt; { $(put_program); } || exit 0; $(say_proved)
+
+scenes:
+	@python3 tests/scenes/play.py
 
 times: need_rt
 	@RT_JOBS=$(RT_JOBS) python3 bench/times.py

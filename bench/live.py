@@ -26,12 +26,15 @@ import sys
 import tempfile
 import threading
 import time
+import types
 from dataclasses import dataclass
 
 sys.dont_write_bytecode = True
-import history
-
 HERE = os.path.dirname(os.path.abspath(__file__))
+sys.path.insert(0, os.path.join(HERE, "..", "tests", "scenes"))
+import history
+from harness import Fault, Stage
+
 JOBS = int(os.environ.get("JOBS", "1000"))
 IDLE = float(os.environ.get("IDLE", "10"))
 CALLS = int(os.environ.get("CALLS", "200"))
@@ -91,20 +94,20 @@ class Launcher:
         self.jobctl = jobctl
         self.jobscope = os.path.join(os.path.dirname(jobd), "jobscope")
         self.folder = tempfile.mkdtemp(prefix="live.")
-        os.mkdir(self.path("spool"), 0o700)
+        self.stage = Stage(types.SimpleNamespace(jobd=[jobd], jobctl=[jobctl]), self.folder)
         os.mkdir(self.path("jobs"))
         prepare(self.folder)
-        self.process = subprocess.Popen(
-            [jobd, "serve", "--socket", self.path("socket"), "--store", self.path("store"), "--spool", self.path("spool")],
-            stdin=subprocess.DEVNULL, stdout=subprocess.PIPE, text=True, env=self.surroundings())
-        if self.process.stdout.readline() != "jobd: ready\n":
-            raise SystemExit("live.py: the launcher did not start")
+        try:
+            self.process = self.stage.serve(env=self.surroundings()).process
+        except Fault as fault:
+            raise SystemExit(f"live.py: the launcher did not start: {fault}") from None
 
     def path(self, name):
         return os.path.join(self.folder, name)
 
     def surroundings(self):
-        return {key: value for key, value in os.environ.items() if key != "JOBD_STATUS_FILE"}
+        """Variables of its own."""
+        return {}
 
     def define(self, label, **keys):
         path = self.path(f"jobs/{label}.json")
@@ -308,7 +311,7 @@ class StandingLauncher(Launcher):
     """One that keeps its status file."""
 
     def surroundings(self):
-        return {**super().surroundings(), "JOBD_STATUS_FILE": self.path("status.jsonl")}
+        return {"JOBD_STATUS_FILE": self.path("status.jsonl")}
 
 
 def written(launcher, request):

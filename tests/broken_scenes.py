@@ -1,5 +1,5 @@
 #!/usr/bin/env python3
-"""Plays each scene of job_scenes.py and user_scenes.py over a launcher whose calls of the system go wrong, and sees that it fails.
+"""Plays scenes of tests/scenes/jobs.py and users.py over a launcher whose calls of the system go wrong, and sees that it fails.
 
     tests/broken_scenes.py [--jobd WORDS] [--jobctl WORDS] [WORD..]
 
@@ -61,10 +61,10 @@ def read_words():
 def seen(given, library, word, scene):
     """What the scene saw, or nothing."""
     jobd = f"/usr/bin/env LD_PRELOAD={library} BREAK={word} {given.jobd}"
-    command = [sys.executable, os.path.join(TOP, "tests", "edge_scenes.py"), "--jobd", jobd, "--jobctl", given.jobctl, scene]
+    command = [sys.executable, os.path.join(TOP, "tests", "scenes", "play.py"), "--once", "--jobd", jobd, "--jobctl", given.jobctl, scene]
     run = subprocess.run(command, capture_output=True, text=True, env={"BOUND": "5", **os.environ})
-    first = run.stdout.partition("\n")[0]
-    return first.partition(": ")[2] if first.startswith("FAILED ") else ""
+    lines = [line for line in run.stdout.splitlines() if line.startswith("FAILED ")]
+    return lines[0].partition(": ")[2] if lines else ""
 
 
 def main():

@@ -13,8 +13,8 @@ import time
 import traceback
 
 sys.dont_write_bytecode = True
-sys.path.insert(0, os.path.join(os.path.dirname(os.path.abspath(__file__)), "..", "crates", "trials", "data"))
-from edge_scenes import comes, connect, descriptors, read_all, read_line, shell_job  # noqa: E402
+sys.path.insert(0, os.path.join(os.path.dirname(os.path.abspath(__file__)), "scenes"))
+from harness import comes, connect, descriptors, read_all, read_line, shell_job  # noqa: E402
 
 LIST = b'{"req":"list"}\n'
 # Of what took as many milliseconds the moment is told too.

@@ -32,8 +32,8 @@ import tempfile
 
 sys.dont_write_bytecode = True
 HERE = os.path.dirname(os.path.abspath(__file__))
-sys.path.insert(0, os.path.join(HERE, "..", "crates", "trials", "data"))
-from edge_scenes import Fault, Stage, adopt_orphans, check, connect, end_children, read_line  # noqa: E402
+sys.path.insert(0, os.path.join(HERE, "scenes"))
+from harness import Fault, Stage, adopt_orphans, check, connect, end_children, read_line  # noqa: E402
 
 try:
     import sqlite3

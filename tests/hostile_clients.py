@@ -52,7 +52,7 @@ from crowds import (
     LIST, Beside, Crowd, Deaf, Descriptors, asks, at_rest, calls, dripping, is_held, never_reading, pipelining, resident, settles, silent, vanishing,
     zombies,
 )
-from edge_scenes import Fault, Stage, begin, call, check, chosen, connect, program_words, shell_job, socket_job, wait_for
+from harness import Fault, Stage, begin, call, check, chosen, connect, program_words, shell_job, socket_job, wait_for
 
 BAD = {"code": 2, "text": "bad request\n"}
 LONGEST = 262144

@@ -30,14 +30,13 @@ import struct
 import subprocess
 import sys
 import tempfile
-import threading
 import time
 
 sys.dont_write_bytecode = True
 HERE = os.path.dirname(os.path.abspath(__file__))
-sys.path.insert(0, os.path.join(HERE, "..", "crates", "trials", "data"))
-from edge_scenes import (  # noqa: E402
-    Fault, Stage, adopt_orphans, check, chosen, comes, end_children, look_outs, program_words, shell_job, text_at, wait_for,
+sys.path.insert(0, os.path.join(HERE, "scenes"))
+from harness import (  # noqa: E402
+    Fault, Honest, Launcher, Stage, adopt_orphans, check, chosen, comes, end_children, look_outs, program_words, shell_job, text_at, wait_for,
 )
 
 LIBC = ctypes.CDLL(None, use_errno=True)
@@ -144,31 +143,6 @@ class FileSystem:
 
 # ---- an honest client
 
-class Honest:
-    """Asks for a list again and again, and keeps how long each took."""
-
-    def __init__(self, launcher):
-        self.launcher, self.times, self.is_over = launcher, [], False
-        self.thread = threading.Thread(target=self.go)
-        self.thread.start()
-
-    def go(self):
-        while not self.is_over:
-            begun = time.monotonic()
-            try:
-                self.launcher.ask({"req": "list"}, 20)
-            except Fault:
-                self.times.append(20.0)
-                return
-            self.times.append(time.monotonic() - begun)
-            time.sleep(0.005)
-
-    def end(self):
-        self.is_over = True
-        self.thread.join()
-        return sorted(self.times)
-
-
 def late(times):
     return times[int(len(times) * 0.99)], times[-1]
 
@@ -215,7 +189,7 @@ def paths_and_logs(stage, is_mute):
             launcher.load(shell_job(f"log{at}", "echo x", StandardOutPath=hung.path(f"log{at}"), ThrottleInterval=0))
         time.sleep(2)
         hang(hung, is_mute)
-        honest = Honest(launcher)
+        honest = Honest(launcher, 20)
         told(launcher, "no answer")
         for at in range(20):
             launcher.ask({"req": "start", "job": f"log{at}"})
@@ -251,7 +225,7 @@ def one_part(stage, part, **keys):
         wait_for(lambda: "runs = 0" not in launcher.print("job"), "the job does not start")
         time.sleep(0.5)
         hung.stop()
-        honest = Honest(launcher)
+        honest = Honest(launcher, 20)
         launcher.ask({"req": "start", "job": "job"})
         told(launcher, part)
         goes_on(launcher, stage, "good")
@@ -284,7 +258,7 @@ def a_socket(stage):
     try:
         launcher = stage.serve()
         hung.stop()
-        honest = Honest(launcher)
+        honest = Honest(launcher, 20)
         job = shell_job("job", "exit 0", inetdCompatibility={"Wait": False}, Sockets={"s": {"SockPathName": hung.path("socket")}})
         reply = launcher.ask({"req": "load", "def": json.dumps(job)})
         check(reply["code"] != 0, f"the load got {reply}")
@@ -327,7 +301,7 @@ def exchanges(stage):
     try:
         launcher = stage.serve()
         launcher.load(shell_job("job", "echo x", StandardOutPath=os.path.join(place, "log"), ThrottleInterval=0))
-        honest = Honest(launcher)
+        honest = Honest(launcher, 20)
         for _ in range(60):
             launcher.ask({"req": "start", "job": "job"}, 20)
             time.sleep(0.05)
@@ -361,7 +335,7 @@ def leases(stage):
         launcher = stage.serve()
         time.sleep(0.5)
         launcher.load(shell_job("job", "echo x", StandardOutPath=os.path.join(place, "log"), ThrottleInterval=0))
-        honest = Honest(launcher)
+        honest = Honest(launcher, 20)
         launcher.ask({"req": "start", "job": "job"}, 20)
         told(launcher, "for its output: no answer")
         for _ in range(10):
@@ -382,7 +356,6 @@ def a_terminal(stage):
     os.close(far)
     try:
         check(process.stdout.readline() == b"jobd: ready\n", "it is not ready")
-        from edge_scenes import Launcher
         launcher = Launcher(process, stage.at("none"), stage.at("socket"))
         for at in range(400):
             launcher.load({"Label": f"{at}{'x' * 240}", "Program": "/none" + "y" * 900, "RunAtLoad": True})

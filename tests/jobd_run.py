@@ -19,13 +19,14 @@ import tempfile
 import time
 
 HERE = os.path.dirname(os.path.dirname(os.path.abspath(__file__)))
+sys.dont_write_bytecode = True
+sys.path.insert(0, f"{HERE}/tests/scenes")
+import pace  # noqa: E402
+from pace import Fault, check  # noqa: E402
+
 SCRIPT = f"{HERE}/contrib/jobd-run"
 options = None
 scenes = {}
-
-
-class Fault(Exception):
-    pass
 
 
 def scene(function):
@@ -33,23 +34,12 @@ def scene(function):
     return function
 
 
-def check(holds, what):
-    if not holds:
-        raise Fault(what)
-
-
 # The longest wait for anything, in seconds: programs built without a proof are slow.
 MOST = 90
 
 
 def wait_for(test, what, seconds=MOST):
-    end = time.time() + seconds
-    while True:
-        value = test()
-        if value:
-            return value
-        check(time.time() < end, f"not within {seconds} s: {what}")
-        time.sleep(0.05)
+    return pace.wait_for(test, what, seconds)
 
 
 def gone(pid):

@@ -18,38 +18,24 @@ import argparse
 import json
 import os
 import random
-import signal
 import subprocess
 import sys
 import tempfile
 import threading
 import time
+import types
 
 HERE = os.path.dirname(os.path.abspath(__file__))
+sys.dont_write_bytecode = True
+sys.path.insert(0, os.path.join(HERE, "scenes"))
+from harness import Fault, Stage, end_process  # noqa: E402
+
 LABELS = [f"job.{n}" for n in range(8)] + ["s" * 255]
 
 
 def fail(text):
     print(f"kill_nine: {text}")
     sys.exit(1)
-
-
-class Launcher:
-    """A running `jobd serve`."""
-
-    def __init__(self, jobd, folder):
-        self.folder = folder
-        words = [jobd, "serve", "--socket", f"{folder}/s", "--store", f"{folder}/store", "--spool", f"{folder}/spool"]
-        words += ["--journal", f"{folder}/journal"]
-        self.process = subprocess.Popen(words, stdout=subprocess.PIPE, stderr=subprocess.PIPE)
-        if self.process.stdout.readline() != b"jobd: ready\n":
-            fail(f"no ready line, but {self.process.stderr.read()!r}")
-
-    def kill(self):
-        self.process.send_signal(signal.SIGKILL)
-        self.process.wait()
-        self.process.stdout.close()
-        self.process.stderr.close()
 
 
 def settings_of(jobd, folder):
@@ -115,14 +101,19 @@ def main():
     print(f"seed {given.seed}")
     held, settings, in_midst = {}, 0, 0
     with tempfile.TemporaryDirectory() as folder:
-        os.mkdir(f"{folder}/spool", 0o700)
+        stage = Stage(types.SimpleNamespace(jobd=[jobd], jobctl=[jobctl]), folder)
         for _ in range(given.times):
-            launcher = Launcher(jobd, folder)
+            try:
+                launcher = stage.serve(socket="s", journal="journal")
+            except Fault as fault:
+                fail(str(fault))
             sent, acknowledged = [], []
             sender = threading.Thread(target=set_until_killed, args=(jobctl, folder, rng, sent, acknowledged))
             sender.start()
             time.sleep(rng.random() * 0.06)
-            launcher.kill()
+            end_process(launcher.pid)
+            launcher.ends()
+            launcher.process.stdout.close()
             sender.join()
             found = settings_of(jobd, folder)
             check_store(found, held, sent, acknowledged)

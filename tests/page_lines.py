@@ -14,8 +14,13 @@ import subprocess
 import sys
 import tempfile
 import time
+import types
 
 HERE = os.path.dirname(os.path.dirname(os.path.abspath(__file__)))
+sys.dont_write_bytecode = True
+sys.path.insert(0, os.path.join(HERE, "tests", "scenes"))
+from harness import Stage  # noqa: E402
+
 PROGRAMS = os.path.abspath(sys.argv[1])
 faults, counts = [], {"lines": 0, "helps": 0}
 
@@ -49,19 +54,6 @@ def run(*words, given="", folder=None, **more):
 def want(what, wanted, got):
     if wanted != got:
         faults.append(f"{what}: {got!r}, wanted {wanted!r}")
-
-
-class Launcher:
-    def __init__(self, folder):
-        self.folder = folder
-        os.mkdir(f"{folder}/spool", 0o700)
-        words = [f"{PROGRAMS}/jobd", "serve", "--socket", "s", "--store", "o", "--spool", "spool", "--journal", "journal"]
-        self.process = subprocess.Popen(words, cwd=folder, stdout=subprocess.PIPE, stderr=subprocess.DEVNULL, text=True)
-        want("a launcher begins", "jobd: ready\n", self.process.stdout.readline())
-
-    def end(self):
-        run("jobctl", "--socket", "s", "shutdown", folder=self.folder)
-        self.process.wait(30)
 
 
 def the_journal_is_one():
@@ -183,13 +175,14 @@ def the_helps_are_printed():
 the_journal_is_one()
 the_definitions_load()
 with tempfile.TemporaryDirectory() as place:
-    launcher = Launcher(place)
+    stage = Stage(types.SimpleNamespace(jobd=[f"{PROGRAMS}/jobd"], jobctl=[f"{PROGRAMS}/jobctl"]), place)
+    launcher = stage.serve(socket="s", store="o", journal="journal")
     the_socket_answers(place)
     the_converter_converts(place)
     a_fault_is_one_line(place)
     the_lines_of_jobctl_do(place)
     a_run_has_so_many_bytes(place)
-    launcher.end()
+    launcher.shut_down()
 printed, distinct = the_helps_are_printed()
 for fault in faults:
     print("pages:", fault, file=sys.stderr)

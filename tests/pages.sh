@@ -110,7 +110,7 @@ check_program(f"{PROGRAMS}/jobscope", "man/jobscope.1", SCOPE, "", "jobscope")
 # ---- the version
 
 version = read("VERSION").strip()
-for path in ("crates/command_words/src/version.rt", "docs/OPERATING.md", "crates/trials/data/word_scenes.py"):
+for path in ("crates/command_words/src/version.rt", "docs/OPERATING.md", "tests/scenes/words.py"):
     if {f"Kivgrond {version}"} != set(re.findall(r"Kivgrond [0-9.]*[0-9]", read(path))):
         faults.append(f"{path}: it does not name the version {version} alone")
 if re.findall(r'VERSION: &str = "([0-9.]+)"', read("crates/status_file/src/lib.rt")) != [version]:

@@ -4,8 +4,8 @@
     tests/pictures.py [PROGRAM [JOURNAL..]]
     tests/pictures.py --look FOLDER [PROGRAM [JOURNAL..]]
 
-PROGRAM is build/jobscope if none is given, and the journals are those of crates/trials/data/scope/journal. What is looked for stands in
-crates/trials/data/pictures.py, by which the gate looks at three of them (`jobscope_pictures` of `trials`).
+PROGRAM is build/jobscope if none is given, and the journals are those of tests/scenes/scope/journal. What is looked for stands in
+tests/scenes/pictures.py, by which the gate looks at three of them (the scene `jobscope_pictures`).
 
 One line a journal, and a count. The status is 1 if a picture is at fault.
 
@@ -22,8 +22,8 @@ import tempfile
 
 TOP = os.path.join(os.path.dirname(os.path.abspath(__file__)), "..")
 sys.dont_write_bytecode = True
-sys.path.insert(0, os.path.join(TOP, "crates", "trials", "data"))
-from pictures import faults_of
+sys.path.insert(0, os.path.join(TOP, "tests", "scenes"))
+from pictures import faults_of  # noqa: E402
 
 # By this a page runs no script, and loads nothing.
 POLICY = """<meta http-equiv="Content-Security-Policy" content="default-src 'none'; style-src 'unsafe-inline'">
@@ -71,7 +71,7 @@ def main():
     folder = words[1] if words[:1] == ["--look"] else None
     words = words[2:] if folder else words
     program = words[0] if words else os.path.join(TOP, "build", "jobscope")
-    paths = words[1:] or sorted(glob.glob(os.path.join(TOP, "crates", "trials", "data", "scope", "journal", "*.jsonl")))
+    paths = words[1:] or sorted(glob.glob(os.path.join(TOP, "tests", "scenes", "scope", "journal", "*.jsonl")))
     if folder:
         look(folder, program, paths)
     bad = 0

@@ -11,47 +11,33 @@ nothing, whichever of the two clocks is ahead. It is run by hand, after `make bu
 import json
 import os
 import shutil
-import signal
 import subprocess
 import sys
 import tempfile
 import time
+import types
 
 HERE = os.path.dirname(os.path.abspath(__file__))
+sys.dont_write_bytecode = True
+sys.path.insert(0, os.path.join(HERE, "scenes"))
+os.environ.setdefault("BOUND", "30")
+from harness import Fault, Stage, adopt_orphans, check, end_children, wait_for  # noqa: E402
+
 PROGRAMS = os.path.abspath(sys.argv[1] if len(sys.argv) > 1 else os.path.join(HERE, "..", "build"))
-BOUND = 30
 HOURS = 7_200
 
 
-class Fault(Exception):
-    pass
-
-
-def check(fact, why):
-    if not fact:
-        raise Fault(why)
-
-
-def wait_for(fact, why, bound=BOUND):
-    end = time.monotonic() + bound
-    while not fact():
-        check(time.monotonic() < end, f"not within {bound} s: {why}")
-        time.sleep(0.02)
-
-
-class Launcher:
-    """A `jobd serve` in a folder of its own. FRONT stands before its words."""
+class Sleeper:
+    """A launcher in a folder of its own. FRONT stands before its words."""
 
     def __init__(self, folder, front=(), **env):
+        os.mkdir(folder)
         self.folder = folder
-        os.makedirs(f"{folder}/spool", 0o700)
-        self.said = open(f"{folder}/said", "wb")
-        words = [f"{PROGRAMS}/jobd", "serve", "--socket", f"{folder}/s", "--store", f"{folder}/store", "--spool", f"{folder}/spool"]
-        self.process = subprocess.Popen([*front, *words], stdout=subprocess.PIPE, stderr=self.said, env={**os.environ, **env})
-        check(self.process.stdout.readline() == b"jobd: ready\n", f"no ready line: {open(f'{folder}/said').read()}")
+        self.stage = Stage(types.SimpleNamespace(jobd=[*front, f"{PROGRAMS}/jobd"], jobctl=[f"{PROGRAMS}/jobctl"]), folder)
+        self.stage.serve(env=env)
 
     def control(self, *words):
-        run = subprocess.run([f"{PROGRAMS}/jobctl", "--socket", f"{self.folder}/s", *words], capture_output=True, text=True)
+        run = self.stage.jobctl(words)
         check(run.returncode == 0, f"jobctl {' '.join(words)}: {run.stdout}{run.stderr}")
         return run.stdout
 
@@ -72,15 +58,7 @@ class Launcher:
         wait_for(lambda: self.has(f"{label}.deaf"), "the job is deaf")
 
     def end(self):
-        self.process.kill()
-        self.process.wait()
-        for pid in filter(str.isdigit, os.listdir("/proc")):
-            try:
-                words = open(f"/proc/{pid}/cmdline", "rb").read()
-                if b"trap" in words and f"{self.folder}/".encode() in words:
-                    os.kill(int(pid), signal.SIGKILL)
-            except OSError:
-                pass
+        self.stage.clear()
 
 
 def of_library(folder, library):
@@ -92,7 +70,7 @@ def of_library(folder, library):
         os.rename(f"{slept}.new", slept)
 
     sleep(500)
-    launcher = Launcher(f"{folder}/library", LD_PRELOAD=library, SLEPT_FILE=slept)
+    launcher = Sleeper(f"{folder}/library", LD_PRELOAD=library, SLEPT_FILE=slept)
     try:
         launcher.load("hourly", ":", StartInterval=3600)
         time.sleep(0.5)
@@ -124,7 +102,7 @@ def of_library(folder, library):
 
 
 def in_namespace(folder, *clocks):
-    launcher = Launcher(folder, front=["unshare", "--time", *clocks, "--"])
+    launcher = Sleeper(folder, front=["unshare", "--time", *clocks, "--"])
     try:
         launcher.load("often", ":", StartInterval=1)
         launcher.load("hourly", ":", StartInterval=3600)
@@ -135,6 +113,7 @@ def in_namespace(folder, *clocks):
 
 
 def main():
+    adopt_orphans()
     folder = tempfile.mkdtemp(prefix="slept.")
     try:
         if shutil.which("cc"):
@@ -154,6 +133,7 @@ def main():
         print(f"slept: {fault}", file=sys.stderr)
         return 1
     finally:
+        end_children()
         shutil.rmtree(folder, ignore_errors=True)
     return 0
 

@@ -14,6 +14,8 @@ import subprocess
 import sys
 
 END = "<<typed_page: end>>"
+# What programs of `make quick` tell at each start.
+NOT_PROVED = ": not proved (make quick made it; make build proves it)"
 
 
 def steps_of(text, mark):
@@ -44,21 +46,22 @@ def plain(rows):
     return rows
 
 
-def is_said(row):
-    """Whether the page may show the line: a program of `make quick` says at each start that it is not proved."""
-    return not re.fullmatch(r"\w+: not proved \(make quick made it; .*\)", row.rstrip("\n"))
+def lines_of(shell):
+    """The lines that come, without those that say that a program is not proved."""
+    for row in shell.stdout:
+        if not row.rstrip("\n").endswith(NOT_PROVED):
+            yield row
 
 
 def came_of(shell, typed, shown):
     if typed[-1].endswith("&"):
         shell.stdin.write("\n".join(typed) + "\n")
         shell.stdin.flush()
-        lines = (row.rstrip("\n") for row in shell.stdout if is_said(row))
-        return [next(lines, "the shell has ended") for _ in shown]
+        return [row.rstrip("\n") for _, row in zip(shown, lines_of(shell))]
     shell.stdin.write("\n".join(typed) + f"\necho '{END}'\n")
     shell.stdin.flush()
     came = []
-    for row in shell.stdout:
+    for row in lines_of(shell):
         if row.rstrip("\n").endswith(END):
             rest = row.rstrip("\n")[: -len(END)]
             return came + ([rest] if rest else [])

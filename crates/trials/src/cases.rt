@@ -1,17 +1,16 @@
 //! All cases of calls, and the one function that tries each. A line of what is shown stands for one case or more.
 
-use crate::edges::{control_stage, further_clients, memory, refused, system};
+use crate::edges::{control_stage, further_clients, refused, system};
 use crate::memory_stage::Stage;
-use crate::parts::{definitions, exchange, feed, heap, lines, zones};
+use crate::parts::{exchange, feed, heap, lines, zones};
 use crate::rounds::{ends, pair, refusals, step};
 use crate::stores::{files, on_disks, stops};
 use crate::tables::{rows, visits};
-use crate::turns::{journals, launchers, openings};
+use crate::turns::{journals, launchers};
 use anyhow::Result;
 
 /// One case, by what tries it.
 pub enum Case {
-    Definition(&'static definitions::Read),
     Exchange(&'static [exchange::Step]),
     Heap(&'static [heap::Step]),
     Feed(&'static feed::Fed),
@@ -20,10 +19,8 @@ pub enum Case {
     Lines(lines::Kind, bool, &'static str),
     Outcomes(&'static [lines::outcomes::Told]),
     Table(bool, u32, &'static [rows::Row]),
-    NoLabel,
     Control(&'static str, &'static [control_stage::Step]),
     Further(&'static further_clients::Further),
-    Scripted(&'static memory::Script),
     Refusing(&'static refused::Refused),
     System(&'static system::Scene),
     RefusedRounds,
@@ -33,7 +30,6 @@ pub enum Case {
     ManyStored,
     Lasting(files::Begin, &'static [on_disks::Listed<'static>]),
     Stopping(stops::Run, bool),
-    Opening(&'static openings::Opening),
     Launched(&'static launchers::Turns),
     Journal(&'static journals::Row),
     NoJournal,
@@ -46,7 +42,6 @@ pub type Line = (&'static str, &'static [Case]);
 fn goes(rt: &HostRuntime, case: &Case) -> bool {
     let alloc = rt.alloc();
     match *case {
-        Case::Definition(read) => definitions::is_read(alloc, read),
         Case::Exchange(steps) => exchange::all_go(alloc, steps) == Some(true),
         Case::Heap(steps) => heap::all_go(alloc, steps) == Some(true),
         Case::Feed(fed) => feed::all_go(alloc, fed),
@@ -57,10 +52,8 @@ fn goes(rt: &HostRuntime, case: &Case) -> bool {
         Case::Table(is_full, times, rows) => {
             visits::all_happen(alloc, is_full, times, rows) == Some(true)
         }
-        Case::NoLabel => visits::is_refused(alloc) == Some(true),
         Case::Control(name, steps) => control_stage::all_go(rt, name, steps) == Some(true),
         Case::Further(further) => further_clients::is_placed(further),
-        Case::Scripted(script) => memory::is_so(alloc, script) == Some(true),
         Case::Refusing(refused) => refused::is_so(rt, refused) == Some(true),
         Case::System(scene) => system::is_played(rt, scene) == Some(true),
         Case::RefusedRounds => refusals::are_taken(rt) == Some(true),
@@ -70,7 +63,6 @@ fn goes(rt: &HostRuntime, case: &Case) -> bool {
         Case::ManyStored => on_disks::has_many(alloc) == Some(true),
         Case::Lasting(begin, rounds) => files::do_last(alloc, begin, rounds),
         Case::Stopping(run, is_log) => stops::are_followed(alloc, run, is_log),
-        Case::Opening(opening) => openings::is_so::<Stage>(alloc, opening) == Some(true),
         Case::Launched(turns) => launchers::is_so::<Stage>(alloc, turns) == Some(true),
         Case::Journal(row) => journals::become_so(alloc, row) == Some(true),
         Case::NoJournal => journals::is_silent(alloc) == Some(true),

@@ -5,7 +5,6 @@ pub mod control_rows;
 pub mod control_stage;
 mod echo;
 pub mod further_clients;
-pub mod memory;
 pub mod places;
 pub mod refused;
 pub mod refusing;
@@ -24,16 +23,6 @@ pub fn list() -> &'static [Line] {
 static LINES: &[Line] = &[
     ("each_round_serves_each_client", control_rows::CASES),
     ("the_first_goes_for_a_further_client", further::CASES),
-    (
-        "the_edge_in_memory_answers_by_its_script",
-        &[
-            Case::Scripted(memory::EACH_KIND),
-            Case::Scripted(memory::EACH_FAULT),
-            Case::Scripted(memory::ANOTHER_KIND),
-            Case::Scripted(memory::ENDED),
-            Case::Scripted(memory::PAST_THE_ROOM),
-        ],
-    ),
     (
         "what_a_system_refuses_is_counted_kept_and_told",
         &[

@@ -1,13 +1,14 @@
 //! What no contract says, no line of a journal shows and no proof sees, tried: calls of the crates, the real system, stores, turns, want of
-//! memory, and the programs as their users run them. All is in one program, so that the libraries are read and compiled once. Its first
+//! memory, and the first runs of `jobd` and `jobctl`. All is in one program, so that the libraries are read and compiled once. Its first
 //! word says what it does; `trials` is all of it, with a line for each list of cases:
 //!
 //! - by `calls`, those over tables of cases, which are read off the rules of launchd.plist(5), launchctl(1), crontab(5), signal(7), the
 //!   shell's manual and the line protocol, and off no run of this code; by the name of a folder of `src/`, some of them;
 //! - by `short`, the calls that take memory. It starts itself with that word and its memory limited by the shell;
-//! - by `scenes`, those that lie in `data/`. They start this file again through links that are named as the programs are.
+//! - by `runs`, the first runs of a launcher and its clients (`data/first_runs.py`). They start this file again through links that are named
+//!   as the programs are.
 //!
-//! By any other word, or none, it is what `jobd_program` is: the program that its name means.
+//! By any other word, or none, it is the program that its name means: `jobd` or `jobctl`.
 #![tactic(auto)]
 
 mod again;
@@ -26,7 +27,6 @@ use anyhow::Result;
 use control_client::jobctl;
 use files_and_process::own_process::{Programs, run_by_name};
 use jobd::jobd;
-use scope::jobscope;
 use std::env;
 use std::process::ExitCode;
 use std::sync::Wait;
@@ -40,7 +40,6 @@ enum List {
     Edges,
     Rounds,
     Stores,
-    Openings,
     Turns,
     Journals,
 }
@@ -53,7 +52,6 @@ fn lines_of(list: List) -> &'static [Line] {
         List::Edges => edges::list(),
         List::Rounds => rounds::list(),
         List::Stores => stores::list(),
-        List::Openings => turns::opening_lines(),
         List::Turns => turns::launchers::list(),
         List::Journals => turns::journal_lines(),
     }
@@ -67,7 +65,6 @@ const CALLS: &[List] = &[
     List::Edges,
     List::Rounds,
     List::Stores,
-    List::Openings,
     List::Turns,
     List::Journals,
 ];
@@ -77,7 +74,7 @@ enum Task {
     All,
     Calls(&'static [List]),
     Short,
-    Scenes,
+    Runs,
 }
 
 static TASKS: &[(&str, Task)] = &[
@@ -88,12 +85,9 @@ static TASKS: &[(&str, Task)] = &[
     ("edges", Task::Calls(&[List::Edges])),
     ("rounds", Task::Calls(&[List::Rounds])),
     ("stores", Task::Calls(&[List::Stores])),
-    (
-        "turns",
-        Task::Calls(&[List::Openings, List::Turns, List::Journals]),
-    ),
+    ("turns", Task::Calls(&[List::Turns, List::Journals])),
     ("short", Task::Short),
-    ("scenes", Task::Scenes),
+    ("runs", Task::Runs),
 ];
 
 /// What the first word asks for, if it is one of these.
@@ -116,8 +110,8 @@ const WITH_LITTLE: [&str; 2] = ["-c", "ulimit -d 524288 && exec \"$0\" short"];
 
 const PYTHON: &str = "/usr/bin/python3";
 
-/// Plays the scenes of `data/` with a program as each of the three: as their users run them, with real children, files, sockets and clients.
-const SCENES: [&str; 2] = ["edge_scenes.py", "--by"];
+/// Makes the first runs of `data/` with a program as each of the two: as their users run them, with real children, files, sockets and clients.
+const RUNS: [&str; 2] = ["first_runs.py", "--by"];
 
 /// Tries the calls of these lists with ample memory.
 fn try_calls(rt: &HostRuntime, lists: &[List]) -> Result<()> {
@@ -132,11 +126,11 @@ fn do_task(rt: &HostRuntime, task: Task) -> Result<()> {
         Task::All => {
             try_calls(rt, CALLS)?;
             again::run_by(rt, SHELL, WITH_LITTLE)?;
-            again::run_by(rt, PYTHON, SCENES)
+            again::run_by(rt, PYTHON, RUNS)
         }
         Task::Calls(lists) => try_calls(rt, lists),
         Task::Short => little_memory::try_all(rt),
-        Task::Scenes => again::run_by(rt, PYTHON, SCENES),
+        Task::Runs => again::run_by(rt, PYTHON, RUNS),
     }
 }
 
@@ -162,8 +156,9 @@ impl Programs for OneFile {
         jobctl(host, host.alloc(), words)
     }
 
-    fn jobscope<L: Wait>(&self, host: &HostRuntime, waits: &L, words: &[String]) -> u8 {
-        jobscope(host, waits, host.alloc(), words)
+    // It is not tried here.
+    fn jobscope<L: Wait>(&self, _host: &HostRuntime, _waits: &L, _words: &[String]) -> u8 {
+        64
     }
 
     fn look_out(&self, host: &HostRuntime) -> u8 {

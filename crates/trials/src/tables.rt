@@ -13,11 +13,8 @@ pub fn list() -> &'static [Line] {
 /// The cases of this folder: rows over a table with the hundred jobs or with none, and how often they come.
 static LINES: &[Line] = &[
     (
-        "numbers_are_given_back_and_kept",
-        &[
-            Case::Table(false, 101, rows::GIVEN_BACK),
-            Case::Table(false, 1, rows::KEPT),
-        ],
+        "numbers_are_given_back",
+        &[Case::Table(false, 101, rows::GIVEN_BACK)],
     ),
     (
         "children_and_paths_come_in_order",
@@ -27,32 +24,12 @@ static LINES: &[Line] = &[
         ],
     ),
     (
-        "answers_are_told_by_number",
-        &[
-            Case::Table(false, 1, rows::ANSWERS),
-            Case::Table(false, 1, rows::LATE_ANSWERS),
-        ],
-    ),
-    ("an_override_of_no_label_opens_no_table", &[Case::NoLabel]),
-    (
-        "a_shutdown_is_told",
-        &[Case::Table(false, 1, rows::SHUTS_DOWN)],
-    ),
-    (
         "the_jobs_that_are_touched_are_asked",
         &[
             Case::Table(true, 1, rows::MANY),
             Case::Table(true, 1, rows::ALL),
             Case::Table(true, 1, rows::WATCHED),
-            Case::Table(false, 1, rows::FEW),
-            Case::Table(false, 1, rows::SETTINGS),
             Case::Table(false, 1, rows::MINUTES),
-            Case::Table(false, 1, rows::HOUR),
-            Case::Table(false, 1, rows::OF_ONE_JOB),
         ],
-    ),
-    (
-        "the_next_moment_is_told",
-        &[Case::Table(false, 1, rows::MOMENTS)],
     ),
 ];

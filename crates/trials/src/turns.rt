@@ -1,21 +1,9 @@
-//! A launcher over an edge, a store and a journal in memory: its opening, its turns, and what its journal holds.
+//! A launcher over an edge, a store and a journal in memory: its turns, and what its journal holds.
 
 pub mod journals;
 pub mod launchers;
-pub mod openings;
 
 use crate::cases::{Case, Line};
-
-/// The cases of `openings`.
-pub fn opening_lines() -> &'static [Line] {
-    OPENINGS
-}
-
-static OPENINGS: &[Line] = &[
-    ("a_bad_header_opens_none", openings::HEADERS),
-    ("a_store_that_gives_nothing_opens_none", openings::STORES),
-    ("a_store_out_of_order_opens_none", openings::ORDERS),
-];
 
 /// The cases of `journals`.
 pub fn journal_lines() -> &'static [Line] {

@@ -46,45 +46,6 @@ pub const SERVED: &[Step] = &[
     Done(true),
 ];
 
-/// A request that would be too long leaves what was there, and a shorter piece is still taken.
-pub const TOO_LONG: &[Step] = &[
-    Piece("abc", None),
-    Bytes(65_534, Some(ExchangeFault::TooLong)),
-    Asked("abc"),
-    Bytes(65_533, None),
-    AskedBytes(65_536),
-    Piece("d", Some(ExchangeFault::TooLong)),
-    Piece("", None),
-    AskedBytes(65_536),
-    RequestEnd,
-    Piece("", Some(ExchangeFault::Closed)),
-    Bytes(65_536, Some(ExchangeFault::Closed)),
-];
-
-/// A reply waits up to its room, and goes on if some was sent.
-pub const REPLY_WAITS: &[Step] = &[
-    RequestEnd,
-    Asked(""),
-    Reply("ab", 2),
-    ReplyBytes(16_384, 16_382),
-    Reply("c", 0),
-    Sent(16_382),
-    Reply("cd", 2),
-    Left("xxcd"),
-    Done(false),
-];
-
-/// An exchange is done once both ends were told and nothing is left.
-pub const ENDS: &[Step] = &[Done(false), ReplyEnd, Done(false), RequestEnd, Done(true)];
-
-/// With the room of its beginning: the longest request at once, and as much of a reply as may wait.
-pub const ROOM: &[Step] = &[
-    Bytes(65_536, None),
-    Bytes(1, Some(ExchangeFault::TooLong)),
-    ReplyBytes(65_536, 16_384),
-    LeftBytes(16_384),
-];
-
 /// Whether the step goes as it says. The bytes of long pieces are those of the filler.
 fn goes(exchange: &mut Exchange, step: &Step, filler: &[u8]) -> bool {
     match *step {

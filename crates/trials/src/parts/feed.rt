@@ -37,36 +37,6 @@ pub const CUT: &Fed = &Fed {
     ],
 };
 
-/// A line may have as many bytes as the limit says. One byte more refuses its piece, and for good every later one; the lines before it come.
-pub const LONG: &Fed = &Fed {
-    limit: 8,
-    steps: &[
-        Taken(b"12345678"),
-        Taken(b"\n1"),
-        TooLong(b"\ntwo\n123456789\nlast\n"),
-        Next(b"12345678"),
-        Next(b"1"),
-        Next(b"two"),
-        NoLine,
-        TooLong(b"\n"),
-        TooLong(b"more\n"),
-        NoLine,
-    ],
-};
-
-/// So does a front of a line that has no newline yet.
-pub const LONG_FRONT: &Fed = &Fed {
-    limit: 8,
-    steps: &[
-        Taken(b"one\n12345678"),
-        TooLong(b"9"),
-        Next(b"one"),
-        NoLine,
-        TooLong(b"\nmore\n"),
-        NoLine,
-    ],
-};
-
 /// Whether the step goes as it says.
 fn goes(feed: &mut LineFeed, step: &Step) -> bool {
     match *step {

@@ -31,47 +31,6 @@ pub const BY_MOMENTS: &[Step] = &[
     Due(500, None),
 ];
 
-/// A later moment takes the place of an earlier one too, and a job comes once for its moment.
-pub const LATER_AND_ONCE: &[Step] = &[
-    Reserve(5),
-    Set(4, 10),
-    Set(3, 20),
-    Set(4, 30),
-    Least(Some((3, 20))),
-    Due(u64::MAX, Some(3)),
-    Due(u64::MAX, Some(4)),
-    Due(u64::MAX, None),
-];
-
-/// Of equal moments the lesser number comes first, whatever the room is. A growth keeps the moments.
-pub const TIES_AND_GROWTH: &[Step] = &[
-    Reserve(3),
-    Set(2, 7),
-    Set(0, 7),
-    Reserve(50),
-    Reserve(1),
-    Set(41, 6),
-    Least(Some((41, 6))),
-    Clear(41),
-    Clear(4_000_000_000),
-    Due(7, Some(0)),
-    Due(7, Some(2)),
-    Least(None),
-];
-
-/// A heap without room has no moment, and gives none.
-pub const WITHOUT_ROOM: &[Step] = &[Clear(0), Least(None), Due(0, None)];
-
-/// With one growth refused (`rt try --test --fail-alloc N`) the heap is as it was, and the next growth succeeds.
-pub const GROWING: &[Step] = &[
-    Reserve(2),
-    Set(1, 5),
-    Reserve(9),
-    Least(Some((1, 5))),
-    Set(1, 4),
-    Least(Some((1, 4))),
-];
-
 /// Whether the step goes as it says.
 fn goes(alloc: Global, heap: &mut TimerHeap, step: &Step) -> bool {
     match *step {

@@ -2,7 +2,7 @@
 
 use crate::tables::rows::{Event, Row};
 use calendar_due::Zone;
-use history_model::{Ended, JobItem, JobNo, Obs, Reading, Refusal, Setting, Text};
+use history_model::{JobNo, Obs, Reading, Refusal};
 use job_table::{JobTable, Step};
 use std::alloc::Global;
 
@@ -37,14 +37,6 @@ fn told(given: Result<Step<'_>, Refusal>) -> Option<(u32, usize)> {
     }
 }
 
-/// Disables the label, and with `unload` removes its job.
-fn set(alloc: Global, table: &mut JobTable, label: &str, unload: bool) -> Option<(u32, usize)> {
-    let ready = table.prepare_set(alloc, label, true, unload).ok()?;
-    table.commit_set(ready);
-    let given = table.last_step();
-    Some((given.visited, given.orders.len()))
-}
-
 const SEEN: Obs = Obs {
     present: true,
     nonempty_dir: false,
@@ -60,22 +52,8 @@ fn happens(alloc: Global, table: &mut JobTable, event: &Event) -> Option<(u32, u
         }
         Event::Clock(up) => told(table.clock(alloc, at(up))),
         Event::Saw(path) => told(table.saw(path, SEEN)),
-        Event::Start(label) => told(table.start(label)),
         Event::Spawned(label, run) => told(table.spawned(label, run, 812)),
-        Event::Refused(label, run) => told(table.spawn_refused(label, run)),
-        Event::Stop(label) => told(table.stop(label)),
-        Event::Kickstart(label, kills_first) => told(table.kickstart(label, kills_first)),
-        Event::Came(label, conn) => told(table.came(label, conn)),
-        Event::Left(label, conn) => told(table.left(label, conn)),
-        Event::Termed(label, run, ok) => told(table.term_answered(label, run, ok)),
-        Event::Killed(label, run, ok) => told(table.kill_answered(label, run, ok)),
-        Event::Ended0(label, run) => told(table.ended(label, run, Ended::Code(0))),
-        Event::Lost(label, run) => told(table.wait_refused(label, run)),
-        Event::Asked(label, ask) => told(table.hear(label, JobItem::Asked(ask))),
         Event::Unload(label) => told(table.unload(label)),
-        Event::Disable(label) => set(alloc, table, label, false),
-        Event::Remove(label) => set(alloc, table, label, true),
-        Event::Shutdown => told(table.shutdown()),
     }
 }
 
@@ -110,25 +88,10 @@ fn number_at(numbers: &Numbers, place: usize) -> Option<JobNo> {
 fn goes(alloc: Global, table: &mut JobTable, numbers: &mut Numbers, row: &Row) -> bool {
     match *row {
         Row::Asks(ref event, wanted) => happens(alloc, table, event) == wanted,
-        Row::Then(ref event, moment, calendar) => {
-            let is_taken = happens(alloc, table, event).is_some();
-            let is_moment = table.next_up() == moment;
-            is_taken && is_moment && table.has_calendars() == calendar
-        }
         Row::Numbered(definition, place) => {
             let job = load(alloc, table, definition);
             is_numbered(numbers, place, job)
         }
-        Row::Orders(up, place, label, act) => match table.clock(alloc, at(up)) {
-            Ok(step) => match step.orders {
-                [order, ..] => {
-                    let is_its = Some(order.job) == number_at(numbers, place) && order.act == act;
-                    is_its && step.label(order.job) == label
-                }
-                _ => false,
-            },
-            Err(_) => false,
-        },
         Row::Child(behind, wanted) => match (table.child_after(behind), wanted) {
             (Some((label, job, run)), Some((its, place, of))) => {
                 label == its && Some(job) == number_at(numbers, place) && run == of
@@ -137,11 +100,6 @@ fn goes(alloc: Global, table: &mut JobTable, numbers: &mut Numbers, row: &Row) -
             _ => false,
         },
         Row::Path(behind, wanted) => table.path_after(behind) == wanted,
-        Row::Answered(place, answer, wanted) => match number_at(numbers, place) {
-            Some(number) => table.answered(number, answer).err() == wanted,
-            None => false,
-        },
-        Row::ShutsDown(is_so) => table.is_shutting_down() == is_so,
         Row::Empty => table.is_empty(),
     }
 }
@@ -186,23 +144,4 @@ pub fn all_happen(alloc: Global, is_full: bool, times: u32, rows: &[Row]) -> Opt
     }
     drop(table);
     Some(are_so)
-}
-
-/// Whether an override of an empty label is refused.
-pub fn is_refused(alloc: Global) -> Option<bool> {
-    let setting = Setting {
-        label: Text::copy_of(alloc, "").ok()?,
-        disabled: true,
-    };
-    let overrides = vec![in alloc; setting].ok()?;
-    match Zone::fixed(0) {
-        Ok(zone) => {
-            let made = JobTable::new(alloc, at(0), zone, overrides);
-            Some(made.err() == Some(Refusal::BadRequest))
-        }
-        Err(_) => {
-            drop(overrides);
-            None
-        }
-    }
 }

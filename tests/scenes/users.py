@@ -1,7 +1,7 @@
 """Scenes of what users do with the launcher: lists of steps, each with what is to come of it, as the launcher, its clients and its jobs
 say it.
 
-`edge_scenes.py` plays them beside its own, and has what they share. `@` in a text is the scene's folder, and `#` an address of this machine
+`play.py` plays them; `harness.py` has what all scenes share. `@` in a text is the scene's folder, and `#` an address of this machine
 that no other run of the scenes has.
 """
 import json
@@ -10,8 +10,8 @@ import socket
 import subprocess
 import time
 
-from edge_scenes import BOUND, call, check, connect, end_process, read_all, read_line, text_at, wait_for
-from job_scenes import call_port, node_of
+from harness import BOUND, call, check, connect, end_process, patience, read_all, read_line, text_at, wait_for
+from jobs import call_port, node_of
 
 ONCE = (
     '{"Label":"once","ProgramArguments":["/bin/sh","-c","echo $WORD; pwd"],"RunAtLoad":true,"EnvironmentVariables":{"WORD":"ran"},'
@@ -154,7 +154,7 @@ class User:
     def jobctl(self, words):
         """Runs `jobctl`, and keeps what it was answered: its status, and its text, which is on standard error at a refusal."""
         command = [*self.stage.given.jobctl, "--socket", "socket", *words.split()]
-        ran = subprocess.run(command, cwd=self.stage.folder, stdin=subprocess.DEVNULL, capture_output=True, timeout=3 * BOUND, text=True)
+        ran = subprocess.run(command, cwd=self.stage.folder, stdin=subprocess.DEVNULL, capture_output=True, timeout=patience(3 * BOUND), text=True)
         self.replies.append((ran.returncode, ran.stdout or ran.stderr))
         return ran
 

@@ -5,7 +5,7 @@ A case begins with a line `=== NAME`; its parts follow, each behind a line of it
 `NAME=VALUE` a line; `--- input`, what is read from standard input; `--- output` and `--- error`, what is wanted on the two streams;
 `--- status`, the wanted exit status. A part that is absent is empty, and the status then 0.
 
-`edge_scenes.py` plays them beside its own, and has what they share.
+`play.py` plays them; `harness.py` has what all scenes share.
 """
 import fcntl
 import json
@@ -16,7 +16,7 @@ import socket
 import subprocess
 import tempfile
 
-from edge_scenes import BOUND, HERE, check, make, text_at, wait_for
+from harness import BOUND, HERE, Late, check, make, patience, text_at, wait_for
 from pictures import faults_of
 
 # A case may look through years minute by minute.
@@ -52,16 +52,14 @@ def came(stage, folder, case):
     around.update(line.split("=", 1) for line in case.lines("environment"))
     command = [*stage.given.jobscope, *case.lines("words")]
     try:
-        ran = subprocess.run(command, cwd=folder, env=around, input=case.part("input").encode(), capture_output=True, timeout=LONGEST)
+        ran = subprocess.run(command, cwd=folder, env=around, input=case.part("input").encode(), capture_output=True, timeout=patience(LONGEST))
     except subprocess.TimeoutExpired:
-        return f"no end in {LONGEST:.0f} s"
+        raise Late(f"{case.name}: no end in time") from None
     return ran.returncode, ran.stdout, ran.stderr
 
 
 def told(case, got):
     """The line for a case that did not come out as wanted: what differs, and what came."""
-    if isinstance(got, str):
-        return f"{case.name}: {got}"
     names = ("status", "output", "error")
     parts = [f"{name} {seen!r} for {wanted!r}" for name, seen, wanted in zip(names, got, case.wanted()) if seen != wanted]
     return f"{case.name}: {', '.join(parts)}"
@@ -81,11 +79,19 @@ def play(stage, folder, text):
     check(not others, f"{len(others)} of {len(cases)} are not as wanted:\n" + "\n".join(told(*other) for other in others))
 
 
+def the_first_journal_is_told(stage):
+    """`jobscope log` says of the journal of `make run` what `make run` shows."""
+    examples = os.path.join(HERE, "..", "..", "examples")
+    ran = subprocess.run([*stage.given.jobscope, "log", "--journal", f"{examples}/first.jsonl"], capture_output=True, timeout=patience(), text=True)
+    got, wanted = (ran.returncode, ran.stdout, ran.stderr), (0, text_at(f"{examples}/first.log"), "")
+    check(got == wanted, f"it says {got}, and {wanted} is kept")
+
+
 def jobscope_check(stage):
     """`jobscope check` over definitions, folders of them, and files that are none."""
     script = os.path.join(HERE, "scope", "check", "lost.sh")
     if not os.access(script, os.X_OK):
-        # `rt ci trials` plays in a copy that has lost the mode
+        # (a copy may have lost the mode)
         os.chmod(script, 0o755)
     play_cases(stage, "check")
 
@@ -102,7 +108,7 @@ FRONT = re.compile(r"^-(:\d+:\d+)?( \(\S*\))?: ")
 def checked(stage, text, folder):
     """What `check -` says of the text, without the places."""
     command = [*stage.given.jobscope, "check", *IN_2026, "-"]
-    ran = subprocess.run(command, cwd=folder, input=text.encode(), capture_output=True, timeout=LONGEST)
+    ran = subprocess.run(command, cwd=folder, input=text.encode(), capture_output=True, timeout=patience(LONGEST))
     return [FRONT.sub("", line) for line in ran.stdout.decode().splitlines()]
 
 
@@ -167,13 +173,13 @@ def a_line_too_long(stage):
     """`why`, `runs` and `picture` tell what stands before a line that is too long, and that it is."""
     lines = [HEADER, load_of("web"), '{"ev":"start","job":"web"}\n', " " * 262145 + "\n", '{"ev":"spawned","job":"web","run":1,"pid":5}\n']
     path = make(stage.at("long"), "".join(lines))
-    ran = subprocess.run([*stage.given.jobscope, "why", "--journal", path], capture_output=True, timeout=BOUND, text=True)
+    ran = subprocess.run([*stage.given.jobscope, "why", "--journal", path], capture_output=True, timeout=patience(), text=True)
     told = f"jobscope: {path}: line 4: longer than 262144 bytes; told is what stands before it\n"
     awaited = "The start of run 1 was ordered, and the answer is awaited."
     check((ran.returncode, ran.stderr) == (65, told), f"a line too long got {ran.returncode} {ran.stderr!r}")
     check(awaited in ran.stdout, f"before a line too long stood {ran.stdout!r}")
     for word, wanted in (("runs", "\nweb\t1\t0\t"), ("picture", ">web<title>web</title></text>")):
-        it = subprocess.run([*stage.given.jobscope, word, "--journal", path], capture_output=True, timeout=BOUND, text=True)
+        it = subprocess.run([*stage.given.jobscope, word, "--journal", path], capture_output=True, timeout=patience(), text=True)
         check((it.returncode, it.stderr) == (65, told), f"{word}: a line too long got {it.returncode} {it.stderr!r}")
         check(wanted in it.stdout, f"{word}: before a line too long stood {it.stdout!r}")
 
@@ -207,7 +213,7 @@ def load_of(label):
 def ran(stage, words, given=b""):
     """What the program ends with and writes, with no home folder in its environment."""
     around = {key: value for key, value in os.environ.items() if key != "HOME"}
-    it = subprocess.run([*stage.given.jobscope, *words], env=around, input=given, capture_output=True, timeout=LONGEST)
+    it = subprocess.run([*stage.given.jobscope, *words], env=around, input=given, capture_output=True, timeout=patience(LONGEST))
     return it.returncode, it.stdout.decode(), it.stderr.decode()
 
 
@@ -347,7 +353,7 @@ def a_long_journal(stage):
         for run in range(1, count + 1):
             journal.write('{"ev":"start","job":"r"}\n' + f'{{"ev":"spawned","job":"r","run":{run},"pid":5}}\n')
             journal.write(f'{{"ev":"clock","up":{1000 * run},"wall":{wall + run}}}\n' + f'{{"ev":"ended","job":"r","run":{run},"code":0}}\n')
-    it = subprocess.run([*stage.given.jobscope, "picture", "--journal", path], capture_output=True, timeout=LONGEST, text=True)
+    it = subprocess.run([*stage.given.jobscope, "picture", "--journal", path], capture_output=True, timeout=patience(LONGEST), text=True)
     os.remove(path)
     check((it.returncode, it.stderr) == (0, ""), f"a long journal: {it.returncode} {it.stderr!r}")
     drawn = [int(runs) for runs in re.findall('data-runs="([0-9]+)"', it.stdout)]
@@ -503,7 +509,7 @@ def log_of(stage, zone, wall):
     """What `jobscope log` says of a journal that has a header alone."""
     make(stage.at("journal"), json.dumps({"up": 0, "wall": wall, **zone}) + "\n")
     words = [*stage.given.jobscope, "log", "--journal", stage.at("journal")]
-    return subprocess.run(words, capture_output=True, timeout=BOUND, text=True)
+    return subprocess.run(words, capture_output=True, timeout=patience(), text=True)
 
 
 def times_as_the_c_library_shows_them(stage):
@@ -527,6 +533,7 @@ def zones_that_are_none(stage):
 
 
 SCENES = [
+    the_first_journal_is_told,
     jobscope_check,
     jobscope_cron,
     jobscope_cron_files,

@@ -1,6 +1,6 @@
 """Scenes of the launcher's own file on how it stands (`JOBD_STATUS_FILE`): what it holds, that it is always whole, and where it is refused.
 
-`edge_scenes.py` plays them beside its own, and has what they share.
+`play.py` plays them; `harness.py` has what all scenes share.
 """
 import json
 import os
@@ -8,7 +8,7 @@ import stat
 import subprocess
 import time
 
-from edge_scenes import BOUND, check, end_process, make, shell_job, text_at, wait_for
+from harness import BOUND, check, end_process, make, patience, shell_job, text_at, wait_for
 
 MISSING = "cannot start /nonexistent/prog: No such file or directory (os error 2)"
 
@@ -208,7 +208,7 @@ NEXT_HEAD = f"# HELP {NEXT} When the job starts next by the clocks alone.\n# TYP
 def samples(stage, path, now):
     """What `jobscope metrics` writes, as of this second."""
     command = [*stage.given.jobscope, "metrics", "--status-file", path, "--now", str(now)]
-    ran = subprocess.run(command, capture_output=True, timeout=BOUND)
+    ran = subprocess.run(command, capture_output=True, timeout=patience())
     check(ran.returncode == 0 and not ran.stderr, f"metrics ends with {ran.returncode}: {ran.stderr!r}")
     return ran.stdout.decode()
 
@@ -272,7 +272,7 @@ def asked(stage, path, *words):
     """What `jobscope` writes by the file, and its status."""
     around = {key: value for key, value in os.environ.items() if key not in ("JOBD_JOURNAL", "COLUMNS")}
     command = [*stage.given.jobscope, *words]
-    ran = subprocess.run(command, env={**around, "JOBD_STATUS_FILE": path, "COLUMNS": "200"}, capture_output=True, text=True, timeout=BOUND)
+    ran = subprocess.run(command, env={**around, "JOBD_STATUS_FILE": path, "COLUMNS": "200"}, capture_output=True, text=True, timeout=patience())
     return ran.returncode, ran.stdout, ran.stderr
 
 

@@ -1,6 +1,6 @@
 """Scenes of what jobs, their sockets and their paths are given by a real `jobd serve`, and of the control socket and its files.
 
-`edge_scenes.py` plays them beside its own, and has what they share.
+`play.py` plays them; `harness.py` has what all scenes share.
 """
 import json
 import os
@@ -11,8 +11,8 @@ import socket
 import stat
 import time
 
-from edge_scenes import (
-    BOUND, begin, bytes_at, call, check, connect, descriptors, end_process, gated_job, kept_shells, make, read_all, requests_in,
+from harness import (
+    BOUND, begin, bytes_at, call, check, connect, descriptors, end_process, gated_job, kept_shells, make, patience, read_all, requests_in,
     shell_job, socket_job, text_at, wait_for,
 )
 
@@ -109,7 +109,7 @@ def free_port(node):
 
 
 def call_port(node, port, text=b""):
-    with socket.create_connection((node, port), BOUND) as client:
+    with socket.create_connection((node, port), patience()) as client:
         client.sendall(text)
         client.shutdown(socket.SHUT_WR)
         return read_all(client)
@@ -400,7 +400,7 @@ def places_of_sockets(stage):
     other = listening(path)
     launcher.load(job, 11)
     check(os.path.exists(path), "somebody's socket was removed")
-    other.settimeout(BOUND)
+    other.settimeout(patience())
     other.close()
     launcher.load(job)
     check(call(path, b"hello") == b"hello", "a socket that nobody listened at is not replaced")

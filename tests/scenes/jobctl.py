@@ -1,6 +1,6 @@
 """Scenes of `jobctl` beside a launcher whose replies are there before they are asked for: what it asks, prints and tells, and its status.
 
-`edge_scenes.py` plays them beside its own, and has what they share.
+`play.py` plays them; `harness.py` has what all scenes share.
 """
 import json
 import os
@@ -9,9 +9,8 @@ import select
 import signal
 import socket
 import subprocess
-import time
 
-from edge_scenes import BOUND, Fault, bytes_at, check, make, text_at
+from harness import BOUND, Deadline, Late, bytes_at, check, make, patience, text_at
 
 # The files of a scene, each with what it holds.
 FILES = {
@@ -83,14 +82,14 @@ def serve(client, behaves, replies):
 def beside(listener, process, behaves, replies):
     """What the process asks until its end, in one connection."""
     asked, clients, open_ones = b"", [], [listener] if listener else []
-    end = time.monotonic() + BOUND
+    deadline = Deadline(BOUND)
     while True:
         has_ended = process.poll() is not None
         ready, _, _ = select.select(open_ones, [], [], 0 if has_ended else 0.01)
         for one in ready:
             if one is listener:
                 clients.append(listener.accept()[0])
-                clients[-1].settimeout(BOUND)
+                clients[-1].settimeout(patience())
                 serve(clients[-1], behaves, replies)
                 open_ones += clients[-1:] if behaves != HAS_NO_ROOM else []
                 continue
@@ -103,9 +102,9 @@ def beside(listener, process, behaves, replies):
                 open_ones.remove(one)
         if has_ended and not ready:
             break
-        if time.monotonic() > end:
+        if deadline.is_over():
             process.kill()
-            raise Fault(f"{process.args[1:]} does not end in {BOUND:.0f} s")
+            raise Late(f"{process.args[1:]} does not end in {BOUND:.0f} s")
     for client in clients:
         client.close()
     check(len(clients) <= 1, f"{process.args[1:]} made {len(clients)} connections")

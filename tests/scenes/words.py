@@ -1,7 +1,7 @@
 """Scenes of words: what an administrator's words mean to `jobctl` and to `jobd`. The meanings were written by hand from launchctl(1) and
 the programs' own help.
 
-`edge_scenes.py` plays them beside its own, and has what they share.
+`play.py` plays them; `harness.py` has what all scenes share.
 """
 import json
 import os
@@ -9,8 +9,8 @@ import shutil
 import stat
 import subprocess
 
-from client_scenes import DONE, IS_MISSING, expect, run
-from edge_scenes import BOUND, Launcher, check, make, text_at
+from jobctl import DONE, IS_MISSING, expect, run
+from harness import Launcher, check, make, patience, text_at
 
 # A line, the socket and the command that it means: flags as true or false, then labels or paths. Behind `beside` the default socket
 # is `@/run_s`, from the environment. `@` is the scene's folder.
@@ -237,7 +237,7 @@ def words_that_are_no_command_of_jobctl(stage):
 
 def run_in(stage, folder, words):
     return subprocess.run(
-        [*stage.given.jobd, *words], cwd=folder, stdin=subprocess.DEVNULL, capture_output=True, timeout=BOUND, text=True
+        [*stage.given.jobd, *words], cwd=folder, stdin=subprocess.DEVNULL, capture_output=True, timeout=patience(), text=True
     )
 
 
@@ -328,7 +328,7 @@ def ran_as(stage, name, words):
     """What the file ends with and writes that is started by these words, its name first."""
     program = os.path.realpath(stage.given.jobd[-1])
     ran = subprocess.run(
-        [name, *words], executable=program, cwd=stage.folder, stdin=subprocess.DEVNULL, capture_output=True, timeout=BOUND
+        [name, *words], executable=program, cwd=stage.folder, stdin=subprocess.DEVNULL, capture_output=True, timeout=patience()
     )
     return ran.returncode, ran.stdout, ran.stderr
 
@@ -349,7 +349,7 @@ def one_file_under_three_names(stage):
     shutil.copy(program, stage.at("jobctl"))
     shutil.copy(program, stage.at("copy"))
     for name, word in (("jobscope", "cron"), ("jobctl", "unload"), ("copy", "overrides")):
-        ran = subprocess.run([stage.at(name), word, "--help"], stdin=subprocess.DEVNULL, capture_output=True, timeout=BOUND, text=True)
+        ran = subprocess.run([stage.at(name), word, "--help"], stdin=subprocess.DEVNULL, capture_output=True, timeout=patience(), text=True)
         got = (ran.returncode, f"Usage: {name} {word} " in ran.stdout, ran.stderr)
         check(got == (0, True, ""), f"{name} gives {got} for the help of {word}: {ran.stdout!r}")
 

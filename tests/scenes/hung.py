@@ -1,14 +1,13 @@
 """Scenes of a launcher whose look-outs get no answer: what they look at and what they open hangs, and the one loop goes on.
 
-`edge_scenes.py` plays them beside its own, and has what they share.
+`play.py` plays them; `harness.py` has what all scenes share.
 """
 import os
 import signal
 import threading
 import time
 
-from edge_scenes import BOUND, Fault, check, comes, look_outs, make, shell_job, text_at, wait_for
-
+from harness import BOUND, Honest, check, in_time, look_outs, make, shell_job, text_at, wait_for
 
 
 class Withheld:
@@ -39,31 +38,6 @@ class Withheld:
         self.is_over = True
         self.thread.join()
         self.tell_all(signal.SIGCONT)
-
-
-class Honest:
-    """Asks for a list again and again, and keeps how long each took. A start waits half a second for its log at most, all starts a second, and
-    meanwhile a list waits too: each log of a disk is asked about by itself."""
-
-    def __init__(self, launcher):
-        self.launcher, self.times, self.is_over = launcher, [], False
-        self.thread = threading.Thread(target=self.go, daemon=True)
-        self.thread.start()
-
-    def go(self):
-        while not self.is_over:
-            begun = time.monotonic()
-            try:
-                self.launcher.ask({"req": "list"})
-                self.times.append(time.monotonic() - begun)
-            except (Fault, OSError):
-                self.times.append(BOUND)
-            time.sleep(0.005)
-
-    def end(self):
-        self.is_over = True
-        self.thread.join()
-        return sorted(self.times)
 
 
 def paths_and_logs_without_an_answer(stage):
@@ -101,11 +75,12 @@ def paths_and_logs_without_an_answer(stage):
         times = honest.end()
     for line in launcher.lines("log0: run 1: ") + launcher.lines("cannot look at "):
         check(line.endswith("no answer"), f"of what got no answer it tells {line!r}")
-    check(times[-1] < BOUND / 2, f"a list took {times[-1]:.2f} s")
+    # A start waits half a second for its log at most, all starts a second, and meanwhile a list waits too: each log of a disk is asked about by itself.
+    in_time(times[-1] < BOUND / 2, f"a list took {times[-1]:.2f} s")
     wait_for(lambda: text_at(stage.at("seen")), "the path's change is not seen once there are answers", 2 * BOUND)
     for at in range(20):
         log = stage.at(f"log{at}")
-        check(comes(lambda: text_at(log) == f"{at}\n", 3 * BOUND), f"{log} has {text_at(log)!r}")
+        wait_for(lambda: text_at(log) == f"{at}\n", lambda: f"{log} has {text_at(log)!r}", 3 * BOUND)
     launcher.shut_down()
 
 
