@@ -49,10 +49,12 @@ gzip -n -9 "$doc/changelog" "$root"/usr/share/man/man*/*
 
 size=$(find "$root/usr" "$root/etc" "$root/lib" -type f -printf '%s\n' | awk '{ sum += int(($1 + 1023) / 1024) } END { print sum }')
 sed "s/@VERSION@/$version/; s/@DEPENDS@/$depends/; s/@SIZE@/$size/" "$debian/control" >"$root/DEBIAN/control"
-install -m 755 "$debian/preinst" "$debian/prerm" "$debian/postrm" "$root/DEBIAN"
-# What is mended stands in postinst, which tells it to a launcher that goes on without it.
-sed -e "s/@VERSION@/$version/" -e "/@MENDED@/r $debian/mended" -e '/@MENDED@/d' "$debian/postinst" >"$root/DEBIAN/postinst"
-chmod 755 "$root/DEBIAN/postinst"
+# How launchers are known stands in each script that asks for them; what is mended in postinst, which tells it to a launcher that goes on without it.
+for script in preinst prerm postinst postrm; do
+    sed -e "s/@VERSION@/$version/" -e "/@LAUNCHERS@/r $debian/launchers" -e '/@LAUNCHERS@/d' -e "/@MENDED@/r $debian/mended" -e '/@MENDED@/d' \
+        "$debian/$script" >"$root/DEBIAN/$script"
+    chmod 755 "$root/DEBIAN/$script"
+done
 install -m 644 "$debian/needrestart.conf" "$root/etc/needrestart/conf.d/jobd.conf"
 (cd "$root" && find etc -type f | sed 's|^|/|' | sort >DEBIAN/conffiles)
 (cd "$root" && find usr lib etc -type f | sort | xargs md5sum >DEBIAN/md5sums)

@@ -137,6 +137,27 @@ wants 0 '' --all --prune jobs
 says 'unload c, which no file of jobs has any more' "leave $label, which no file of jobs has"
 [ -z "$(pid_of c)" ] && [ -n "$(pid_of "$label")" ] || fail "--prune: $(jobctl list)"
 
+# A file, a folder and a label that begin with `-`.
+define -f.json -x 'exec sleep 1000'
+for _ in 1 2; do
+    wants 0 '' -- -f.json
+    second=$(pid_of -x)
+    [ -n "$second" ] && [ "$second" != "$first" ] || fail "-f.json was not replaced: $(cat out err; jobctl list)"
+    first=$second
+done
+mkdir ./-jobs
+define ./-jobs/-d.json -d 'exec sleep 4000'
+wants 0 '' --all -- -jobs
+says 'load -d: -jobs/-d.json'
+define ./-jobs/-d.json -d 'exec sleep 2000'
+wants 0 '' --all -- -jobs
+says 'replace -d (ProgramArguments): -jobs/-d.json'
+grep -qx -- -d ./-jobs/.jobctl-reload || fail "what the folder had is not noted: $(cat ./-jobs/.jobctl-reload)"
+rm ./-jobs/-d.json
+wants 0 '' --all --prune -- -jobs
+says 'unload -d, which no file of -jobs has any more'
+jobctl unload -- -f.json
+
 # A journal of another launcher, and none.
 echo '{"up":0,"wall":1700000000,"zone":"UTC0"}' >other.jsonl
 wants 65 'it does not name the jobs that the launcher lists' --all --journal other.jsonl jobs

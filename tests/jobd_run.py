@@ -460,6 +460,116 @@ def others_are_spared(place):
             other.wait()
 
 
+class Hung:
+    """A file system of this script's own in the place's folder, which once hung reads and does not answer: look-outs at it stay in state D."""
+
+    def __init__(self, place):
+        sys.path.insert(0, f"{HERE}/tests")
+        import hung_file_system
+
+        class Stage:
+            def at(self, name):
+                return f"{place.folder}/{name}"
+
+        self.system = hung_file_system.FileSystem(Stage(), "hung")
+
+    def path(self, name):
+        return self.system.path(name)
+
+    def hang(self):
+        open(self.system.mute, "w").close()
+        time.sleep(0.1)
+
+    def end(self):
+        self.system.end()
+
+
+def look_outs_in_d(place):
+    found = []
+    for path in glob.glob("/proc/[0-9]*/stat"):
+        try:
+            row = open(path).read()
+            words = open(path.replace("/stat", "/cmdline"), "rb").read()
+            environment = open(path.replace("/stat", "/environ"), "rb").read()
+        except OSError:
+            continue
+        if words == b"jobd-look-out\0" and row.rpartition(")")[2].split()[0] == "D" and f"JOBD_STATUS_FILE={place.state}".encode() in environment:
+            found.append(int(path.split("/")[2]))
+    return found
+
+
+def beside_a_hung_look_out(place, stop):
+    if os.getuid() != 0 or not os.path.exists("/dev/fuse"):
+        print("jobd_run: no root or no FUSE, so no file system hung")
+        return
+    hung = Hung(place)
+    try:
+        place.define("a")
+        place.define("b", KeepAlive=False, WatchPaths=[hung.path("p")])
+        keeper = place.start()
+        child = place.running("a")
+        wait_for(lambda: "jobs loaded" in place.told(), "that all are loaded")
+        # It is watched before it hangs.
+        time.sleep(1.5)
+        hung.hang()
+        looks = wait_for(lambda: look_outs_in_d(place), "a look-out that hangs")
+        stop(keeper)
+        keeper.wait(MOST)
+        begin = time.time()
+        place.start()
+        second = place.running("a")
+        spent = time.time() - begin
+        check(second != child and gone(child), "the job was not ended")
+        for pid in looks:
+            check(not gone(pid), "the look-out ended, so this tries nothing")
+            place.check_told(f"left by a launcher that ended: {pid} (exe) is a look-out, and KILL does not end it")
+        check("can't be ended" not in place.told(), place.told())
+        print(f"jobd_run: beside {len(looks)} look-outs in state D the job runs after {spent:.1f} s")
+        check(spent < 10, f"{spent} s until the job ran again")
+        place.check_once()
+    finally:
+        hung.end()
+
+
+@scene
+def hung_look_out_of_a_killed_launcher(place):
+    def both(keeper):
+        keeper.kill()
+        os.kill(place.launchers()[0], signal.SIGKILL)
+
+    beside_a_hung_look_out(place, both)
+
+
+@scene
+def hung_look_out_at_a_stop(place):
+    """The one that is stopped goes on to its end too, with the launcher's status."""
+    def stop(keeper):
+        keeper.terminate()
+        begin = time.time()
+        check(keeper.wait(MOST) == 0, f"status {keeper.returncode}: {place.told()}")
+        check(time.time() - begin < 15, f"it took {time.time() - begin} s to stop")
+
+    beside_a_hung_look_out(place, stop)
+
+
+@scene
+def job_that_bears_a_look_outs_name_is_a_job(place):
+    """By its name alone nothing is a look-out: it gets TERM, and its time."""
+    place.define("a", f"trap 'echo TERM >>{place.folder}/ends; exit' TERM; : >{place.folder}/minds; while :; do sleep 0.1; done")
+    text = json.load(open(f"{place.jobs}/a.json"))
+    text["ProgramArguments"] = ["/bin/bash", "-c", f"exec -a jobd-look-out /bin/sh -c {chr(39)}. {place.folder}/body{chr(39)}"]
+    with open(f"{place.folder}/body", "w") as it:
+        it.write(f"trap 'echo TERM >>{place.folder}/ends; exit' TERM; : >{place.folder}/minds; while :; do sleep 0.1; done\n")
+    with open(f"{place.jobs}/a.json", "w") as it:
+        json.dump(text, it)
+    keeper = place.start()
+    place.running("a")
+    wait_for(lambda: os.path.exists(f"{place.folder}/minds"), "the job minds its signal")
+    os.kill(place.launchers()[0], signal.SIGKILL)
+    keeper.wait(MOST)
+    check(open(f"{place.folder}/ends").read() == "TERM\n", f"it got no TERM: {place.told()}")
+
+
 @scene
 def second_keeper(place):
     """A second jobd-run over the same folders is refused, and ends nothing."""

@@ -86,6 +86,33 @@ mkdir empty
 "$script" empty out 2>faults
 grep -qF 'no definition' faults || fail "an empty folder is not told"
 
+# One file that can't be brought over ends nothing: those behind it are, no file is left half made, and it is named.
+mkdir hard
+mkfifo hard/a.json
+ln -s /proc/kmsg hard/b.json
+ln -s nowhere hard/c.plist
+printf '{"Label": "d", "Program": "/bin/\\ud800"}' >hard/d.json
+python3 -c 'print("{\"Label\": \"e\", \"x\": " + "[" * 100000 + "]" * 100000 + "}")' >hard/e.json
+printf '{"Label": "f", "x": NaN}' >hard/f.json
+python3 - <<'PYTHON'
+import plistlib
+
+with open("hard/g.plist", "wb") as it:
+    plistlib.dump({"Label": "g", "x": plistlib.UID(3)}, it, fmt=plistlib.FMT_BINARY)
+open(b"hard/h\xff.json", "w").write("[]")
+open(b"hard/i\xff.json", "w").write('{"Label": "i", "Program": "/bin/true"}')
+PYTHON
+printf '{"Label": "j", "UserName": "nobody\\u0000", "Program": "/bin/true"}' >hard/j.json
+printf '{"Label": 5, "UserName": ["nobody"], "EnvironmentVariables": 7, "Program": "/bin/true"}' >hard/k.json
+echo '{"Label": "z", "Program": "/bin/true"}' >hard/z.json
+if timeout 20 "$script" hard soft >told 2>faults; then fail "faults, and the status is 0"; fi
+[ "$(find soft -type f | wc -l)" = 2 ] && [ -s soft/z.json ] || fail "other files: $(find soft -type f -exec ls -l {} +) $(cat faults)"
+for name in a.json b.json c.plist d.json e.json f.json g.plist j.json k.json; do
+    grep -qF "jobd-split-users: hard/$name: " faults || fail "hard/$name is not named: $(cat faults)"
+done
+[ "$(wc -l <faults)" = 10 ] || fail "other faults: $(cat faults)"
+if grep -q Traceback faults; then fail "it ended by itself: $(cat faults)"; fi
+
 # One launcher for all, in another folder and in the same one.
 if "$script" --in-place in one >told 2>faults; then fail "faults, and the status is 0"; fi
 diff -r in before || fail "the folder is not as it was"
