@@ -31,10 +31,10 @@ def words_of(arguments, shown):
 
 
 def user_of(name):
-    """The user's home and the name of its group, or nothing if this machine has no such user."""
+    """The user's home, the name of its group and its shell, or nothing if this machine has no such user."""
     try:
         entry = pwd.getpwuid(int(name)) if name.isdigit() else pwd.getpwnam(name)
-        return entry.pw_dir, grp.getgrgid(entry.pw_gid).gr_name
+        return entry.pw_dir, grp.getgrgid(entry.pw_gid).gr_name, entry.pw_shell or "/bin/sh"
     except KeyError:
         return None
 
