@@ -9,12 +9,19 @@ server of this script's own, mounted in the folder, that is stopped (SIGSTOP, it
     watched_paths      WatchPaths, QueueDirectories and PathState on it, 64 of each: each is told once, and `list` is answered meanwhile
     streams            20 jobs with their logs on it, inputs too
     a_program          Program on it
+    an_interpreter     a script whose interpreter is on it, and one whose interpreter is such a script
+    a_loader           an ELF file whose loader is on it
+    a_search           PATH with a file that may not be run, and then a folder on it
+    root_and_cwd       logs on it by /proc/self/root and /proc/self/cwd
     a_folder           WorkingDirectory on it
     a_socket           SockPathName on it
     unanswered         the same of paths and logs, with a server that reads and does not answer (look-outs stay in state D)
     exchanges          another user exchanges log and FIFO without end (renameat2)
     leases             another user holds a write lease on a log
     a_terminal         standard error is a terminal that nobody reads
+    links              300 logs and 60 watched paths over a link to it, with a server that does not answer, beside 20 jobs that are well; then it answers
+    leases_and_a_disk  eight logs under a write lease of another user: no other log of the disk is refused
+    no_process         no process can be had for a look-out: looks and starts are refused with the system's reason, and the launcher goes on
     figures            the 99th of 100 parts of 1,000 `list` with 64 hung paths and 20 hung logs; the time of a start; memory of an idle launcher
 
 Each prints `ok NAME` or `FAILED NAME: why`; the last line counts, and the status is 1 if one failed.
@@ -249,6 +256,196 @@ def a_program(stage):
     one_part(stage, "no answer", ProgramArguments=lambda hung: [hung.path("prog")])
 
 
+def script_at(stage, name, interpreter):
+    path = stage.at(name)
+    with open(path, "w", encoding="utf-8") as out:
+        out.write(f"#!{interpreter} -x\nexit 0\n")
+    os.chmod(path, 0o755)
+    return path
+
+
+def an_interpreter(stage):
+    one_part(stage, "no answer", ProgramArguments=lambda hung: [script_at(stage, "second", script_at(stage, "first", hung.path("sh")))])
+
+
+def elf_with_loader(path, loader):
+    """The least of an ELF file that names a loader."""
+    name = loader.encode() + b"\0"
+    head = b"\x7fELF\x02\x01\x01" + b"\0" * 9 + struct.pack("<HHIQQQIHHHHHH", 2, 62, 1, 0x400078, 64, 0, 0, 64, 56, 1, 0, 0, 0)
+    part = struct.pack("<IIQQQQQQ", 3, 4, 120, 0, 0, len(name), len(name), 1)
+    with open(path, "wb") as out:
+        out.write(head + part + name)
+    os.chmod(path, 0o755)
+    return path
+
+
+def a_loader(stage):
+    hung = FileSystem(stage, "hung")
+    try:
+        launcher = stage.serve()
+        launcher.load({"Label": "job", "ProgramArguments": [elf_with_loader(stage.at("elf"), hung.path("ld"))], "ThrottleInterval": 0})
+        hung.stop()
+        honest = Honest(launcher)
+        launcher.ask({"req": "start", "job": "job"}, 20)
+        told(launcher, "no answer")
+        goes_on(launcher, stage, "good")
+        is_prompt(honest)
+        hung.go_on()
+        launcher.shut_down(30)
+    finally:
+        hung.end()
+
+
+def a_search(stage):
+    os.mkdir(stage.at("first"))
+    with open(stage.at("first/prog"), "w", encoding="utf-8") as out:
+        out.write("no program\n")
+    one_part(
+        stage, "no answer", ProgramArguments=["prog"], EnvironmentVariables=lambda hung: {"PATH": f"{stage.at('first')}:{hung.at}:/bin"}
+    )
+
+
+def root_and_cwd(stage):
+    hung = FileSystem(stage, "hung")
+    try:
+        launcher = stage.serve()
+        for label, path in (("root", f"/proc/self/root{hung.path('log')}"), ("cwd", "/proc/self/cwd/hung/log")):
+            launcher.load(shell_job(label, "echo x", StandardOutPath=path, ThrottleInterval=0))
+        hung.stop()
+        honest = Honest(launcher)
+        for label in ("root", "cwd"):
+            launcher.ask({"req": "start", "job": label}, 20)
+        told(launcher, "for its output: no answer", 2)
+        goes_on(launcher, stage, "good")
+        is_prompt(honest)
+        hung.go_on()
+        launcher.shut_down(30)
+    finally:
+        hung.end()
+
+
+def zombies(pid):
+    found = []
+    for name in os.listdir("/proc"):
+        if name.isdigit():
+            words = text_at(f"/proc/{name}/stat").rpartition(")")[2].split()
+            if words[:2] == ["Z", str(pid)]:
+                found.append(name)
+    return found
+
+
+def links(stage):
+    hung = FileSystem(stage, "hung")
+    os.symlink(hung.at, stage.at("link"))
+    over = lambda name: os.path.join(stage.at("link"), name)  # noqa: E731
+    try:
+        launcher = stage.serve()
+        marks = [stage.at(f"mark{at}") for at in range(20)]
+        for at, mark in enumerate(marks):
+            launcher.load(shell_job(f"good{at}", f"echo >> {mark}", StartInterval=1, ThrottleInterval=1))
+        launcher.load(shell_job("good", f"echo >> {stage.at('seen')}", WatchPaths=[stage.at("watched")], ThrottleInterval=0))
+        launcher.load(shell_job("watcher", "exit 0", WatchPaths=[over(f"w{at}") for at in range(60)], ThrottleInterval=1))
+        for at in range(300):
+            launcher.load(shell_job(f"log{at}", "echo x", StandardOutPath=over(f"log{at}"), StartInterval=2, ThrottleInterval=1))
+        launcher.load(shell_job("stopped", "exec sleep 600", RunAtLoad=True))
+        time.sleep(2)
+        hang(hung, True)
+        time.sleep(2)
+        honest, before, begun = Honest(launcher), [len(text_at(mark)) for mark in marks], time.monotonic()
+        seen = []
+        for at in range(6):
+            asked = time.monotonic()
+            with open(stage.at("watched"), "w", encoding="utf-8") as out:
+                out.write(str(at))
+            count = len(text_at(stage.at("seen")))
+            wait_for(lambda: len(text_at(stage.at("seen"))) > count, "a change of a path that is well is not seen", 30)
+            seen.append(time.monotonic() - asked)
+            time.sleep(2)
+        asked = time.monotonic()
+        launcher.ask({"req": "stop", "job": "stopped"})
+        wait_for(lambda: "last exit = signal 15" in launcher.print("stopped"), "a job that is well is not stopped")
+        took = time.monotonic() - asked
+        passed = time.monotonic() - begun
+        runs = [len(text_at(mark)) - count for mark, count in zip(marks, before)]
+        most_left = len(look_outs(launcher.pid))
+        part, most = late(honest.end())
+        print(f"  list: 99 of 100 within {part * 1000:.1f} ms, at most {most * 1000:.0f}; seen after {max(seen):.1f} s; stopped after {took:.1f} s;"
+              f" {min(runs)} runs in {passed:.0f} s; {most_left} look-outs", flush=True)
+        check(part < PROMPT, f"99 of 100 lists took {part * 1000:.0f} ms")
+        check(max(seen) < 3.5, f"a change was seen after {max(seen):.1f} s")
+        check(took < 2, f"a job was stopped after {took:.1f} s")
+        check(min(runs) >= passed * 0.8 - 2, f"a job that is due each second ran {min(runs)} times in {passed:.0f} s")
+        check(most_left <= 18, f"{most_left} look-outs are left")
+        hung.go_on()
+        time.sleep(5)
+        check(not zombies(launcher.pid), f"zombies are left: {zombies(launcher.pid)}")
+        wait_for(lambda: "last exit = code 0" in launcher.print("log7"), "a log is not opened again", 40)
+        launcher.shut_down(30)
+    finally:
+        hung.end()
+
+
+def leases_and_a_disk(stage):
+    os.chmod(stage.folder, 0o755)
+    place = stage.at("nobody")
+    os.mkdir(place)
+    os.chown(place, NOBODY, NOBODY)
+
+    def lease():
+        signal.signal(signal.SIGIO, signal.SIG_IGN)
+        files = [os.open(os.path.join(place, f"log{at}"), os.O_RDWR | os.O_CREAT) for at in range(8)]
+        while True:
+            for file in files:
+                try:
+                    fcntl.fcntl(file, fcntl.F_SETLEASE, fcntl.F_WRLCK)
+                except OSError:
+                    pass
+            time.sleep(0.01)
+
+    holder = as_nobody(lease)
+    try:
+        launcher = stage.serve()
+        time.sleep(0.5)
+        for at in range(8):
+            launcher.load(shell_job(f"job{at}", "echo x", StandardOutPath=os.path.join(place, f"log{at}"), StartInterval=1, ThrottleInterval=1))
+        for at in range(20):
+            launcher.load(shell_job(f"well{at}", "echo x", StandardOutPath=stage.at(f"out{at}"), StartInterval=1, ThrottleInterval=1))
+        told(launcher, "for its output: no answer")
+        time.sleep(8)
+        check(len(text_at(stage.at("out7"))) >= 8, f"a log of the disk was opened {len(text_at(stage.at('out7'))) // 2} times in 8 s")
+        check(not [line for line in launcher.lines("no answer") if "well" in line], f"a log that is well is refused: {launcher.lines('well')}")
+        launcher.shut_down()
+    finally:
+        os.kill(holder, signal.SIGKILL)
+        os.waitpid(holder, 0)
+
+
+def no_process(stage):
+    """One process of a user of its own is all that it may have, and that is the launcher."""
+    hung = FileSystem(stage, "hung")
+    user = 61_234
+    os.chmod(stage.folder, 0o755)
+    for path in (stage.folder, stage.at("spool")):
+        os.chown(path, user, user)
+    try:
+        launcher = stage.serve(shell=f'ulimit -u 1; exec setpriv --reuid={user} --regid={user} --clear-groups -- "$@"')
+        hung.stop()
+        honest = Honest(launcher)
+        launcher.load(shell_job("w", "exit 0", WatchPaths=[hung.path(f"w{at}") for at in range(8)]))
+        launcher.load(shell_job("job", "echo x", StandardOutPath=hung.path("log"), RunAtLoad=True))
+        reason = "esource temporarily unavailable"
+        wait_for(lambda: launcher.lines(reason), lambda: f"the system's reason is not told: {launcher.said()[-300:]!r}")
+        time.sleep(3)
+        check([line for line in launcher.lines("job: run ") if reason in line], f"the start has another reason: {launcher.said()[-300:]!r}")
+        check([line for line in launcher.lines("cannot look at") if reason in line], f"a look has another reason: {launcher.said()[-300:]!r}")
+        times = honest.end()
+        check(times[-1] < 0.4, f"a list took {times[-1]:.2f} s")
+        hung.go_on()
+        launcher.shut_down(30)
+    finally:
+        hung.end()
+
+
 def a_folder(stage):
     one_part(stage, "cannot enter the folder", WorkingDirectory=lambda hung: hung.path("dir"))
 
@@ -400,7 +597,10 @@ def memory_of(pid):
     return sum(int(line.split()[1]) for line in lines if line.startswith("Pss:"))
 
 
-TRIALS = [watched_paths, streams, an_input, a_program, a_folder, a_socket, unanswered, exchanges, leases, a_terminal, figures]
+TRIALS = [
+    watched_paths, streams, an_input, a_program, an_interpreter, a_loader, a_search, root_and_cwd, a_folder, a_socket, unanswered, links, exchanges, leases,
+    leases_and_a_disk, no_process, a_terminal, figures,
+]
 
 
 def play(given, folder, trial):

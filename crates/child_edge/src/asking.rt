@@ -5,7 +5,7 @@ use crate::held::Held;
 use crate::start::Start;
 use history_model::Text;
 use history_model::definition::{Address, Def, Socket};
-use look_out::{Answer, Asked, Asks, Hung, Openings, Question, no_answer};
+use look_out::{Answer, Asked, Asks, Hung, Openings, Question, no_answer, stream_asked};
 use std::alloc::{AllocError, Global};
 use std::fs::Files;
 use std::io;
@@ -35,9 +35,9 @@ impl<'a> Asking<'a> {
         asks: Asks,
         path: Option<&'a str>,
     ) -> Result<(), AllocError> {
-        match path {
-            Some(path) if !is_own(path) => self.add(part, asks, path),
-            _ => Ok(()),
+        match path.and_then(stream_asked) {
+            Some(path) => self.add(part, asks, path),
+            None => Ok(()),
         }
     }
 
@@ -64,11 +64,6 @@ impl<'a> Asking<'a> {
     fn part_at(&self, at: usize) -> Part {
         self.parts.get(at).copied().unwrap_or(Part::Program)
     }
-}
-
-// The standard streams of this process, and what else it has open.
-fn is_own(path: &str) -> bool {
-    path.starts_with("/dev/std") || path.starts_with("/dev/fd/") || path.starts_with("/proc/self/")
 }
 
 /// Asks about all that the start needs, and waits half a second at most. What it opens is held until it is told to forget it. An error if a
@@ -118,13 +113,13 @@ fn ask<P: OpenProcess + Drop, R: AllocGlobal + Clock + Files + Net + Processes<S
     let asked = openings.ask(rt, hung, asking.questions.as_slice(), &mut answers, up);
     let held = match asked {
         Asked::Answered => held_in(openings.id(), asking, answers.as_slice()),
-        Asked::Hangs(at) | Asked::StillHangs(at) => {
-            let part = asking.part_at(at);
+        Asked::Unasked(error) | Asked::Refused(error) => Err(of_program(error)),
+        Asked::Unstarted => Ok(Held::nothing()),
+        silent => {
+            let part = asking.part_at(silent.silent_at().unwrap_or(usize::MAX));
             let error = no_answer();
             Err(Failure { part, error })
         }
-        Asked::Unasked(error) => Err(of_program(error)),
-        Asked::Unstarted => Ok(Held::nothing()),
     };
     drop(answers);
     held
@@ -224,8 +219,7 @@ fn search_path(def: &Def) -> Option<&Text> {
     path
 }
 
-/// The place of the first of these sockets whose path gives no answer within half a second: to bind it, or to remove its file, would
-/// wait.
+/// The place of the first of these sockets whose path can't be known to answer, and why: to bind it, or to remove its file, might wait.
 pub(crate) fn first_silent<
     P: OpenProcess + Drop,
     R: AllocGlobal + Clock + Files + Net + Processes<Started = P>,
@@ -236,12 +230,12 @@ pub(crate) fn first_silent<
     hung: &mut Hung<P>,
     sockets: &[Socket],
     up: u64,
-) -> Option<usize> {
+) -> Option<(usize, io::Error)> {
     let mut at = 0usize;
     for socket in sockets {
         if let Address::Unix(path) = &socket.address {
-            if is_silent(rt, alloc, openings, hung, path.as_str(), up) {
-                return Some(at);
+            if let Some(error) = silence(rt, alloc, openings, hung, path.as_str(), up) {
+                return Some((at, error));
             }
         }
         at = at.saturating_add(1);
@@ -249,8 +243,8 @@ pub(crate) fn first_silent<
     None
 }
 
-/// Whether the path gives no answer within half a second.
-pub(crate) fn is_silent<
+/// Why it is not known that the path answers: it gives none within half a second, or the system starts no look-out now.
+pub(crate) fn silence<
     P: OpenProcess + Drop,
     R: AllocGlobal + Clock + Files + Net + Processes<Started = P>,
 >(
@@ -260,10 +254,14 @@ pub(crate) fn is_silent<
     hung: &mut Hung<P>,
     path: &str,
     up: u64,
-) -> bool {
+) -> Option<io::Error> {
     let asks = Asks::Look;
     let mut answers = Vec::new(alloc);
     let asked = openings.ask(rt, hung, &[Question { asks, path }], &mut answers, up);
     drop(answers);
-    matches!(asked, Asked::Hangs(_) | Asked::StillHangs(_))
+    match asked {
+        Asked::Answered | Asked::Unstarted => None,
+        Asked::Unasked(error) | Asked::Refused(error) => Some(error),
+        _ => Some(no_answer()),
+    }
 }

@@ -177,6 +177,9 @@ impl<R: Processes> OsEdge<R> {
     pub fn over_from(&mut self, job: JobNo) -> Option<(JobNo, u64)>
         ensures { self.new ≡ self.old }
     {
+        if job == 0 {
+            self.hung.reap();
+        }
         self.children.over_from(job)
     }
 
@@ -489,7 +492,7 @@ impl<
         );
         let answer = match silent {
             None => self.sockets.bind(&self.rt, &mut self.notices, job, def),
-            Some(at) => self.sockets.hangs(&mut self.notices, job, def, at),
+            Some((at, error)) => self.sockets.hangs(&mut self.notices, job, def, at, error),
         };
         self.answered(answer)
     }
@@ -501,7 +504,7 @@ impl<
 
     fn release(&mut self, job: JobNo) {
         let up = clock::up(&self.rt, self.made);
-        let hangs = self.sockets.any_silent(
+        let silence = self.sockets.any_silent(
             &self.rt,
             self.alloc,
             &mut self.openings,
@@ -509,10 +512,9 @@ impl<
             job,
             up,
         );
-        if hangs {
-            self.sockets.leave(&mut self.notices, job);
-        } else {
-            self.sockets.release(&self.rt, job);
+        match silence {
+            Some(error) => self.sockets.leave(&mut self.notices, job, error),
+            None => self.sockets.release(&self.rt, job),
         }
     }
 }

@@ -5,7 +5,7 @@ ghost use Rattle.child_edge.specs.Listeners.{how_many, and_more};
 ghost use Rattle.child_edge.specs.Rooms.{room_by};
 
 use crate::Client;
-use crate::asking::is_silent;
+use crate::asking::silence;
 use crate::bound::Bound;
 use crate::listener::Listener;
 use crate::maps::key_from;
@@ -14,7 +14,7 @@ use crate::room::room_for;
 use crate::words::cannot_bind;
 use history_model::definition::{Address, Def, Socket};
 use history_model::{JobNo, MAX_JOBS, Text};
-use look_out::{Hung, Openings, no_answer};
+use look_out::{Hung, Openings};
 use mio::{Registry, Token};
 use std::alloc::Global;
 use std::collections::BTreeMap;
@@ -119,19 +119,19 @@ impl Sockets {
         }
     }
 
-    /// The path of the definition's socket at this place gives no answer: none is bound, which is told.
+    /// It is not known that the path of the definition's socket at this place answers: none is bound, which is told.
     pub(crate) fn hangs(
         &self,
         notices: &mut Notices,
         job: JobNo,
         def: &Def,
         socket: usize,
+        error: io::Error,
     ) -> io::Result<()> {
-        let error = no_answer();
         tell_fault(notices, job, def, BindFault { socket, error })
     }
 
-    /// Whether the path of one of the job's sockets gives no answer.
+    /// Why it is not known that the path of each of the job's sockets answers.
     pub(crate) fn any_silent<
         P: OpenProcess + Drop,
         R: AllocGlobal + Clock + Files + Net + Processes<Started = P>,
@@ -143,25 +143,24 @@ impl Sockets {
         hung: &mut Hung<P>,
         job: JobNo,
         up: u64,
-    ) -> bool {
-        let Some(bound) = self.jobs.get(&job) else {
-            return false;
-        };
+    ) -> Option<io::Error> {
+        let bound = self.jobs.get(&job)?;
         for listener in bound.listeners.iter() {
             if let Some(path) = listener.path() {
-                if is_silent(rt, alloc, openings, hung, path, up) {
-                    return true;
+                let silence = silence(rt, alloc, openings, hung, path, up);
+                if silence.is_some() {
+                    return silence;
                 }
             }
         }
-        false
+        None
     }
 
-    /// Gives up the job's sockets, and leaves their files, which is told: the path of one of them gives no answer.
-    pub(crate) fn leave(&mut self, notices: &mut Notices, job: JobNo) {
+    /// Gives up the job's sockets, and leaves their files, which is told: it is not known that the path of one of them answers.
+    pub(crate) fn leave(&mut self, notices: &mut Notices, job: JobNo, error: io::Error) {
         if let Some(bound) = self.take_out(job) {
             let form = "cannot remove the files of its sockets: $";
-            bound.refused(notices, job, Asked::Bind, form, no_answer());
+            bound.refused(notices, job, Asked::Bind, form, error);
             drop(bound);
         }
     }

@@ -19,9 +19,9 @@ pub enum Seen {
     Answered(Answer),
     /// There was none for half a second; or it was not asked, since what hung there hangs there still.
     Silent,
-    /// It could not be asked, or the look-out ended twice in a row before its answer.
+    /// It could not be asked, the system starts no look-out now, or one ended twice in a row before its answer.
     Failed(io::Error),
-    /// The system starts no look-out, or none that ever answered.
+    /// This program's own file is not there to be started as a look-out, or what is there is none: none that was started has ever answered.
     Unstarted,
 }
 

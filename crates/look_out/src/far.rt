@@ -4,7 +4,7 @@ ghost use Rattle.std.specs.Prelude.{◌≡◌, ◌+◌, ◌*◌, length, OnOk};
 ghost use Rattle.look_out.specs.Answers.{asked_in};
 
 use crate::answer::Answer;
-use crate::looking::{INVALID, look};
+use crate::looking::{INVALID, look, refused};
 use crate::opening::{enter, open, program, search};
 use crate::question::LONGEST;
 use std::alloc::{AllocError, Global};
@@ -18,11 +18,12 @@ use std::rt::Env;
 /// How many bytes of questions are read at a time.
 const ROOM: usize = 4_096;
 
-/// What a look-out has: what it holds open, and the question that still comes.
+/// What a look-out has: what it holds open, the folder of the start that it was asked about, and the question that still comes.
 #[derive(Drop)]
 struct Far {
     alloc: Global,
     held: Vec<File>,
+    folder: String,
     question: Vec<u8>,
 }
 
@@ -37,6 +38,7 @@ pub fn serve<R: AllocGlobal + Clone + Drop + Env + Files<File = File>, S: Read +
     let mut far = Far {
         alloc,
         held: Vec::new(alloc),
+        folder: String::new(alloc),
         question: Vec::new(alloc),
     };
     let mut answers: Vec<u8> = Vec::new(alloc);
@@ -108,11 +110,18 @@ fn answer_to<R: AllocGlobal + Clone + Drop + Env + Files<File = File>>(
         Some(("l", path)) => look(rt, path),
         Some(("r", path)) => open(rt, path, true, &mut far.held),
         Some(("a", path)) => open(rt, path, false, &mut far.held),
-        Some(("d", path)) => enter(rt, far.alloc, path, &mut far.held),
-        Some(("p", path)) => program(rt, path),
-        Some(("s", text)) => search(rt, text),
+        Some(("d", path)) => {
+            far.folder.clear();
+            match far.folder.push_str(path) {
+                Ok(()) => enter(rt, far.alloc, path, &mut far.held),
+                Err(error) => refused(&io::Error::from(error)),
+            }
+        }
+        Some(("p", path)) => program(rt, far.alloc, far.folder.as_str(), path),
+        Some(("s", text)) => search(rt, far.folder.as_str(), text),
         Some(("f", _)) => {
             far.held.clear();
+            far.folder.clear();
             Answer::Absent
         }
         _ => none,

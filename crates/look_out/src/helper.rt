@@ -1,7 +1,7 @@
 //! A helper process: this program's own file, under a name that nobody else gives it, with one end of a socket as its input.
 
 use std::alloc::{AllocError, Global};
-use std::io;
+use std::fs::Files;
 use std::io::ErrorKind;
 use std::net::Net;
 use std::os::fd::OwnedFd;
@@ -9,6 +9,7 @@ use std::os::unix::net::UnixStream;
 use std::os::unix::process::CommandExt;
 use std::process::{Child, Command, OpenProcess, Processes, Stdio};
 use std::time::Duration;
+use std::{fs, io};
 
 /// The name under which this program is a look-out.
 pub const NAME: &str = "jobd-look-out";
@@ -23,6 +24,19 @@ const PATIENCE: u64 = 500;
 pub(crate) struct Helper<P: OpenProcess + Drop> {
     pub(crate) child: Child<P>,
     pub(crate) socket: UnixStream,
+}
+
+/// Whether this program's own file is not there to be started, as without `/proc`.
+pub(crate) fn is_missing<R: Files>(rt: &R) -> bool {
+    fs::symlink_metadata(rt, OWN_FILE).is_err()
+}
+
+/// Whether the error says that a look-out has ended.
+pub(crate) fn is_end(error: &io::Error) -> bool {
+    matches!(
+        error.kind(),
+        ErrorKind::UnexpectedEof | ErrorKind::BrokenPipe | ErrorKind::ConnectionReset
+    )
 }
 
 /// Starts a helper. One that nobody waits for has a socket that makes nobody wait.

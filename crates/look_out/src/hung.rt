@@ -69,6 +69,13 @@ impl<P: OpenProcess + Drop> Hung<P> {
         }
     }
 
+    /// Waits for the helpers that were left and have gone since, so that none of them stays a zombie. It waits for none that has not gone.
+    pub fn reap(&mut self) {
+        for one in self.places.iter_mut() {
+            let _ = one.is_left();
+        }
+    }
+
     /// Gives back half of the time that has passed until this moment of `up`.
     pub(crate) fn go_on(&mut self, up: u64) {
         let gained = up.saturating_sub(self.counted) / 2;

@@ -11,8 +11,10 @@ mod hung;
 mod looking;
 mod looks;
 mod mounts;
+mod needed;
 mod opening;
 mod openings;
+mod own;
 mod question;
 
 ghost use Rattle.std.specs.Prelude.{◌≡◌, Some};
@@ -24,7 +26,7 @@ pub use helper::{NAME, no_answer};
 pub use hung::{Hung, MOST};
 pub use looks::Looks;
 pub use openings::{Asked, Openings};
-pub use question::{Asks, LONGEST, Question};
+pub use question::{Asks, LONGEST, Question, stream_asked};
 
 /// What crosses the socket is the answer that was given.
 pub fn crossed(answer: Answer) -> Option<Answer>

@@ -2,7 +2,7 @@
 
 use crate::answer::{Answer, LENGTH};
 use crate::batch::{Batch, MOST, Seen};
-use crate::helper::{Helper, start};
+use crate::helper::{Helper, is_end, is_missing, start};
 use crate::hung::{Hung, PATIENCE};
 use crate::question::{Asks, can_be_asked};
 use std::alloc::{AllocError, Global};
@@ -169,9 +169,16 @@ impl<P: OpenProcess + Drop> Looks<P> {
         if self.batch.is_decided() {
             return;
         }
-        if self.begin(rt).is_err() {
-            self.give_in();
-            return;
+        match self.begin(rt) {
+            Ok(()) => {}
+            Err(_) if is_missing(rt) => {
+                self.give_in(Seen::Unstarted);
+                return;
+            }
+            Err(error) => {
+                self.give_in(Seen::Failed(error));
+                return;
+            }
         }
         match self.exchange(hung) {
             Ok(true) => {
@@ -207,10 +214,10 @@ impl<P: OpenProcess + Drop> Looks<P> {
     }
 
     // There is no look-out for what waits.
-    fn give_in(&mut self) {
+    fn give_in(&mut self, seen: Seen) {
         for entry in self.batch.entries.iter_mut() {
             if matches!(entry.seen, Seen::Waits) {
-                entry.seen = Seen::Unstarted;
+                entry.seen = seen;
             }
         }
         self.batch.pass();
@@ -317,10 +324,10 @@ impl<P: OpenProcess + Drop> Looks<P> {
         self.losses = self.losses.saturating_add(1);
         if self.losses >= LOSSES {
             self.losses = 0;
-            if self.is_known {
-                self.decide(Seen::Failed(error));
+            if !self.is_known && is_end(&error) {
+                self.give_in(Seen::Unstarted);
             } else {
-                self.give_in();
+                self.decide(Seen::Failed(error));
             }
         }
         self.since = up;

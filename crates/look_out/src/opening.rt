@@ -6,16 +6,15 @@
 
 use crate::answer::Answer;
 use crate::looking::{INVALID, refused};
-use std::alloc::Global;
+use crate::needed::{follow, put_below};
+use crate::own::{has_any, has_number};
+use std::alloc::{AllocError, Global};
 use std::fs::{File, Files, Metadata, OpenOptions};
-use std::io::{ErrorKind, Read};
+use std::io::ErrorKind;
 use std::os::fd::AsRawFd;
 use std::os::unix::fs::{FileTypeExt, MetadataExt};
 use std::rt::Env;
 use std::{env, fs, io};
-
-/// How many bytes of a program are read: the system reads as many to see what kind it is.
-const HEAD: usize = 256;
 
 /// Opens the path, and holds it: from its beginning, or to be appended to.
 pub(crate) fn open<R: Files<File = File>>(
@@ -116,59 +115,132 @@ pub(crate) fn enter<R: Files<File = File>>(
     answer
 }
 
-/// Whether the program is there. Its first bytes are read if they may be, since what is remembered of a file says nothing of who
+/// Whether the program is there. What the system opens to start it is read if it may be, since what is remembered of a file says nothing of who
 /// keeps it.
-pub(crate) fn program<R: Files<File = File>>(rt: &R, path: &str) -> Answer {
+pub(crate) fn program<R: Files<File = File>>(
+    rt: &R,
+    alloc: Global,
+    folder: &str,
+    path: &str,
+) -> Answer {
     match fs::metadata(rt, path) {
-        Ok(data) => {
-            if data.is_file() {
-                read_head(rt, path);
-            }
-            Answer::There { stamp: 0 }
-        }
+        Ok(data) => read_needed(rt, alloc, folder, path, &data),
         Err(error) => refused(&error),
     }
 }
 
-fn read_head<R: Files<File = File>>(rt: &R, path: &str) {
-    if let Ok(file) = File::open(rt, path) {
-        let mut file = file;
-        let mut head = [0u8; HEAD];
-        let _read = file.read(&mut head);
-        drop(file);
+fn read_needed<R: Files<File = File>>(
+    rt: &R,
+    alloc: Global,
+    folder: &str,
+    path: &str,
+    data: &Metadata,
+) -> Answer {
+    if data.is_file() {
+        match follow(rt, alloc, folder, path) {
+            Ok(()) => {}
+            Err(error) => return refused(&io::Error::from(error)),
+        }
     }
+    Answer::There { stamp: 0 }
 }
 
-/// Looks for the name in these folders, or in those of this process's own search path, up to the first that has it.
-pub(crate) fn search<R: AllocGlobal + Env + Files<File = File>>(rt: &R, text: &str) -> Answer {
+/// Looks for the name in these folders, or in those of this process's own search path, up to the first that has it as a file that may be run. What
+/// does not begin with a slash is taken from the folder.
+pub(crate) fn search<R: AllocGlobal + Env + Files<File = File>>(
+    rt: &R,
+    folder: &str,
+    text: &str,
+) -> Answer {
     match text.split_once('/') {
-        Some((name, folders)) => search_in(rt, rt.alloc(), name, folders),
+        Some((name, folders)) => search_in(rt, rt.alloc(), folder, name, folders),
         None => match env::var(rt, "PATH") {
             Ok(folders) => {
-                let answer = search_in(rt, rt.alloc(), text, folders.as_str());
+                let answer = search_in(rt, rt.alloc(), folder, text, folders.as_str());
                 drop(folders);
                 answer
             }
-            Err(_) => search_in(rt, rt.alloc(), text, "/bin:/usr/bin"),
+            Err(_) => search_in(rt, rt.alloc(), folder, text, "/bin:/usr/bin"),
         },
     }
 }
 
-// A folder that is named relative to the child's own is left out.
-fn search_in<R: Files<File = File>>(rt: &R, alloc: Global, name: &str, folders: &str) -> Answer {
-    for folder in folders.split(':') {
-        if folder.starts_with('/') {
-            match format!(in alloc; "{folder}/{name}") {
-                Ok(path) => {
-                    let answer = program(rt, path.as_str());
-                    drop(path);
-                    if answer == (Answer::There { stamp: 0 }) {
-                        return answer;
-                    }
-                }
-                Err(error) => return refused(&io::Error::from(error)),
+fn search_in<R: AllocGlobal + Files<File = File>>(
+    rt: &R,
+    alloc: Global,
+    folder: &str,
+    name: &str,
+    folders: &str,
+) -> Answer {
+    let mut path = String::new(alloc);
+    let mut answer = Answer::Absent;
+    for at in folders.split(':') {
+        path.clear();
+        match put_name(&mut path, folder, at, name) {
+            Ok(()) => {}
+            Err(error) => {
+                answer = refused(&io::Error::from(error));
+                break;
             }
         }
+        answer = runnable(rt, alloc, folder, path.as_str());
+        if answer != Answer::Absent {
+            break;
+        }
     }
-    Answer::Absent
+    drop(path);
+    answer
+}
+
+fn put_name(path: &mut String, folder: &str, at: &str, name: &str) -> Result<(), AllocError> {
+    if at.is_empty() {
+        return put_below(path, folder, name);
+    }
+    put_below(path, folder, at)?;
+    path.push_str("/")?;
+    path.push_str(name)
+}
+
+// `Absent`: the search goes on behind it.
+fn runnable<R: AllocGlobal + Files<File = File>>(
+    rt: &R,
+    alloc: Global,
+    folder: &str,
+    path: &str,
+) -> Answer {
+    match fs::metadata(rt, path) {
+        Ok(data) if data.is_file() && may_be_run(rt, alloc, &data) => {
+            read_needed(rt, alloc, folder, path, &data)
+        }
+        _ => Answer::Absent,
+    }
+}
+
+// As the modes say it (path_resolution(7)). Where the system does not tell who this process is, it may.
+fn may_be_run<R: AllocGlobal + Files>(rt: &R, alloc: Global, data: &Metadata) -> bool {
+    let mode = data.mode() & 0o111;
+    if mode == 0 || mode == 0o111 {
+        return mode != 0;
+    }
+    match fs::read_to_string(rt, "/proc/self/status") {
+        Ok(status) => {
+            let bit = bit_of(status.as_str(), data.uid(), data.gid());
+            drop(status);
+            mode & bit != 0
+        }
+        Err(_) => true,
+    }
+}
+
+// The bits of a mode that count for this process: any for root.
+fn bit_of(status: &str, owner: u32, group: u32) -> u32 {
+    if has_number(status, "Uid:", 1, 0) {
+        0o111
+    } else if has_number(status, "Uid:", 1, owner) {
+        0o100
+    } else if has_number(status, "Gid:", 1, group) || has_any(status, "Groups:", group) {
+        0o010
+    } else {
+        0o001
+    }
 }

@@ -3,7 +3,7 @@
 ghost use Rattle.std.specs.Prelude.{◌≡◌, ℕ, None, true, false, [], length, OnOk};
 
 use crate::answer::{Answer, LENGTH};
-use crate::helper::{Helper, start};
+use crate::helper::{Helper, is_end, is_missing, start};
 use crate::hung::{Hung, PATIENCE};
 use crate::question::{Asks, Question, can_be_asked};
 use std::alloc::Global;
@@ -28,8 +28,31 @@ pub enum Asked {
     StillHangs(usize),
     /// A path can't be asked about, or the look-out ended twice before its answer, which says nothing of the paths.
     Unasked(io::Error),
-    /// The system starts no look-out, or none that ever answered.
+    /// The system starts no look-out now, and this is its reason. None was asked.
+    Refused(io::Error),
+    /// This program's own file is not there to be started as a look-out, or what is there is none: none that was started has ever answered.
     Unstarted,
+}
+
+impl Asked {
+    /// The place of the question whose path hangs.
+    pub fn silent_at(self) -> Option<usize> {
+        match self {
+            Asked::Hangs(at) | Asked::StillHangs(at) => Some(at),
+            _ => None,
+        }
+    }
+}
+
+/// Why questions have no answers.
+#[derive(Clone, Copy)]
+enum Lack {
+    /// They did not come in time.
+    Late,
+    /// The system starts no look-out.
+    Refused(io::Error),
+    /// The look-out ended, or what it said is no answer, or memory lacked for them.
+    Lost(io::Error),
 }
 
 /// The look-out that is asked: none before the first questions.
@@ -41,8 +64,6 @@ pub struct Openings<P: OpenProcess + Drop> {
     owed: usize,
     // What it holds can be opened.
     is_open: bool,
-    // The last one that was wanted was started.
-    has_started: bool,
     // One has answered.
     is_known: bool,
 }
@@ -65,7 +86,6 @@ impl<P: OpenProcess + Drop> Openings<P> {
             helper: None,
             owed: 0,
             is_open: false,
-            has_started: false,
             is_known: false,
         }
     }
@@ -97,7 +117,7 @@ impl<P: OpenProcess + Drop> Openings<P> {
         let patience = patience_for(hung, questions);
         let first = self.ask_once(rt, text.as_slice(), questions.len(), answers, patience);
         let last = match first {
-            Err(error) if !is_late(&error) => {
+            Err(Lack::Lost(_)) => {
                 self.ask_once(rt, text.as_slice(), questions.len(), answers, patience)
             }
             answer => answer,
@@ -109,16 +129,16 @@ impl<P: OpenProcess + Drop> Openings<P> {
                 open_all(hung, questions);
                 Asked::Answered
             }
-            Err(error) if is_late(&error) => {
+            Err(Lack::Late) => {
                 let at = answers.len();
                 hung.spend(patience);
                 self.give_up(rt, hung, path_at(questions, at), up, patience);
                 Asked::Hangs(at)
             }
-            Err(error) if !(self.has_started && self.is_known) && is_of_system(&error) => {
-                Asked::Unstarted
-            }
-            Err(error) => Asked::Unasked(error),
+            Err(Lack::Refused(_)) if is_missing(rt) => Asked::Unstarted,
+            Err(Lack::Refused(error)) => Asked::Refused(error),
+            Err(Lack::Lost(error)) if !self.is_known && is_end(&error) => Asked::Unstarted,
+            Err(Lack::Lost(error)) => Asked::Unasked(error),
         }
     }
 
@@ -130,22 +150,22 @@ impl<P: OpenProcess + Drop> Openings<P> {
         count: usize,
         answers: &mut Vec<Answer>,
         patience: u64,
-    ) -> io::Result<()>
+    ) -> Result<(), Lack>
         ensures { OnOk result ((self.new ≡ true) × (length answers.new.items ≡ count)) }
     {
         answers.clear();
         match self.begin(rt) {
             Ok(()) => {}
-            Err(error) => return Err(error),
+            Err(error) => return Err(Lack::Refused(error)),
         }
         let owed = self.owed;
         let answer = match &mut self.helper {
             Some(helper) => exchange(rt, &mut helper.socket, text, owed, count, answers, patience),
-            None => Err(io::Error::from(ErrorKind::NotFound)),
+            None => Err(Lack::Lost(io::Error::from(ErrorKind::NotFound))),
         };
         match answer {
             Ok(()) => self.owed = 0,
-            Err(error) if is_late(&error) => {}
+            Err(Lack::Late) => {}
             Err(_) => self.let_go(),
         }
         answer
@@ -158,9 +178,7 @@ impl<P: OpenProcess + Drop> Openings<P> {
         if self.helper.is_some() {
             return Ok(());
         }
-        let started = start(rt, self.alloc, true);
-        self.has_started = started.is_ok();
-        match started {
+        match start(rt, self.alloc, true) {
             Ok(helper) => {
                 self.owed = 0;
                 self.is_open = reaches(rt, self.alloc, helper.child.id());
@@ -228,14 +246,13 @@ impl<P: OpenProcess + Drop> Openings<P> {
     }
 }
 
-// No answer in time.
-fn is_late(error: &io::Error) -> bool {
-    error.kind() == ErrorKind::WouldBlock
-}
-
-// Not of a path that can't be asked about.
-fn is_of_system(error: &io::Error) -> bool {
-    error.kind() != ErrorKind::InvalidInput
+// What a read or a write of the socket says: it ends at its time.
+fn lack_of(error: io::Error) -> Lack {
+    if error.kind() == ErrorKind::WouldBlock {
+        Lack::Late
+    } else {
+        Lack::Lost(error)
+    }
 }
 
 // Whether the folder of what the process holds is open to this one: its input is a socket, which is there to be looked at.
@@ -259,22 +276,22 @@ fn exchange<R: Clock>(
     count: usize,
     answers: &mut Vec<Answer>,
     patience: u64,
-) -> io::Result<()>
+) -> Result<(), Lack>
     requires { answers.old.items ≡ [] }
     ensures { OnOk result (length answers.new.items ≡ count) }
 {
     let since = match Instant::now(rt) {
         Ok(since) => since,
-        Err(error) => return Err(error),
+        Err(error) => return Err(Lack::Lost(error)),
     };
     match socket.write_all(text) {
         Ok(()) => {}
-        Err(error) => return Err(error),
+        Err(error) => return Err(lack_of(error)),
     }
     for _ in 0..owed {
         match next_answer(rt, socket, since, patience) {
             Ok(_) => {}
-            Err(error) => return Err(error),
+            Err(lack) => return Err(lack),
         }
     }
     take_answers(rt, socket, count, answers, since, patience)
@@ -287,7 +304,7 @@ fn take_answers<R: Clock>(
     answers: &mut Vec<Answer>,
     since: Instant,
     patience: u64,
-) -> io::Result<()>
+) -> Result<(), Lack>
     requires { answers.old.items ≡ [] }
     ensures { OnOk result (length answers.new.items ≡ count) }
 {
@@ -295,41 +312,40 @@ fn take_answers<R: Clock>(
         match next_answer(rt, socket, since, patience) {
             Ok(answer) => {
                 if answers.push(answer).is_err() {
-                    return Err(io::Error::from(ErrorKind::OutOfMemory));
+                    return Err(Lack::Lost(io::Error::from(ErrorKind::OutOfMemory)));
                 }
             }
-            Err(error) => return Err(error),
+            Err(lack) => return Err(lack),
         }
     }
     Ok(())
 }
 
-// `WouldBlock`: it did not come while there was patience left.
 fn next_answer<R: Clock>(
     rt: &R,
     socket: &mut UnixStream,
     since: Instant,
     patience: u64,
-) -> io::Result<Answer> {
+) -> Result<Answer, Lack> {
     let passed = match since.elapsed(rt) {
         Ok(passed) => passed,
-        Err(error) => return Err(error),
+        Err(error) => return Err(Lack::Lost(error)),
     };
     let left = Duration::from_millis(patience).saturating_sub(passed);
     if left.is_zero() {
-        return Err(io::Error::from(ErrorKind::WouldBlock));
+        return Err(Lack::Late);
     }
     match socket.set_read_timeout(Some(left)) {
         Ok(()) => {}
-        Err(error) => return Err(error),
+        Err(error) => return Err(Lack::Lost(error)),
     }
     let mut bytes = [0u8; LENGTH];
     match socket.read_exact(&mut bytes) {
         Ok(()) => match Answer::from_bytes(bytes) {
             Some(answer) => Ok(answer),
-            None => Err(io::Error::from(ErrorKind::InvalidData)),
+            None => Err(Lack::Lost(io::Error::from(ErrorKind::InvalidData))),
         },
-        Err(error) => Err(error),
+        Err(error) => Err(lack_of(error)),
     }
 }
 

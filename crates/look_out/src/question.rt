@@ -14,10 +14,11 @@ pub enum Asks {
     Append,
     /// A folder: it is to be held, if it may be read.
     Enter,
-    /// A program: whether it is there, and its first bytes can be read.
+    /// A program: whether it is there, and whether what the system opens to start it answers. A path in it that does not begin with a slash is taken
+    /// from the folder that was last to be held.
     Program,
     /// A program without a slash in its name, in the folders of the text behind the first slash, or else in those of the
-    /// look-out's own search path.
+    /// look-out's own search path: the first that may be run.
     Search,
     /// What was opened is closed. No path belongs to it.
     Forget,
@@ -46,4 +47,31 @@ impl Asks {
 /// Whether the text can be asked about: a NUL in it would be taken for its end.
 pub(crate) fn can_be_asked(text: &str) -> bool {
     text.len() < LONGEST && !text.as_bytes().contains(&0)
+}
+
+/// The path by which a look-out is asked about a stream. None: it is one of what this process has open, which to the look-out means its own. Root and folder
+/// are the same for both, and what is below them is asked about by its real path.
+pub fn stream_asked(path: &str) -> Option<&str> {
+    if path.starts_with("/dev/std") || path.starts_with("/dev/fd/") {
+        return None;
+    }
+    let Some(own) = path.strip_prefix("/proc/self/") else {
+        return Some(path);
+    };
+    if let Some(below) = below(own, "root") {
+        return Some(below);
+    }
+    match below(own, "cwd") {
+        Some(below) => Some(below.trim_start_matches('/')),
+        None => None,
+    }
+}
+
+fn below<'a>(path: &'a str, folder: &str) -> Option<&'a str> {
+    let rest = path.strip_prefix(folder)?;
+    if rest.starts_with('/') {
+        Some(rest)
+    } else {
+        None
+    }
 }
