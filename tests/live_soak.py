@@ -17,6 +17,11 @@ import subprocess
 import sys
 import tempfile
 import time
+import types
+
+sys.dont_write_bytecode = True
+sys.path.insert(0, os.path.join(os.path.dirname(os.path.abspath(__file__)), "scenes"))
+from harness import Fault, Stage  # noqa: E402
 
 JOBS = 100
 # What the launcher has to say: that the jobs of one kind have no program.
@@ -80,7 +85,6 @@ class Soak:
         return dict(kinds[number % len(kinds)], Label=label)
 
     def prepare(self):
-        os.mkdir(self.path("spool"), 0o700)
         for number, label in enumerate(self.labels):
             os.mkdir(self.path(f"{label}.queue"))
             with open(self.path(f"{label}.json"), "w") as out:
@@ -89,12 +93,11 @@ class Soak:
     # ---- what is done
 
     def serve(self):
-        self.said = open(self.path("said"), "wb")
-        self.launcher = subprocess.Popen(
-            [self.jobd, "serve", "--socket", self.path("socket"), "--store", self.path("store"), "--spool", self.path("spool"),
-             "--journal", self.path("journal")], stdin=subprocess.DEVNULL, stdout=subprocess.PIPE, stderr=self.said, text=True)
-        if self.launcher.stdout.readline() != "jobd: ready\n":
-            self.complain("no ready line")
+        try:
+            self.started = Stage(types.SimpleNamespace(jobd=[self.jobd], jobctl=[self.jobctl]), self.folder).serve(journal="journal")
+        except Fault as fault:
+            sys.exit(f"live_soak: {fault}")
+        self.launcher = self.started.process
         time.sleep(0.3)
         self.open_before = self.descriptors()
 
@@ -198,9 +201,7 @@ class Soak:
             status = "none in a minute"
         if status != 0:
             self.complain(f"the launcher ended with {status}")
-        self.said.close()
-        with open(self.path("said")) as told:
-            lines = told.read().splitlines()
+        lines = self.started.lines("")
         self.counts["refusals told"] = len(lines)
         for line in lines:
             if not REFUSED.fullmatch(line):

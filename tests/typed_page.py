@@ -14,8 +14,6 @@ import subprocess
 import sys
 
 END = "<<typed_page: end>>"
-# What programs of `make quick` tell at each start.
-NOT_PROVED = ": not proved (make quick made it; make build proves it)"
 
 
 def steps_of(text, mark):
@@ -37,31 +35,33 @@ def steps_of(text, mark):
     return steps
 
 
+def by_make_quick(rows):
+    """The lines but for what programs of `make quick` say of themselves, which is none of the page's."""
+    return [row for row in rows if not row.endswith(": not proved (make quick made it; make build proves it)")]
+
+
 def plain(rows):
     """The lines without what differs from run to run."""
     forms = [(r"^\d+\t", "PID\t"), (r"(?<=pid = )\d+", "PID"), (r"\b\d{4}-\d\d-\d\d\b( [A-Z][a-z]{2}\b)?", "DATE"), (r"\b\d\d:\d\d:\d\d\b", "TIME"), (r"\b(after|in) \d+\.\d s", r"\1 SPAN"),
              (r"[+-]\d{4}\b", "ZONE")]
+    rows = by_make_quick(rows)
     for form, word in forms:
         rows = [re.sub(form, word, row) for row in rows]
     return rows
-
-
-def lines_of(shell):
-    """The lines that come, without those that say that a program is not proved."""
-    for row in shell.stdout:
-        if not row.rstrip("\n").endswith(NOT_PROVED):
-            yield row
 
 
 def came_of(shell, typed, shown):
     if typed[-1].endswith("&"):
         shell.stdin.write("\n".join(typed) + "\n")
         shell.stdin.flush()
-        return [row.rstrip("\n") for _, row in zip(shown, lines_of(shell))]
+        came = []
+        while len(came) < len(shown) and (row := shell.stdout.readline()):
+            came += by_make_quick([row.rstrip("\n")])
+        return came
     shell.stdin.write("\n".join(typed) + f"\necho '{END}'\n")
     shell.stdin.flush()
     came = []
-    for row in lines_of(shell):
+    for row in shell.stdout:
         if row.rstrip("\n").endswith(END):
             rest = row.rstrip("\n")[: -len(END)]
             return came + ([rest] if rest else [])
@@ -70,15 +70,15 @@ def came_of(shell, typed, shown):
     return [*came, "the shell has ended"]
 
 
-def type_page(page, mark, programs, folder, variables=()):
-    """Types the blocks in a shell with these variables too. Answers how many lines were typed, or 0."""
+def type_page(page, mark, programs, folder, variables=(), shell=("bash",)):
+    """Types the blocks in a shell with these variables too. Answers how many lines were typed, or 0. The words of `shell` start it, somewhere else too."""
     with open(page, encoding="utf-8") as it:
         steps = steps_of(it.read(), mark)
     environment = {key: value for key, value in os.environ.items() if not key.startswith("JOBD_") and key != "JOBCTL_TIMEOUT"}
     environment.update(variables)
     environment["PATH"] = programs + ":" + environment["PATH"]
     shell = subprocess.Popen(
-        ["bash"], cwd=folder, env=environment, stdin=subprocess.PIPE, stdout=subprocess.PIPE, stderr=subprocess.STDOUT, text=True)
+        list(shell), cwd=folder, env=environment, stdin=subprocess.PIPE, stdout=subprocess.PIPE, stderr=subprocess.STDOUT, text=True)
     # As a shell at a terminal: what runs in the background ignores no signal.
     shell.stdin.write("set -m\n")
     for typed, shown in steps:
