@@ -265,6 +265,16 @@ anew() { [ -n "$(pid_of kept)" ] && [ "$(pid_of kept)" != "$old_pid" ]; }
 until_true anew
 [ "$(status_of)" = '2 jobs loaded, 0 not' ] || fail "status after a kill: $(status_of)"
 
+# Seven kills one after another: systemd does not give up.
+for _ in 1 2 3 4 5 6 7; do
+    old_pid=$(launcher)
+    machine_in kill -KILL "$old_pid"
+    another() { [ -n "$(launcher)" ] && [ "$(launcher)" != "$old_pid" ]; }
+    until_true another
+done
+until_true runs kept
+echo "units: seven kills of the launcher: it was started each time"
+
 # ---- what was stopped stays so; a removal and a new install
 
 mkdir "$tree/etc/jobd/www-data"
