@@ -11,6 +11,7 @@ mod words;
 pub use by_name::{Programs, run_by_name};
 pub use child::sees_children;
 pub use program::{Program, program_of};
+pub(crate) use standing::own_user;
 pub use standing::{Signal, Standing};
 pub use streams::open_null_streams;
 pub use words::{own_program, own_words};
