@@ -1255,7 +1255,7 @@ def private_files(stage):
 
 
 def a_journal_at_a_fifo(stage):
-    """A journal that is no plain file is refused, and not waited for."""
+    """A journal or a zone file that is no plain file is refused, and not waited for."""
     os.mkfifo(stage.at("fifo"))
     os.symlink("fifo", stage.at("link"))
     for name in ("fifo", "link", "spool"):
@@ -1263,6 +1263,11 @@ def a_journal_at_a_fifo(stage):
         check(not launcher.is_ready(), f"it serves with a journal at a {name}")
         status = launcher.ends()
         check(status == 8 and stage.at(name) in launcher.said(), f"a journal at a {name}: {status}, {launcher.said()!r}")
+    for name in ("fifo", "link"):
+        launcher = stage.start(words=["--zone-file", stage.at(name)])
+        check(not launcher.is_ready(), f"it serves with a zone file at a {name}")
+        status = launcher.ends()
+        check(status == 7 and stage.at(name) in launcher.said(), f"a zone file at a {name}: {status}, {launcher.said()!r}")
 
 
 def places_that_are_one_file(stage):
