@@ -14,4 +14,5 @@ pub use program::{Program, program_of};
 pub(crate) use standing::own_user;
 pub use standing::{Signal, Standing};
 pub use streams::open_null_streams;
-pub use words::{own_program, own_words};
+pub(crate) use words::marked;
+pub use words::{MARK, marked_words, own_program, own_words};
