@@ -240,6 +240,28 @@ def a_file_may_be_faulty(stage):
         "jobctl: @/none.json: bad definition: NotObject -",
         "jobctl: @/latin.json: ",
     ])
+    files_that_are_left_out(stage)
+
+
+def files_that_are_left_out(stage):
+    """A name that is not UTF-8, a FIFO, and a file of the kernel whose reads wait, each among others, as words or in a folder: it is named, and the others
+    are loaded. A word that is not UTF-8 and names no file is no command. A pipe that the user names is read."""
+    os.mkdir(stage.at("odd"))
+    for name, text in ((b"a.json", "a"), (b"b\xff.json", "b"), (b"z.json", "z"), (b"y\xfe", "y")):
+        make(os.path.join(os.fsencode(stage.at("odd")), name), text)
+    os.mkfifo(stage.at("odd/pipe.json"))
+    os.symlink("/proc/kmsg", stage.at("odd/kmsg.plist"))
+    bad = '{"code":8,"text":"bad definition: NotJson -\\n"}\n'
+    for words in (["@/odd"], [f"@/odd/{name}" for name in ("a.json", "b\udcff.json", "kmsg.plist", "pipe.json", "z.json")]):
+        expect(stage, ["load", *words], replies=DONE + bad + DONE, status=65, asked=load("a") + load("") + load("z"), told=[
+            "jobctl: @/odd/b\ufffd.json: its name is not UTF-8", "jobctl: @/odd/kmsg.plist:", "bad definition: NotJson -", "jobctl: @/odd/pipe.json: no plain file",
+        ])
+    for words in (["stop", "\udcff"], ["load", "-F", "\udcff", "--socket", "s\udcff"], ["\udcff"], ["load", "--sock\udcff", "@/odd"]):
+        expect(stage, words, IS_MISSING, status=64, told=["jobctl: a word is not UTF-8"])
+    with subprocess.Popen(["echo", "piped"], stdout=subprocess.PIPE) as echo:
+        words = [*stage.given.jobctl, "--socket", "missing", "load", f"/dev/fd/{echo.stdout.fileno()}"]
+        ran = subprocess.run(words, pass_fds=[echo.stdout.fileno()], cwd=stage.folder, capture_output=True, timeout=BOUND, text=True)
+        check(ran.returncode == 69, f"a pipe is not read: {ran.returncode}, {ran.stderr!r}")
 
 
 def a_reply_may_not_come(stage):

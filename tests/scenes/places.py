@@ -2,11 +2,14 @@
 
 `play.py` plays them; `harness.py` has what all scenes share.
 """
+import ctypes
 import json
 import os
 import re
 import socket
 import stat
+import subprocess
+import sys
 import time
 
 from harness import (
@@ -168,6 +171,94 @@ def another_ones_socket(stage):
         other.close()
 
 
+# Puts a link to the file in the socket's place as soon as the socket is there, and takes it away.
+RACER = """
+import os, stat, sys
+place, link, file = sys.argv[1:]
+while True:
+    try:
+        os.symlink(file, link)
+    except FileExistsError:
+        pass
+    try:
+        while not stat.S_ISSOCK(os.lstat(place).st_mode):
+            pass
+        os.rename(link, place)
+        os.remove(place)
+    except OSError:
+        pass
+"""
+
+
+# Makes two names change places without end (renameat2).
+EXCHANGER = """
+import ctypes, sys
+libc = ctypes.CDLL(None)
+first, second = (word.encode() for word in sys.argv[1:])
+while True:
+    libc.renameat2(-100, first, -100, second, 2)
+"""
+
+
+def changed_modes(folder, act):
+    """The names in the folder whose mode or owner was changed while this was done (inotify)."""
+    libc = ctypes.CDLL(None)
+    watch = libc.inotify_init1(os.O_NONBLOCK)
+    check(libc.inotify_add_watch(watch, os.fsencode(folder), 0x4) >= 0, "no inotify")
+    act()
+    names, at = [], 0
+    try:
+        told = os.read(watch, 65536)
+    except BlockingIOError:
+        told = b""
+    os.close(watch)
+    while at < len(told):
+        size = int.from_bytes(told[at + 12 : at + 16], sys.byteorder)
+        names.append(told[at + 16 : at + 16 + size].rstrip(b"\0").decode())
+        at += 16 + size
+    return names
+
+
+def a_racing_owner(stage, bound=3):
+    """Whoever may write in the folder of a job's socket races with the launcher: no other file gets its mode, and none is removed."""
+    launcher = stage.serve(socket="raced", store="raced.store")
+    victim = make(stage.at("victim"), "precious\n")
+    os.chmod(victim, 0o644)
+    mine, theirs = stage.at("mine"), stage.at("theirs")
+    for folder in (mine, theirs):
+        os.mkdir(folder)
+        os.chmod(folder, 0o777)
+    os.symlink(theirs, stage.at("way"))
+    job = socket_job(stage, "raced", ["/bin/cat"], Sockets={"s": {"SockPathName": f"{mine}/cat"}})
+    changed = changed_modes(mine, lambda: launcher.load(job))
+    check("cat" not in changed, f"the mode is changed of what is at a socket's path where others may write: {changed}")
+    check(stat.S_IMODE(os.lstat(f"{mine}/cat").st_mode) == 0o600, "a socket has another mode than 0600")
+    check(os.listdir(mine) == ["cat"], f"beside a socket there are {os.listdir(mine)}")
+    check(launcher.ask({"req": "unload", "job": "raced"})["code"] == 0, "unload refused")
+    check(not os.listdir(mine), f"a socket leaves {os.listdir(mine)}")
+    for program, words in ((RACER, (f"{mine}/cat", stage.at("link"), victim)), (EXCHANGER, (mine, stage.at("way")))):
+        racer = subprocess.Popen([sys.executable, "-I", "-S", "-c", program, *words])
+        try:
+            end, loads = time.monotonic() + bound, 0
+            with connect(launcher.path) as client:
+                while time.monotonic() < end:
+                    kept = make(os.path.join(theirs, "kept"), "precious\n")
+                    launcher.ask_over(client, {"req": "load", "def": json.dumps(job)})
+                    try:
+                        os.rename(kept, os.path.join(theirs, "cat"))
+                    except OSError:
+                        pass
+                    launcher.ask_over(client, {"req": "unload", "job": "raced"})
+                    loads += 1
+                    mode = stat.S_IMODE(os.stat(victim).st_mode)
+                    check(mode == 0o644, f"after {loads} loads another file has the mode {mode:o}")
+                    check(os.path.exists(os.path.join(theirs, "cat")), f"after {loads} loads a file of somebody else is removed")
+        finally:
+            racer.kill()
+            racer.wait()
+    launcher.shut_down()
+
+
 def many_at_a_stale_socket(stage):
     """Six launchers start at once where a socket file is left over: one serves, and the others are refused."""
     stale = socket.socket(socket.AF_UNIX)
@@ -276,7 +367,7 @@ def private_files(stage):
 
 
 def a_journal_at_a_fifo(stage):
-    """A journal that is no plain file is refused, and not waited for."""
+    """A journal or a zone file that is no plain file is refused, and not waited for."""
     os.mkfifo(stage.at("fifo"))
     os.symlink("fifo", stage.at("link"))
     for name in ("fifo", "link", "spool"):
@@ -284,6 +375,11 @@ def a_journal_at_a_fifo(stage):
         check(not launcher.is_ready(), f"it serves with a journal at a {name}")
         status = launcher.ends()
         check(status == 8 and stage.at(name) in launcher.said(), f"a journal at a {name}: {status}, {launcher.said()!r}")
+    for name in ("fifo", "link"):
+        launcher = stage.start(words=["--zone-file", stage.at(name)])
+        check(not launcher.is_ready(), f"it serves with a zone file at a {name}")
+        status = launcher.ends()
+        check(status == 7 and stage.at(name) in launcher.said(), f"a zone file at a {name}: {status}, {launcher.said()!r}")
 
 
 def places_that_are_one_file(stage):
@@ -329,6 +425,6 @@ def places_that_are_one_file(stage):
 
 SCENES = [
     a_stream_at_a_fifo, ends_that_cannot_be_seen, a_second_launcher, a_start_that_fails, spool_links_and_fifos,
-    a_spool_that_others_may_write, another_ones_socket, many_at_a_stale_socket, a_lost_spool_file, closed_standard_streams,
+    a_spool_that_others_may_write, another_ones_socket, a_racing_owner, many_at_a_stale_socket, a_lost_spool_file, closed_standard_streams,
     a_control_socket_that_was_removed, private_files, a_journal_at_a_fifo, places_that_are_one_file,
 ]

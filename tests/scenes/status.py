@@ -8,7 +8,7 @@ import stat
 import subprocess
 import time
 
-from harness import BOUND, check, end_process, make, patience, shell_job, text_at, wait_for
+from harness import BOUND, bytes_at, check, end_process, make, patience, shell_job, text_at, wait_for
 
 MISSING = "cannot start /nonexistent/prog: No such file or directory (os error 2)"
 
@@ -156,6 +156,46 @@ def a_killed_launcher_leaves_a_whole_file(stage):
     launcher.shut_down()
 
 
+def status_files_that_are_other_places(stage):
+    """A status file that is the file of another place, or is written or locked as one, is refused with that place's status, and that file is left."""
+    launcher = stage.serve(store="kept", journal="records")
+    for label in ("one", "two"):
+        check(launcher.ask({"req": "disable", "job": label})["code"] == 0, "disable refused")
+    # It is killed: its store's log has the settings, and the files of its locks are left.
+    end_process(launcher.pid)
+    launcher.ends()
+    os.symlink("kept", stage.at("link"))
+    os.mkdir(stage.at("real"), 0o700)
+    os.symlink("real", stage.at("way"))
+    make(stage.at("spool/7-7.reply"))
+    for name, status, places in (
+        ("kept", 5, {}), ("kept-wal", 5, {}), ("kept-journal", 5, {}), ("kept-shm", 5, {}), ("link", 5, {}), ("./spool/../kept", 5, {}),
+        ("records", 8, {}), ("socket", 6, {}), ("socket.lock", 6, {}), ("spool/jobd.lock", 10, {}), ("spool/7-7.reply", 10, {}), ("spool/8-8.request", 10, {}),
+        ("x", 5, {"store": "x.lock"}), ("x", 5, {"store": "x.new"}), ("x", 8, {"journal": "x.lock"}), ("x", 6, {"socket": "x.new"}),
+        ("way/new", 5, {"store": "real/new"}), ("real/new-wal", 5, {"store": "way/new"}), ("way/new", 8, {"journal": "real/new"}), ("beside", 5, {}),
+    ):
+        if name == "beside":
+            os.link(stage.at("kept"), stage.at("beside"))
+        places = {"store": "kept", "journal": "records", **places}
+        before = {it: bytes_at(stage.at(it)) for it in os.listdir(stage.folder) if os.path.isfile(stage.at(it)) and not it.startswith("said")}
+        launcher = stage.start(env={"JOBD_STATUS_FILE": stage.at(name)}, **places)
+        if launcher.is_ready():
+            time.sleep(1.5)
+        after = {it: bytes_at(stage.at(it)) for it in before if os.path.exists(stage.at(it))}
+        changed = [it for it in before if after.get(it) != before[it]]
+        check(not changed, f"with its status file at {name} a launcher changed {changed}; it said {launcher.said()!r}")
+        check(not launcher.out, f"it serves with its status file at {name} beside {places}")
+        ended = launcher.ends()
+        check(ended == status and len(launcher.lines(f"jobd: status file {stage.at(name)}: it is ")) == 1, f"at {name}: {ended}, {launcher.said()!r}")
+    os.remove(stage.at("beside"))
+    launcher = stage.serve(env={"JOBD_STATUS_FILE": stage.at("real/status")}, store="kept", journal="records")
+    launcher.shut_down()
+    shown = stage.run(["overrides", "--store", "kept"]).stdout
+    check([line.split("\t")[:2] for line in shown.splitlines()] == [["one", "disabled"], ["two", "disabled"]], f"the store has {shown!r}")
+    for name in ("link", "way"):
+        os.remove(stage.at(name))
+
+
 def status_files_that_are_refused(stage):
     """A folder in which others may write, one that is not there, a file that can't be written, and a second launcher: each is told once, and the launcher
     goes on."""
@@ -169,6 +209,7 @@ def status_files_that_are_refused(stage):
         check(not os.path.exists(path) and not os.path.exists(path + ".lock"), f"something was made at {path}")
         launcher.shut_down()
 
+    status_files_that_are_other_places(stage)
     os.makedirs(stage.at("standing/status.jsonl"), mode=0o700, exist_ok=True)
     os.chmod(stage.at("standing"), 0o700)
     launcher, path = serve(stage)

@@ -318,7 +318,7 @@ NAMES = [
 ]
 
 # What each program says of a word that is not UTF-8.
-NO_TEXT = {b"jobd": b"jobd: a word is not UTF-8\n", b"jobctl": b"jobctl: invalid data\n", b"jobscope": b"jobscope: invalid data\n"}
+NO_TEXT = {b"jobd": b"jobd: a word is not UTF-8\n", b"jobctl": b"jobctl: a word is not UTF-8\n", b"jobscope": b"jobscope: invalid data\n"}
 
 # A subcommand of each program alone, whose help is asked for.
 OWN_WORD = {b"jobd": b"replay", b"jobctl": b"kickstart", b"jobscope": b"picture"}

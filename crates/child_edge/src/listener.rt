@@ -8,7 +8,7 @@ use history_model::definition::{Address, Socket};
 use mio::net::{TcpListener, UnixListener};
 use mio::{Interest, Registry, Token};
 use std::alloc::Global;
-use std::fs::Files;
+use std::fs::{File, Files};
 use std::io;
 use std::io::ErrorKind;
 use std::net::{Ipv4Addr, Net, SocketAddr};
@@ -29,7 +29,7 @@ pub(crate) enum Listener {
 impl Listener {
     /// Binds the socket that the definition says. A Unix socket is for this user alone.
     pub(crate) fn bind<
-        R: Files + Net<Listener = std::net::TcpListener, Stream = std::net::TcpStream>,
+        R: Files<File = File> + Net<Listener = std::net::TcpListener, Stream = std::net::TcpStream>,
     >(rt: &R, alloc: Global, wanted: &Socket) -> io::Result<Listener> {
         match &wanted.address {
             Address::Unix(path) => bind_unix(rt, alloc, path.as_str()),
@@ -40,7 +40,7 @@ impl Listener {
     }
 
     /// Removes the socket's file, if it is still the one that was bound.
-    pub(crate) fn give_up<R: Files>(&self, rt: &R) {
+    pub(crate) fn give_up<R: Files<File = File>>(&self, rt: &R) {
         if let Listener::Unix { path, mark, .. } = self {
             socket_file::remove(rt, path.as_str(), *mark);
         }
@@ -110,12 +110,16 @@ fn bind_inet<R: Net<Listener = std::net::TcpListener, Stream = std::net::TcpStre
     }
 }
 
-fn bind_unix<R: Files + Net>(rt: &R, alloc: Global, path: &str) -> io::Result<Listener> {
+fn bind_unix<R: Files<File = File> + Net>(
+    rt: &R,
+    alloc: Global,
+    path: &str,
+) -> io::Result<Listener> {
     let path = match Text::copy_of(alloc, path) {
         Ok(path) => path,
         Err(error) => return Err(io::Error::from(error)),
     };
-    match socket_file::bind(rt, path.as_str()) {
+    match socket_file::bind(rt, alloc, path.as_str()) {
         Ok((socket, mark)) => Ok(Listener::Unix { socket, path, mark }),
         Err(error) => {
             drop(path);

@@ -476,7 +476,7 @@ impl<R: Clock + Processes> ClockEdge for OsEdge<R> {
 impl<
     R: AllocGlobal
         + Clock
-        + Files
+        + Files<File = File>
         + Net<Listener = std::net::TcpListener, Stream = std::net::TcpStream>
         + Processes,
 > SocketEdge for OsEdge<R> {

@@ -18,7 +18,7 @@ use look_out::{Hung, Openings};
 use mio::{Registry, Token};
 use std::alloc::Global;
 use std::collections::BTreeMap;
-use std::fs::Files;
+use std::fs::{File, Files};
 use std::io;
 use std::io::ErrorKind;
 use std::net::Net;
@@ -104,7 +104,7 @@ impl Sockets {
 
     /// Binds each socket of the definition for the job, or none, which is told. A job that has sockets is refused.
     pub(crate) fn bind<
-        R: Files + Net<Listener = std::net::TcpListener, Stream = std::net::TcpStream>,
+        R: Files<File = File> + Net<Listener = std::net::TcpListener, Stream = std::net::TcpStream>,
     >(&mut self, rt: &R, notices: &mut Notices, job: JobNo, def: &Def) -> io::Result<()>
         ensures limit { self.new.limit ≡ self.old.limit }
         ensures crowded { room_by self.old.limit (and_more self.old.jobs (length def.now.sockets)) ≡ 0 →
@@ -175,13 +175,9 @@ impl Sockets {
     }
 
     // Nothing is opened if no room for clients would be left.
-    fn bind_new<R: Files + Net<Listener = std::net::TcpListener, Stream = std::net::TcpStream>>(
-        &mut self,
-        rt: &R,
-        job: JobNo,
-        label: &str,
-        wanted: &[Socket],
-    ) -> Result<(), BindFault>
+    fn bind_new<
+        R: Files<File = File> + Net<Listener = std::net::TcpListener, Stream = std::net::TcpStream>,
+    >(&mut self, rt: &R, job: JobNo, label: &str, wanted: &[Socket]) -> Result<(), BindFault>
         ensures limit { self.new.limit ≡ self.old.limit }
         ensures crowded { room_by self.old.limit (and_more self.old.jobs (length wanted.now)) ≡ 0 →
             IsErr result × (self.new ≡ self.old) }
@@ -204,13 +200,9 @@ impl Sockets {
     }
 
     // Opens the sockets. The caller has seen that they leave room for clients.
-    fn bind_beside<R: Files + Net<Listener = std::net::TcpListener, Stream = std::net::TcpStream>>(
-        &mut self,
-        rt: &R,
-        job: JobNo,
-        label: &str,
-        wanted: &[Socket],
-    ) -> Result<(), BindFault>
+    fn bind_beside<
+        R: Files<File = File> + Net<Listener = std::net::TcpListener, Stream = std::net::TcpStream>,
+    >(&mut self, rt: &R, job: JobNo, label: &str, wanted: &[Socket]) -> Result<(), BindFault>
         requires { 0 < room_by self.old.limit (and_more self.old.jobs (length wanted.now)) }
         ensures { self.new.limit ≡ self.old.limit }
     {
@@ -228,7 +220,7 @@ impl Sockets {
     }
 
     // The job has these sockets from now on. After an `Err` they are given up.
-    fn keep<R: Files>(
+    fn keep<R: Files<File = File>>(
         &mut self,
         rt: &R,
         job: JobNo,
@@ -288,7 +280,7 @@ impl Sockets {
     }
 
     /// Gives up the job's sockets, and removes their files.
-    pub(crate) fn release<R: Files>(&mut self, rt: &R, job: JobNo) {
+    pub(crate) fn release<R: Files<File = File>>(&mut self, rt: &R, job: JobNo) {
         if let Some(bound) = self.take_out(job) {
             give_up(rt, &bound.listeners);
             drop(bound);
@@ -386,17 +378,15 @@ fn tell_fault(notices: &mut Notices, job: JobNo, def: &Def, fault: BindFault) ->
     Err(fault.error)
 }
 
-fn give_up<R: Files>(rt: &R, listeners: &[Listener]) {
+fn give_up<R: Files<File = File>>(rt: &R, listeners: &[Listener]) {
     for listener in listeners {
         listener.give_up(rt);
     }
 }
 
-fn bind_all<R: Files + Net<Listener = std::net::TcpListener, Stream = std::net::TcpStream>>(
-    rt: &R,
-    alloc: Global,
-    wanted: &[Socket],
-) -> Result<Vec<Listener>, BindFault> {
+fn bind_all<
+    R: Files<File = File> + Net<Listener = std::net::TcpListener, Stream = std::net::TcpStream>,
+>(rt: &R, alloc: Global, wanted: &[Socket]) -> Result<Vec<Listener>, BindFault> {
     let mut listeners = Vec::new(alloc);
     let mut answer = Ok(());
     for socket in wanted {
@@ -417,12 +407,9 @@ fn bind_all<R: Files + Net<Listener = std::net::TcpListener, Stream = std::net::
 }
 
 // Binds one more.
-fn bind_next<R: Files + Net<Listener = std::net::TcpListener, Stream = std::net::TcpStream>>(
-    rt: &R,
-    alloc: Global,
-    wanted: &Socket,
-    listeners: &mut Vec<Listener>,
-) -> io::Result<()> {
+fn bind_next<
+    R: Files<File = File> + Net<Listener = std::net::TcpListener, Stream = std::net::TcpStream>,
+>(rt: &R, alloc: Global, wanted: &Socket, listeners: &mut Vec<Listener>) -> io::Result<()> {
     if listeners.reserve(1).is_err() {
         return Err(io::Error::from(ErrorKind::OutOfMemory));
     }

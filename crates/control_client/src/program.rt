@@ -6,13 +6,14 @@ use crate::session::Session;
 use crate::settings::{SettingFault, Settings, settings_of};
 use ctl_protocol::{LoadRequest, Request};
 use exit_status::{NO_MEMORY, USAGE};
+use files_and_process::own_process::MARK;
 use files_and_process::path_files::{Found, Kind, files_at};
 use history_model::{Ask, KeyName, Reason, Refusal, Text, TextRef};
 use launchctl_words::{Command, Paths, WordFault, Words, explain, read_words, read_words_beside};
 use plain_text::plain;
 use std::alloc::Global;
 use std::fs::{Files, metadata};
-use std::io::{self, IsTerminal};
+use std::io::{self, ErrorKind, IsTerminal};
 use std::net::Net;
 use std::rt::Env;
 
@@ -105,6 +106,8 @@ fn task_of(command: &Command) -> Task<'_> {
 ///
 /// Of the environment, `JOBD_SOCKET` is the control socket if the words name none, and `JOBCTL_TIMEOUT` the seconds for which
 /// an answer is waited (30 if absent, 0 for ever); after them the status is 69. One that can't be read: 64.
+///
+/// A word that was not UTF-8 has a [`MARK`] at its end. One that names a file to load or to unload is that file's fault, any other is no command: 64.
 pub fn jobctl<R: Net + Files + Env + Print + Eprint + Watched + AllocGlobal + Clone + Drop>(
     rt: &R,
     alloc: Global,
@@ -119,6 +122,11 @@ pub fn jobctl<R: Net + Files + Env + Print + Eprint + Watched + AllocGlobal + Cl
     let meant = read_by(alloc, &settings, words);
     drop(settings);
     match meant {
+        Ok(Words { socket, command }) if has_more_marks(words, &command) => {
+            drop(socket);
+            drop(command);
+            refuse_mark(rt)
+        }
         Ok(Words { socket, command }) => {
             let is_unnamed = !has_named
                 && socket.as_str() == SOCKET
@@ -133,9 +141,39 @@ pub fn jobctl<R: Net + Files + Env + Print + Eprint + Watched + AllocGlobal + Cl
             drop(session);
             status
         }
+        Err(WordFault::Usage) if marks_of(words) > 0 => refuse_mark(rt),
         Err(WordFault::Usage) => explain_words(rt, alloc, words),
         Err(WordFault::NoMemory) => want_memory(rt),
     }
+}
+
+// How many of the words are not UTF-8, the program's own name left out.
+fn marks_of(words: &[String]) -> usize {
+    let mut count = 0usize;
+    for word in words.iter().skip(1) {
+        if word.as_str().ends_with(MARK) {
+            count = count.saturating_add(1);
+        }
+    }
+    count
+}
+
+// Whether a word is not UTF-8 that names no file to load or to unload.
+fn has_more_marks(words: &[String], command: &Command) -> bool {
+    let mut left = marks_of(words);
+    if let Command::Load { paths, .. } | Command::Unload { paths, .. } = command {
+        for path in paths.as_slice() {
+            if path.as_str().ends_with(MARK) {
+                left = left.saturating_sub(1);
+            }
+        }
+    }
+    left > 0
+}
+
+fn refuse_mark<R: Eprint>(rt: &R) -> u8 {
+    let _written = eprintln!(rt; "jobctl: a word is not UTF-8");
+    USAGE
 }
 
 // What the words mean beside the environment's socket, if it names one.
@@ -217,6 +255,10 @@ fn hand_in_one<R: Net + Files + Print + Eprint + Watched>(
     let shown = plain(alloc, path)?;
     let name = shown.as_str();
     match file.kind {
+        Kind::Unlisted(ErrorKind::InvalidFilename) => {
+            let error = io::Error::new(ErrorKind::InvalidFilename, "its name is not UTF-8");
+            return Err(Fault::File(error));
+        }
         Kind::Unlisted(kind) => return Err(Fault::File(io::Error::from(kind))),
         Kind::Empty => {
             let _written = eprintln!(rt;

@@ -2,23 +2,42 @@
 
 use crate::fault::Fault;
 use ctl_protocol::{LINE_LIMIT, Outside, Request, event_line, request_line};
-use files_and_process::path_files::read_front;
+use files_and_process::path_files::{read_file, read_front};
 use history_model::Text;
 use job_defs::{DefFault, read_def};
 use std::alloc::Global;
 use std::fs::Files;
+use std::io;
 
-/// The text of the file. A fault: it can't be read, is too long for a line, or is not UTF-8.
+/// What a process has open already: the user named it, and it is waited for.
+const STREAMS: [&str; 3] = ["/dev/stdin", "/dev/fd/", "/proc/self/fd/"];
+
+/// The text of the file. A fault: it can't be read, is no plain file, is too long for a line, or is not UTF-8. Only plain files are opened, since others
+/// may wait, but for this process's own streams.
 pub(crate) fn text_at<R: Files>(rt: &R, alloc: Global, path: &str) -> Result<Text, Fault> {
-    let mut bytes = Vec::new(alloc);
-    match read_front(rt, path, LINE_LIMIT, &mut bytes) {
-        Ok(()) if bytes.len() <= LINE_LIMIT => match String::from_utf8(bytes) {
+    let read = if STREAMS.iter().any(|front| path.starts_with(*front)) {
+        read_stream(rt, alloc, path)
+    } else {
+        read_file(rt, alloc, path, LINE_LIMIT)
+    };
+    match read {
+        Ok(Some(bytes)) => match String::from_utf8(bytes) {
             Ok(text) => Ok(Text::new(text)),
             Err(_) => Err(Fault::NotText),
         },
-        Ok(()) => Err(Fault::TooLong),
+        Ok(None) => Err(Fault::TooLong),
         Err(error) => Err(Fault::of_file(error)),
     }
+}
+
+fn read_stream<R: Files>(rt: &R, alloc: Global, path: &str) -> io::Result<Option<Vec<u8>>> {
+    let mut bytes = Vec::new(alloc);
+    read_front(rt, path, LINE_LIMIT, &mut bytes)?;
+    Ok(if bytes.len() <= LINE_LIMIT {
+        Some(bytes)
+    } else {
+        None
+    })
 }
 
 /// The label of the definition that the text is. A fault: it is none.

@@ -356,7 +356,7 @@ impl ControlSocket {
         if let Ok(false) = self.lock.is_at_its_path(rt) {
             self.lock_again(rt)?;
         }
-        let (mut listener, mark) = match socket_file::bind(rt, self.path.as_str()) {
+        let (mut listener, mark) = match socket_file::bind(rt, self.alloc, self.path.as_str()) {
             Ok(bound) => bound,
             Err(error) => return Err(error),
         };
@@ -780,7 +780,7 @@ fn bind<R: Files<File = File> + Net>(
         Ok(lock) => lock,
         Err(error) => return Err(error),
     };
-    match socket_file::bind(rt, path) {
+    match socket_file::bind(rt, alloc, path) {
         Ok((listener, mark)) => Ok((lock, listener, mark)),
         Err(error) => {
             lock.remove(rt);

@@ -6,6 +6,8 @@ mod lock;
 mod private;
 
 pub use appended::open_appended;
+pub(crate) use folder::check_data;
 pub use folder::check_folder;
 pub use lock::LockFile;
+pub(crate) use lock::lock_file;
 pub use private::make_private;

@@ -15,6 +15,7 @@ mod refusal;
 mod reporting;
 mod spool;
 mod standing;
+mod status_file;
 mod store;
 mod zone;
 

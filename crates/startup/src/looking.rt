@@ -1,6 +1,6 @@
 //! Whether a file is a store of overrides, found out without a write: a copy of it in memory is looked at.
 
-use crate::connections::{Media, Task, over_files};
+use crate::connections::{Media, MediaConnection, Task, connection_over, over_files};
 use crate::medium::Medium;
 use crate::overrides::read_settings;
 use crate::refusal::StoreRefusal;
@@ -33,18 +33,48 @@ pub(crate) fn look<R: AllocGlobal + fs::Files<File = File>>(
     alloc: Global,
     path: &str,
 ) -> Result<Found, StoreRefusal> {
-    let read = match fs::canonicalize(rt, path) {
-        Ok(real) => read_both(rt, alloc, real.as_str()),
-        Err(error) => return Err(StoreRefusal::System("store", error)),
-    };
-    match read {
+    match read_both(rt, alloc, path) {
         Ok((file, log)) => look_in(alloc, file, log),
         Err(refusal) => Err(refusal),
     }
 }
 
-// The bytes of the file, and those of its log.
-fn read_both<R: fs::Files<File = File>>(
+/// A connection to a copy in memory of the database in the plain file at the path, with the log beside it.
+pub(crate) fn copied_connection<R: AllocGlobal + fs::Files<File = File>>(
+    rt: &R,
+    alloc: Global,
+    path: &str,
+) -> Result<MediaConnection, StoreRefusal> {
+    let files = match read_both(rt, alloc, path) {
+        Ok((file, log)) => copies(alloc, file, log),
+        Err(refusal) => return Err(refusal),
+    };
+    match files {
+        Ok(files) => connection_over(alloc, files, copied_options()),
+        Err(error) => Err(StoreRefusal::System("store", error)),
+    }
+}
+
+fn copied_options() -> Options {
+    Options {
+        cache_pages: CACHE_PAGES,
+        ..Options::new(0)
+    }
+}
+
+// The bytes of the file that the path leads to, and those of its log.
+fn read_both<R: AllocGlobal + fs::Files<File = File>>(
+    rt: &R,
+    alloc: Global,
+    path: &str,
+) -> Result<(Vec<u8>, Vec<u8>), StoreRefusal> {
+    match fs::canonicalize(rt, path) {
+        Ok(real) => read_real(rt, alloc, real.as_str()),
+        Err(error) => Err(StoreRefusal::System("store", error)),
+    }
+}
+
+fn read_real<R: fs::Files<File = File>>(
     rt: &R,
     alloc: Global,
     real: &str,
@@ -70,11 +100,7 @@ fn look_in(alloc: Global, file: Vec<u8>, log: Vec<u8>) -> Result<Found, StoreRef
         Ok(files) => files,
         Err(error) => return Err(StoreRefusal::System("store", error)),
     };
-    let options = Options {
-        cache_pages: CACHE_PAGES,
-        ..Options::new(0)
-    };
-    match over_files(alloc, files, options, LookThrough { alloc }) {
+    match over_files(alloc, files, copied_options(), LookThrough { alloc }) {
         Ok(found) => Ok(found),
         Err((refusal, LookThrough { alloc: _ })) => Err(refusal),
     }

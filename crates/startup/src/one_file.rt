@@ -1,5 +1,6 @@
 //! Whether two places of a start are one file, told by device and inode. A journal is emptied, the files of locks are removed at the
-//! end and a spool is cleared, so none of these files may be another place's.
+//! end and a spool is cleared, so none of these files may be another place's. What is put in the place of the status file is told by its path
+//! too (`status_file`), since it may not be there yet.
 
 use crate::plan::{Places, Plan};
 use std::alloc::Global;
@@ -8,7 +9,7 @@ use std::os::unix::fs::MetadataExt;
 use std::{fs, io};
 
 /// What SQLite puts behind a store's path: the names of its log, of its rollback journal and of its index of the log.
-const BESIDE_STORE: [&str; 3] = ["-wal", "-journal", "-shm"];
+pub(crate) const BESIDE_STORE: [&str; 3] = ["-wal", "-journal", "-shm"];
 
 /// Which file one is: the number of its device, and that of the file on it.
 #[derive(Clone, Copy)]
@@ -25,10 +26,14 @@ impl FileMark {
         }
     }
 
+    pub(crate) fn is(self, other: FileMark) -> bool {
+        self.device == other.device && self.inode == other.inode
+    }
+
     /// Whether the file is at the path, or a link that leads to it. If the system does not tell what is there, it is not.
     pub(crate) fn is_at<R: Files>(self, rt: &R, path: &str) -> bool {
         match fs::metadata(rt, path) {
-            Ok(data) => self.device == data.dev() && self.inode == data.ino(),
+            Ok(data) => self.is(FileMark::of(&data)),
             Err(_) => false,
         }
     }
@@ -122,7 +127,7 @@ fn is_request<R: AllocGlobal + Files>(
     Ok(own.is_at(rt, path.as_str()))
 }
 
-fn name_of(path: &str) -> &str {
+pub(crate) fn name_of(path: &str) -> &str {
     match path.rsplit_once('/') {
         Some((_, name)) => name,
         None => path,

@@ -2,6 +2,7 @@
 //! process.
 
 use crate::reporting::{Level, refuse, report};
+use crate::status_file::check_status_file;
 use exit_status::{CLOCK_OR_WAITING, NO_MEMORY};
 use files_and_process::own_process::{Standing, open_null_streams};
 use history_model::Text;
@@ -38,7 +39,8 @@ pub struct Plan {
     _null_streams: Vec<File>,
 }
 
-/// What is read before anything is opened. Status 1 for want of memory, 9 if the null device can't be opened.
+/// What is read before anything is opened. Status 1 for want of memory, 9 if the null device can't be opened; that of another place if the
+/// status file that the environment names is that place's file.
 pub fn plan_of<R: AllocGlobal + Env + Eprint + Files<File = File>>(
     rt: &R,
     alloc: Global,
@@ -48,12 +50,19 @@ pub fn plan_of<R: AllocGlobal + Env + Eprint + Files<File = File>>(
         return Err(NO_MEMORY);
     };
     match open_null_streams(rt, alloc) {
-        Ok(held) => Ok(Plan {
-            places,
-            wishes,
-            standing: Standing::read(rt),
-            _null_streams: held,
-        }),
+        Ok(held) => match check_status_file(rt, alloc, &places, wishes.level) {
+            Ok(()) => Ok(Plan {
+                places,
+                wishes,
+                standing: Standing::read(rt),
+                _null_streams: held,
+            }),
+            Err(status) => {
+                drop(places);
+                drop(held);
+                Err(status)
+            }
+        },
         Err(error) => {
             let (part, path) = ("null device", "/dev/null");
             Err(refuse(rt, wishes.level, CLOCK_OR_WAITING, part, path, &error))

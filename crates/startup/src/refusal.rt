@@ -22,6 +22,23 @@ pub(crate) enum StoreRefusal {
     Settings(StoreFault),
 }
 
+impl StoreRefusal {
+    /// Whether its disk had no room.
+    pub(crate) fn is_full(&self) -> bool {
+        match self {
+            StoreRefusal::Settings(StoreFault::Full)
+            | StoreRefusal::Database(Error::SqliteFailure(ErrorCode::DiskFull)) => true,
+            StoreRefusal::System(_, error) | StoreRefusal::Files(OpenError::Io(error)) => {
+                matches!(
+                    error.kind(),
+                    io::ErrorKind::StorageFull | io::ErrorKind::QuotaExceeded
+                )
+            }
+            _ => false,
+        }
+    }
+}
+
 /// The status of the refusal, which is told unless memory was wanting.
 pub(crate) fn refuse_store(
     rt: &impl Eprint,

@@ -1,7 +1,7 @@
 //! The store of a launcher: opened, served from, and settled once the launcher has let go of it.
 
 use crate::connections::{Media, MediaConnection, Task, connection_over, over_files};
-use crate::looking::{Found, look};
+use crate::looking::{Found, copied_connection, look};
 use crate::medium::Medium;
 use crate::one_file::taken_for_store;
 use crate::plan::Plan;
@@ -32,9 +32,10 @@ pub trait StoreUser {
 /// Opens the store at the path, which is made, for this user alone, if it is not there, and has it used. A setting that its disk refuses
 /// shuts it, and the next one opens it anew. At the end it is opened once more, and what its files have otherwise than it was told is
 /// written again, which is told; then what the log beside it holds is moved into its file. That this is refused is told, unless another
-/// launcher has the store by then. Status 5, with the user given back, if it is no store or can't be opened, as while another launcher
-/// has it open, if its tables or its settings are refused, or if its file is the lock of another place or one that the clearing of the
-/// spool may remove.
+/// launcher has the store by then. A store whose disk is full, so that it can't be opened, is used shut, if a copy of it in memory can be read: its
+/// settings hold, and the next setting opens it. That is told. Status 5, with the user given back, if it is no store or can't be opened otherwise, as
+/// while another launcher has it open, if its tables or its settings are refused, or if its file is the lock of another place or one that the
+/// clearing of the spool may remove.
 pub fn with_store<U: StoreUser>(
     rt: &HostRuntime,
     alloc: Global,
@@ -42,31 +43,58 @@ pub fn with_store<U: StoreUser>(
     user: U,
 ) -> Result<u8, (u8, U)> {
     let (path, level) = (plan.places.store.as_str(), plan.wishes.level);
-    if let Err(refusal) = look_at_own(rt, alloc, plan) {
-        return Err((refuse_store(rt, level, path, refusal), user));
-    }
     let place = StoreFiles { rt, level, path };
-    match connection_at(rt, path) {
-        Ok(conn) => used_over(alloc, place, conn, user),
-        Err(refusal) => Err((refuse_store(rt, level, path, refusal), user)),
+    let found = match look_at_own(rt, alloc, plan) {
+        Ok(found) => found,
+        Err(refusal) => return Err((refuse_store(rt, level, path, refusal), user)),
+    };
+    let (refusal, user) = match used_over(alloc, &place, Source::Files, user) {
+        Ok(status) => return Ok(status),
+        Err(both) => both,
+    };
+    let status = refuse_store(rt, level, path, refusal);
+    if !matches!(found, Found::Store) || !refusal.is_full() {
+        return Err((status, user));
     }
+    let why = "it stays shut: its settings hold, and no other is taken until it can be opened";
+    report(rt, level, "store", path, &why);
+    match used_over(alloc, &place, Source::Copy, user) {
+        Ok(status) => Ok(status),
+        Err((refusal, user)) => Err((refuse_store(rt, level, path, refusal), user)),
+    }
+}
+
+/// What a store is opened from: its files, or a copy of them in memory, and then it is shut.
+#[derive(Clone, Copy)]
+enum Source {
+    Files,
+    Copy,
 }
 
 fn used_over<U: StoreUser>(
     alloc: Global,
-    place: StoreFiles<'_>,
-    conn: MediaConnection,
+    place: &StoreFiles<'_>,
+    source: Source,
     user: U,
-) -> Result<u8, (u8, U)> {
-    let StoreFiles { rt, level, path } = place;
-    match settings_of(alloc, StoreFiles { rt, level, path }, conn) {
+) -> Result<u8, (StoreRefusal, U)> {
+    let place = StoreFiles {
+        rt: place.rt,
+        level: place.level,
+        path: place.path,
+    };
+    let opened = match source {
+        Source::Files => connection_at(place.rt, place.path),
+        Source::Copy => copied_connection(place.rt, alloc, place.path),
+    };
+    let conn = match opened {
+        Ok(conn) => conn,
+        Err(refusal) => return Err((refusal, user)),
+    };
+    match settings_of(alloc, place, conn, source) {
         Ok((store, settings)) => match user.use_store(store, settings) {
             Ok(status) | Err(status) => Ok(status),
         },
-        Err(fault) => {
-            let refusal = StoreRefusal::Settings(fault);
-            Err((refuse_store(rt, level, path, refusal), user))
-        }
+        Err(fault) => Err((StoreRefusal::Settings(fault), user)),
     }
 }
 
@@ -75,9 +103,15 @@ fn settings_of<S: Alter + Drop, P: StorePlace<Connection<S>> + Drop>(
     alloc: Global,
     place: P,
     conn: Connection<S>,
+    source: Source,
 ) -> Result<(LastingSettings<S, P>, Vec<Setting>), StoreFault> {
     match lasting(alloc, place, conn) {
-        Ok(both) => Ok(both),
+        Ok((mut store, settings)) => {
+            if let Source::Copy = source {
+                drop(store.store.take());
+            }
+            Ok((store, settings))
+        }
         Err((fault, store)) => {
             drop(store);
             Err(fault)

@@ -4,17 +4,17 @@ use crate::reporting::{Level, refuse, report};
 use calendar_due::{Zone, ZoneFault};
 use ctl_protocol::{ZoneFile, ZoneText};
 use exit_status::{NO_MEMORY, ZONE};
+use files_and_process::path_files::read_file;
 use history_model::Text;
 use launchctl_words::ZoneWords;
 use std::alloc::Global;
 use std::fs::{File, Files};
-use std::io;
-use std::io::Read;
 
 /// A zone file has at most so many bytes.
 const MOST_BYTES: u64 = 65_536;
 
-/// The zone of calendar entries. Status 7 for a rule or a file that tells no zone, and for a file that can't be read.
+/// The zone of calendar entries. Status 7 for a rule or a file that tells no zone, and for a file that can't be read or is no plain file: it waits
+/// at no FIFO.
 pub fn zone_of<R: Files<File = File> + Eprint>(
     rt: &R,
     alloc: Global,
@@ -45,22 +45,15 @@ fn by_rule(rt: &impl Eprint, level: Level, rule: Text) -> Result<ZoneText, u8> {
     }
 }
 
-/// The bytes of a file, but of a long one only the first 65,537.
-fn bytes_of<R: Files<File = File>>(rt: &R, alloc: Global, path: &str) -> io::Result<Vec<u8>> {
-    let mut bytes = Vec::new(alloc);
-    let file = File::open(rt, path)?;
-    file.take(MOST_BYTES + 1).read_to_end(&mut bytes)?;
-    Ok(bytes)
-}
-
 fn by_file<R: Files<File = File> + Eprint>(
     rt: &R,
     alloc: Global,
     level: Level,
     path: &str,
 ) -> Result<ZoneText, u8> {
-    match bytes_of(rt, alloc, path) {
-        Ok(bytes) => by_bytes(rt, alloc, level, path, bytes),
+    match read_file(rt, alloc, path, MOST_BYTES as usize) {
+        Ok(Some(bytes)) => by_bytes(rt, alloc, level, path, bytes),
+        Ok(None) => Err(bad_file(rt, level, path)),
         Err(error) => Err(refuse(rt, level, ZONE, "zone file", path, &error)),
     }
 }
@@ -75,15 +68,12 @@ fn by_bytes(
     match Zone::tzif(alloc, bytes.as_slice()) {
         Ok(_) => Ok(ZoneText::File(ZoneFile::new(bytes))),
         Err(ZoneFault::NoMemory) => Err(NO_MEMORY),
-        Err(ZoneFault::BadZone) => {
-            report(
-                rt,
-                level,
-                "zone file",
-                path,
-                &"no zone file of at most 65536 bytes",
-            );
-            Err(ZONE)
-        }
+        Err(ZoneFault::BadZone) => Err(bad_file(rt, level, path)),
     }
+}
+
+fn bad_file(rt: &impl Eprint, level: Level, path: &str) -> u8 {
+    let why = "no zone file of at most 65536 bytes";
+    report(rt, level, "zone file", path, &why);
+    ZONE
 }

@@ -1,6 +1,6 @@
 //! A file that is written at its end, by its holder alone.
 
-use super::lock::{lock, no_plain_file};
+use super::lock::{lock_file, no_plain_file};
 use std::fs::{File, Files, OpenOptions};
 use std::io::ErrorKind;
 use std::os::unix::fs::OpenOptionsExt;
@@ -37,5 +37,5 @@ fn take(file: &File) -> io::Result<()> {
     if !file.metadata()?.is_file() {
         return Err(no_plain_file());
     }
-    lock(file)
+    lock_file(file)
 }

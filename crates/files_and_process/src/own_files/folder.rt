@@ -1,6 +1,6 @@
 //! Whether a folder is safe for files that nobody else may put there.
 
-use std::fs::Files;
+use std::fs::{Files, Metadata};
 use std::io::{Error, ErrorKind};
 use std::os::unix::fs::MetadataExt;
 use std::{fs, io};
@@ -12,6 +12,11 @@ const OTHERS_WRITE: u32 = 0o022;
 /// number is known, or root's. `InvalidInput`: it is refused. Any other error is that of the system's call.
 pub fn check_folder<R: Files>(rt: &R, folder: &str, user: Option<u32>) -> io::Result<()> {
     let data = fs::metadata(rt, folder)?;
+    check_data(&data, user)
+}
+
+/// The same of a folder of which the system says this.
+pub(crate) fn check_data(data: &Metadata, user: Option<u32>) -> io::Result<()> {
     let owner = data.uid();
     let is_own = owner == 0 || user.is_none_or(|user| user == owner);
     if !data.is_dir() {

@@ -22,7 +22,7 @@ impl LockFile {
     pub fn take<R: Files<File = File>>(rt: &R, path: String) -> io::Result<LockFile> {
         for _ in 0..TRIES {
             if let Some(file) = open(rt, path.as_str())? {
-                lock(&file)?;
+                lock_file(&file)?;
                 if is_at(rt, path.as_str(), &file)? {
                     return Ok(LockFile { file, path });
                 }
@@ -46,7 +46,7 @@ impl LockFile {
 }
 
 /// Locks the file, without waiting. `ResourceBusy`: another process holds a lock on it.
-pub(crate) fn lock(file: &File) -> io::Result<()> {
+pub(crate) fn lock_file(file: &File) -> io::Result<()> {
     match file.try_lock() {
         Ok(()) => Ok(()),
         Err(TryLockError::WouldBlock) => Err(busy()),

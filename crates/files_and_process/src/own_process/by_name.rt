@@ -1,7 +1,7 @@
 //! Which of the programs runs: they are one file, which acts by the name that it was started under.
 
 use super::program::{Program, program_of};
-use super::words::{own_program, own_words};
+use super::words::{marked_words, own_program, own_words};
 use exit_status::{NO_MEMORY, USAGE};
 use std::io;
 use std::sync::Wait;
@@ -20,7 +20,7 @@ pub trait Programs {
 }
 
 /// Does as the program that the name of this process means, by the words that it was started with, and gives the exit status. Words
-/// that are not all UTF-8 are no command. Both `host` and `waits` are the runtime of `main`: only what takes it as `waits` may wait.
+/// that are not all UTF-8 are no command, but for `jobctl`, which gets them marked (`marked_words`). Both `host` and `waits` are the runtime of `main`: only what takes it as `waits` may wait.
 pub fn run_by_name<L: Wait, P: Programs>(host: &HostRuntime, waits: &L, programs: &P) -> u8 {
     match own_words(host) {
         Ok(words) => match program_of(words.as_slice()) {
@@ -29,18 +29,21 @@ pub fn run_by_name<L: Wait, P: Programs>(host: &HostRuntime, waits: &L, programs
             Program::Jobscope => programs.jobscope(host, waits, words.as_slice()),
             Program::LookOut => programs.look_out(host),
         },
-        Err(fault) => refuse(host, &fault),
+        Err(fault) => refuse(host, programs, &fault),
     }
 }
 
 // For want of memory nothing is told.
-fn refuse(host: &HostRuntime, fault: &io::Error) -> u8 {
+fn refuse<P: Programs>(host: &HostRuntime, programs: &P, fault: &io::Error) -> u8 {
     if fault.kind() == io::ErrorKind::OutOfMemory {
         return NO_MEMORY;
     }
     let _written = match own_program(host) {
         Ok(Program::Jobd) => eprintln!(host; "jobd: a word is not UTF-8"),
-        Ok(Program::Jobctl) => eprintln!(host; "jobctl: {fault}"),
+        Ok(Program::Jobctl) => match marked_words(host) {
+            Ok(words) => return programs.jobctl(host, words.as_slice()),
+            Err(_) => return NO_MEMORY,
+        },
         Ok(Program::Jobscope) => eprintln!(host; "jobscope: {fault}"),
         Ok(Program::LookOut) => return USAGE,
         Err(_) => return NO_MEMORY,

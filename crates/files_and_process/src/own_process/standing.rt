@@ -1,7 +1,12 @@
 //! The limits, the user and the ignored signals of this process, as Linux tells them in its folder `/proc/self`.
 
-use std::fs;
+use crate::path_files::read_front;
+use std::alloc::Global;
 use std::fs::Files;
+use std::{fs, str};
+
+/// No text that the system has of a process is as long.
+const MOST: usize = 65_536;
 
 /// A signal that a process may be started with as ignored.
 #[derive(Clone, Copy)]
@@ -50,6 +55,13 @@ impl Standing {
     pub fn ignores(&self, signal: Signal) -> bool {
         self.ignored & bit_of(signal) != 0
     }
+}
+
+/// The number of the user whose rights this process has, as `/proc/self/status` says it, if that can be read.
+pub(crate) fn own_user<R: Files>(rt: &R, alloc: Global) -> Option<u32> {
+    let mut bytes = Vec::new(alloc);
+    read_front(rt, "/proc/self/status", MOST, &mut bytes).ok()?;
+    user_in(str::from_utf8(bytes.as_slice()).ok()?)
 }
 
 fn bit_of(signal: Signal) -> u64 {

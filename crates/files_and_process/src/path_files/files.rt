@@ -1,9 +1,10 @@
 //! The files that paths stand for.
 
+use crate::own_process::{MARK, marked};
 use history_model::Text;
 use std::alloc::{AllocError, Global};
 use std::fs::Files;
-use std::io::ErrorKind;
+use std::io::{ErrorKind, Read};
 use std::{fs, io};
 
 /// What stands at a path.
@@ -11,7 +12,7 @@ use std::{fs, io};
 pub enum Kind {
     /// A file that may be a definition.
     File,
-    /// A folder that can't be listed, with the reason.
+    /// A folder that can't be listed, with the reason; or, with `InvalidFilename`, a file whose name is not UTF-8: the path shows what of it is.
     Unlisted(ErrorKind),
     /// A folder without a file that may be a definition.
     Empty,
@@ -26,17 +27,14 @@ pub struct Found {
 
 /// The files that the paths stand for, in their order. A folder stands for its files whose names end in `.plist` or `.json`,
 /// in byte order of names, and not for its folders; behind them stands what of it can't be listed, or the folder if it has
-/// none of them. Any other path stands for itself. `AllocError` if memory ran out.
-pub fn files_at<R: Files + AllocGlobal + Clone + Drop>(
-    rt: &R,
-    paths: &[Text],
-) -> Result<Vec<Found>, AllocError> {
+/// none of them. Any other path stands for itself; one that `marked_words` marked is no file's. `AllocError` if memory ran out.
+pub fn files_at<R: Files + AllocGlobal>(rt: &R, paths: &[Text]) -> Result<Vec<Found>, AllocError> {
     let mut found = Vec::new(rt.alloc());
     for path in paths {
         if is_folder(rt, path.as_str()) {
             add_folder(rt, path.as_str(), &mut found)?;
         } else {
-            add(rt.alloc(), path.as_str(), Kind::File, &mut found)?;
+            add_file(rt.alloc(), path.as_str(), &mut found)?;
         }
     }
     Ok(found)
@@ -55,7 +53,19 @@ fn add(alloc: Global, path: &str, kind: Kind, found: &mut Vec<Found>) -> Result<
     Ok(())
 }
 
-fn add_folder<R: Files + AllocGlobal + Clone + Drop>(
+fn add_file(alloc: Global, path: &str, found: &mut Vec<Found>) -> Result<(), AllocError> {
+    match path.strip_suffix(MARK) {
+        Some(shown) => add(
+            alloc,
+            shown,
+            Kind::Unlisted(ErrorKind::InvalidFilename),
+            found,
+        ),
+        None => add(alloc, path, Kind::File, found),
+    }
+}
+
+fn add_folder<R: Files + AllocGlobal>(
     rt: &R,
     folder: &str,
     found: &mut Vec<Found>,
@@ -64,7 +74,7 @@ fn add_folder<R: Files + AllocGlobal + Clone + Drop>(
     let listed = list(rt, folder, &mut names);
     names.sort()?;
     for name in names.iter() {
-        add(rt.alloc(), name.as_str(), Kind::File, found)?;
+        add_file(rt.alloc(), name.as_str(), found)?;
     }
     match listed {
         Ok(()) if names.is_empty() => add(rt.alloc(), folder, Kind::Empty, found),
@@ -73,22 +83,37 @@ fn add_folder<R: Files + AllocGlobal + Clone + Drop>(
     }
 }
 
-// Adds the paths of the folder's definitions, as far as it can be listed.
-fn list<R: Files + AllocGlobal + Clone + Drop>(
-    rt: &R,
-    folder: &str,
-    names: &mut Vec<String>,
-) -> io::Result<()> {
-    for entry in fs::read_dir(rt, folder)? {
-        let entry = entry?;
-        let path = entry.path().as_str();
-        if is_named_so(path) && !is_folder(rt, path) {
-            names.push(String::from_str(rt.alloc(), path)?)?;
+// Adds the paths of the folder's definitions, as far as it can be listed. A name that is not UTF-8 is marked.
+fn list<R: Files + AllocGlobal>(rt: &R, folder: &str, names: &mut Vec<String>) -> io::Result<()> {
+    let end = if folder.ends_with('/') { "" } else { "/" };
+    let front = format!(in rt.alloc(); "{folder}{end}")?;
+    let mut listing = rt.open_dir(front.as_str())?;
+    let mut bytes = Vec::new(rt.alloc());
+    let listed = listing.read_to_end(&mut bytes);
+    drop(listing);
+    for name in bytes.as_slice().split(|byte| *byte == 0) {
+        let is_wanted = name.ends_with(b".plist") || name.ends_with(b".json");
+        if is_wanted {
+            add_name(rt, front.as_str(), name, names)?;
         }
     }
-    Ok(())
+    match listed {
+        Ok(_) => Ok(()),
+        Err(error) => Err(error),
+    }
 }
 
-fn is_named_so(path: &str) -> bool {
-    path.ends_with(".plist") || path.ends_with(".json")
+fn add_name<R: Files + AllocGlobal>(
+    rt: &R,
+    front: &str,
+    name: &[u8],
+    names: &mut Vec<String>,
+) -> Result<(), AllocError> {
+    let name = marked(rt.alloc(), name)?;
+    let path = format!(in rt.alloc(); "{front}{}", name.as_str())?;
+    if is_folder(rt, path.as_str()) {
+        return Ok(());
+    }
+    names.push(path)?;
+    Ok(())
 }

@@ -20,8 +20,9 @@ pub fn read_front<R: Files>(
     Ok(())
 }
 
-/// The bytes of a plain file; `None` if they are more than `limit`. InvalidInput for what is no plain file: it is not opened,
-/// so that nothing waits at a FIFO.
+/// The bytes of a plain file, as many as it had when it was looked at; `None` if they are more than `limit`. InvalidInput for what is no
+/// plain file: it is not opened, so that nothing waits at a FIFO. A file of the kernel that says it is empty, as `/proc/kmsg`, whose reads
+/// wait, is empty.
 pub fn read_file<R: Files>(
     rt: &R,
     alloc: Global,
@@ -30,10 +31,14 @@ pub fn read_file<R: Files>(
 ) -> io::Result<Option<Vec<u8>>>
     ensures { IfOk result (λ found. IfSome found (λ bytes. vec_len bytes ≤ limit)) }
 {
-    if !std::fs::metadata(rt, path)?.is_file() {
+    let data = std::fs::metadata(rt, path)?;
+    if !data.is_file() {
         return Err(io::Error::new(ErrorKind::InvalidInput, "no plain file"));
     }
     let mut bytes = Vec::new(alloc);
+    if data.len() == 0 {
+        return Ok(Some(bytes));
+    }
     read_front(rt, path, limit, &mut bytes)?;
     Ok(if bytes.len() <= limit {
         Some(bytes)
