@@ -52,6 +52,9 @@ pub trait RoundEdge: ChildEdge + SleepEdge + PathEdge + SocketEdge {
     /// As many clients there is room for now, beside the sockets of jobs.
     fn room(&self) -> usize;
 
+    /// Whether a further client of the job whose request is whole has to wait for a place.
+    fn must_wait(&mut self, job: JobNo) -> bool;
+
     /// Whether the job has the sockets of this bind still.
     fn listens_at(&self, origin: Origin) -> bool;
 
@@ -125,6 +128,10 @@ impl<R: System> RoundEdge for OsEdge<R> {
 
     fn room(&self) -> usize {
         OsEdge::room(self)
+    }
+
+    fn must_wait(&mut self, job: JobNo) -> bool {
+        OsEdge::must_wait(self, job)
     }
 
     fn listens_at(&self, origin: Origin) -> bool {

@@ -194,6 +194,10 @@ impl<E: RoundEdge, R: System> RoundEdge for StatusEdge<E, R> {
         self.edge.room()
     }
 
+    fn must_wait(&mut self, job: JobNo) -> bool {
+        self.edge.must_wait(job)
+    }
+
     fn listens_at(&self, origin: Origin) -> bool {
         self.edge.listens_at(origin)
     }
