@@ -128,6 +128,14 @@ impl<R: Processes> OsEdge<R> {
         self.notices.next()
     }
 
+    /// A request of a control client was answered: it was refused for want of memory, or not. The first such refusal is told, and the first
+    /// behind 1,000 other answers in a row. Takes no memory.
+    pub fn note_answer(&mut self, is_short: bool)
+        ensures { self.new ≡ self.old }
+    {
+        self.notices.answered(is_short);
+    }
+
     /// From now on each start, end, TERM and KILL of a run is told too. Takes no memory.
     pub fn log_runs(&mut self)
         ensures { self.new ≡ self.old }

@@ -164,7 +164,9 @@ impl<R: System> RoundEdge for OsEdge<R> {
         OsEdge::next_notice(self)
     }
 
-    fn note_reply(&mut self, _refusal: Option<Refusal>) {}
+    fn note_reply(&mut self, refusal: Option<Refusal>) {
+        OsEdge::note_answer(self, refusal == Some(Refusal::NoMemory));
+    }
 
     fn note_closing(&mut self) {}
 

@@ -237,6 +237,7 @@ impl<E: RoundEdge, R: System> RoundEdge for StatusEdge<E, R> {
     }
 
     fn note_reply(&mut self, refusal: Option<Refusal>) {
+        self.edge.note_reply(refusal);
         if let Some(keeper) = &mut self.keeper {
             keeper.replied(refusal);
         }
