@@ -64,25 +64,23 @@ def a_client_still_for_a_minute(stage):
 
 
 def clients_of_a_slow_job(stage):
-    """Many clients wait for a slow job: another job's client is served, as long as there is room for one, and those that were held
-    are answered in the end."""
+    """Many clients wait for a slow job: another job's client is served, as long as there is room for one, and all are answered in the end."""
     launcher = stage.serve(shell="ulimit -n 64")
     for label in ("slow", *"abcdefgh"):
         launcher.load(gated_job(stage, label))
     launcher.load(socket_job(stage, "quick", ["/bin/cat"]))
     clients = [begin(stage.at("slow"), b"%d" % number) for number in range(60)]
-    share = "jobd: slow: a client was let go: the job has its share of the connections"
-    wait_for(lambda: share in launcher.said().splitlines(), "no client of the slow job is let go")
+    wait_for(lambda: len(requests_in(stage)) == 3, lambda: f"of the slow job are held {requests_in(stage)}")
     got = call(stage.at("quick"), b"hello")
     check(got == b"hello", f"another job's client got {got!r} beside those of a slow one")
     others = [begin(stage.at(label), label.encode()) for label in "abcdefgh"]
-    wait_for(lambda: launcher.lines("connections are held"), "no client is let go where there is no room")
+    wait_for(lambda: len(requests_in(stage)) == 6, lambda: f"held are {requests_in(stage)}")
     make(stage.at("go"))
-    for name, held in (("slow", clients), ("other", others)):
-        got = [read_all(client) for client in held]
-        served = [number for number, text in enumerate(got) if text]
-        check(0 < len(served) < len(held), f"{len(served)} of {len(held)} clients of {name} jobs were served")
-    check(len(launcher.lines("its share")) == 1, f"it told {launcher.lines('its share')}")
+    got = [read_all(client) for client in clients]
+    check(got == [b"%d" % number for number in range(60)], f"those of the slow job got {got}")
+    got = [read_all(client) for client in others]
+    check(got == [label.encode() for label in "abcdefgh"], f"those of the others got {got}")
+    check(launcher.said() == "", f"it said {launcher.said()!r}")
     launcher.shut_down()
 
 

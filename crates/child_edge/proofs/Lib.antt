@@ -2,3 +2,4 @@ pub mod CallsLemmas
 mod RoomExamples
 mod VariableLemmas
 mod RepliesLemmas
+mod PlacesLemmas

@@ -2,6 +2,7 @@ pub mod Calls
 pub mod Command
 pub mod Listeners
 pub mod MemoryEdges
+pub mod Places
 pub mod Rooms
 pub mod Sights
 pub mod Replies

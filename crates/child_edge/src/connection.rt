@@ -1,8 +1,10 @@
 //! One connection of a job's socket, from the end of its request to the end of its reply.
 
-ghost use Rattle.std.specs.Prelude.{◌≡◌, ◌≤◌, drop, false, length, []};
+ghost use Rattle.std.specs.Prelude.{◌≡◌, ◌≤◌, ◌-◌, ◌/◌, drop, false, length, true, []};
 ghost use Rattle.socket_demand.specs.declared.exchange.TheConstants.{MAX_UNSENT};
+ghost use Rattle.std.specs.Time.{instant_nanos};
 ghost use Rattle.child_edge.specs.Replies.{Ends, Forwards, ForwardsIf, IsOpen, Rests, SendsPiece, WaitsIf, WaitsOrLost};
+ghost use Rattle.child_edge.specs.Places.{IsSpent};
 
 use crate::Client;
 use crate::notices::LetGo;
@@ -33,6 +35,16 @@ const PIECES: u32 = 16;
 /// After how many seconds a client is let go that takes nothing of its reply.
 const STILL: u64 = 60;
 
+/// After how many seconds a client that takes nothing of the reply of a run which is over may go for a further one.
+const PATIENCE: u64 = 5;
+
+/// The first and the last write of which the client took nothing, with none between them of which it took something.
+#[derive(Clone, Copy)]
+pub(crate) struct Refused {
+    pub(crate) first: Instant,
+    pub(crate) last: Instant,
+}
+
 /// A client, with the file to which its run writes the reply. The sending is over any client and any reply.
 pub(crate) struct Connection<C = Client, F = File> {
     pub(crate) client: C,
@@ -43,8 +55,8 @@ pub(crate) struct Connection<C = Client, F = File> {
     pub(crate) label: Option<Text>,
     // The run that it was served by has ended.
     pub(crate) is_over: bool,
-    // When the client took something last, or had nothing to take.
-    pub(crate) moved: Instant,
+    // What the client took nothing of, since it took something last.
+    pub(crate) refused: Option<Refused>,
 }
 
 // for the proof: who lets it go calls this, in place of letting each part go
@@ -57,8 +69,38 @@ impl<C: Drop, F: Drop> Drop for Connection<C, F> {
             reply: _,
             label: _,
             is_over: _,
-            moved: _,
+            refused: _,
         } = self;
+    }
+}
+
+impl Refused {
+    // For so many seconds it took nothing of what it was offered.
+    fn seconds(&self) -> u64
+        ensures { result ≡ (instant_nanos self.now.last - instant_nanos self.now.first) / 1_000_000_000 }
+    {
+        self.last.saturating_duration_since(self.first).as_secs()
+    }
+}
+
+impl<C, F> Connection<C, F> {
+    /// Whether the run that it was served by is over, and the client was offered the reply for 5 seconds and took nothing of it. Nobody else
+    /// may go for a further client.
+    pub(crate) fn is_spent(&self) -> bool
+        ensures { result ≡ true → IsSpent self.now }
+    {
+        match self.refused {
+            Some(refused) => self.is_over && refused.seconds() >= PATIENCE,
+            None => false,
+        }
+    }
+
+    /// Since when its client takes nothing, if it is spent.
+    pub(crate) fn spent_since(&self) -> Option<Instant> {
+        match self.refused {
+            Some(refused) if self.is_spent() => Some(refused.first),
+            _ => None,
+        }
     }
 }
 
@@ -87,28 +129,28 @@ impl<C: Write, F: Read> Connection<C, F> {
             ForwardsIf C.contents F.remaining result self.old self.new }
     {
         if self.exchange.to_send().is_empty() {
-            self.pass_on(now)
+            self.pass_on()
         } else {
             self.send_rest(now)
         }
     }
 
     // Sends the next piece of the reply, if there is one, and keeps what the client does not take. None: it may go on.
-    fn pass_on(&mut self, now: Instant) -> Option<Progress>
+    fn pass_on(&mut self) -> Option<Progress>
         requires { self.old.exchange.unsent ≡ [] }
         ensures { IsOpen self.old.exchange →
             ForwardsIf C.contents F.remaining result self.old self.new }
     {
         let mut piece = [0u8; MAX_UNSENT];
         match self.reply.read(&mut piece) {
-            Ok(0) => Some(self.end(now)),
-            Ok(count) => self.send_piece(&piece[..count], now),
+            Ok(0) => Some(self.end()),
+            Ok(count) => self.send_piece(&piece[..count]),
             Err(error) if error.kind() == ErrorKind::Interrupted => None,
             Err(error) => Some(Progress::Lost(LetGo::Read(error))),
         }
     }
 
-    fn send_piece(&mut self, piece: &[u8], now: Instant) -> Option<Progress>
+    fn send_piece(&mut self, piece: &[u8]) -> Option<Progress>
         requires nothing { self.old.exchange.unsent ≡ [] }
         requires short { length piece.now ≤ MAX_UNSENT }
         ensures reply { self.new.reply ≡ self.old.reply }
@@ -117,7 +159,7 @@ impl<C: Write, F: Read> Connection<C, F> {
     {
         match self.client.write(piece) {
             Ok(count) => {
-                self.moved = now;
+                self.refused = None;
                 keep_rest(&mut self.exchange, piece, count);
                 None
             }
@@ -149,7 +191,7 @@ impl<C: Write, F: Read> Connection<C, F> {
     {
         match self.client.write(self.exchange.to_send()) {
             Ok(count) => {
-                self.moved = now;
+                self.refused = None;
                 self.exchange.sent(count);
                 None
             }
@@ -160,18 +202,18 @@ impl<C: Write, F: Read> Connection<C, F> {
     }
 
     // The run has written no more yet, or nothing more comes.
-    fn end(&mut self, now: Instant) -> Progress
+    fn end(&mut self) -> Progress
         requires { self.old.exchange.unsent ≡ [] }
         ensures { Ends result self.old self.new }
     {
         if self.is_over {
             self.exchange.reply_end();
         }
-        self.rest(now)
+        self.rest()
     }
 
     // There is nothing to send now.
-    fn rest(&mut self, now: Instant) -> Progress
+    fn rest(&mut self) -> Progress
         ensures exchange { self.new.exchange ≡ self.old.exchange }
         ensures rests { Rests result self.old.exchange }
         ensures client { self.new.client ≡ self.old.client }
@@ -180,15 +222,24 @@ impl<C: Write, F: Read> Connection<C, F> {
         if self.exchange.done() {
             return Progress::Ended;
         }
-        self.moved = now;
+        self.refused = None;
         Progress::Waits
     }
 
-    // The client takes nothing now.
-    fn wait(&self, now: Instant) -> Progress
-        ensures { WaitsOrLost result }
+    // The client takes nothing now of what it is offered.
+    fn wait(&mut self, now: Instant) -> Progress
+        ensures either { WaitsOrLost result }
+        ensures exchange { self.new.exchange ≡ self.old.exchange }
+        ensures client { self.new.client ≡ self.old.client }
+        ensures reply { self.new.reply ≡ self.old.reply }
     {
-        if now.saturating_duration_since(self.moved).as_secs() >= STILL {
+        let first = match self.refused {
+            Some(refused) => refused.first,
+            None => now,
+        };
+        let refused = Refused { first, last: now };
+        self.refused = Some(refused);
+        if refused.seconds() >= STILL {
             Progress::Lost(LetGo::Still)
         } else {
             Progress::Waits

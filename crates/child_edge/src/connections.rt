@@ -1,12 +1,18 @@
 //! Connections of jobs' sockets, from the end of their request to the end of their reply.
 //!
 //! Three kinds are held: those that wait for their run, those whose run goes on, and those whose run is over and whose client
-//! has still to take what it wrote. Three bounds are kept. Of each job at most 64 of the third kind are held. Of all jobs together
-//! as many are held as there is room for, of all three kinds, since each of them takes two descriptors. Beyond these a connection of the
-//! third kind is let go: the one whose client has been still for longest. One whose run is still to come or goes on is never
-//! let go for another. So that clients who wait for one slow job leave room for those of others, a job has no more of the first
-//! two kinds than its share: fewer than there is room left beside those of all jobs. A job alone has half the room, two have a
-//! third each.
+//! has still to take what it wrote. One of the third kind is let go for a further client only if it is spent: its client was offered the reply
+//! for 5 seconds and took nothing of it. Of these the one goes that took nothing for longest. One whose run is still to come or goes on is never
+//! let go for another.
+//!
+//! Three bounds are kept, beyond which a further client has to wait until one is spent or gone. Of all jobs together as many are held as there
+//! is room for, since each of them takes two descriptors. Of each job 64 of the third kind are held. So that clients who wait for one slow job
+//! leave room for those of others, a job has no more of the first two kinds than its share: 64 at most, and fewer than there is room left beside
+//! those of all jobs. A job alone has half the room, two have a third each.
+
+ghost use Rattle.std.specs.Prelude.{◌≡◌, None, true};
+ghost use Rattle.std.specs.Option.{IsSomeAnd};
+ghost use Rattle.child_edge.specs.Places.{IsSpent, LetsGoSpent, TakesOne, held_at};
 
 use crate::Client;
 use crate::children::{Kept, RunKey};
@@ -20,7 +26,7 @@ use crate::spool::Spooled;
 use crate::start::Start;
 use crate::streams::{own_streams, served_streams};
 use crate::words::Hole::{Error, Text as Words};
-use history_model::{Ended, JobNo, Text};
+use history_model::{Ended, JobNo, MAX_CONNECTIONS, Text};
 use socket_demand::Exchange;
 use std::alloc::{AllocError, Global};
 use std::collections::BTreeMap;
@@ -40,14 +46,14 @@ const OVER: usize = 64;
 /// As many milliseconds replies are forwarded at a time. Then those of the other connections are left for the next time.
 const LONGEST: u64 = 5;
 
-/// A connection whose run is over, and since when its client has been still.
+/// A connection that is spent, and since when its client takes nothing.
 #[derive(Clone, Copy)]
 struct Still {
     key: Key,
     since: Instant,
 }
 
-/// What is held, as one job sees it: how many, and of those whose run is over the one whose client has been still for longest.
+/// What is held, as one job sees it: how many, and of those that are spent the one whose client takes nothing for longest.
 #[derive(Clone, Copy)]
 struct Tally {
     // Of one job, those whose run is still to come or goes on.
@@ -69,6 +75,8 @@ pub(crate) struct Connections {
     now: Instant,
     // The next time begins with the reply of this connection, or of the next above it.
     first: Key,
+    // A client had to wait for a place.
+    is_wanted: bool,
 }
 
 impl Connections {
@@ -79,19 +87,33 @@ impl Connections {
             held: BTreeMap::new(alloc),
             now,
             first: (0, 0),
+            is_wanted: false,
         }
     }
 
     // A clock that can't be read stands still.
-    fn read_clock(&mut self, rt: &impl Clock) {
+    fn read_clock(&mut self, rt: &impl Clock)
+        ensures { self.new.held ≡ self.old.held }
+    {
         if let Ok(now) = Instant::now(rt) {
             self.now = now;
         }
     }
 
-    /// Spools the request and holds the connection. A number that is in use is refused; so is one more connection where the job
-    /// has its share, or where as many are held as there is room for, none of which can be let go. After an `Err` the client is let go,
-    /// which is told, and no file is left.
+    /// Whether a further client of the job has to wait: none of the bounds leaves room for it, also if one that is spent is let go.
+    pub(crate) fn must_wait(&mut self, job: JobNo, room: usize) -> bool {
+        let held = self.tally(job);
+        let is_full = self.held.len() >= room && held.stillest.is_none();
+        let is_crowded = held.over >= OVER && held.stillest_of_job.is_none();
+        // Where there is room for nobody it is refused.
+        let must_wait = room > 0 && (held.has_share(room) || is_full || is_crowded);
+        self.is_wanted = self.is_wanted | must_wait;
+        must_wait
+    }
+
+    /// Spools the request and holds the connection. A number that is in use is refused; so is one more connection of a job that has its
+    /// share, or where as many are held as there is room for and none is spent. Another one is let go only if it is spent. After an `Err`
+    /// the client is let go, which is told, and no file is left.
     pub(crate) fn take<R: Clock + Files<File = File>>(
         &mut self,
         rt: &R,
@@ -101,12 +123,13 @@ impl Connections {
         room: usize,
         client: Client,
         mut exchange: Exchange,
-    ) -> io::Result<()> {
+    ) -> io::Result<()>
+        ensures { TakesOne self.old.held self.new.held }
+    {
         if self.held.contains_key(&key) {
             drop((client, exchange));
             return Err(io::Error::from(ErrorKind::AlreadyExists));
         }
-        self.read_clock(rt);
         if let Some(why) = self.want_of_room(rt, notices, key.0, room) {
             notices.let_go(key.0, label, why);
             drop((client, exchange));
@@ -135,7 +158,9 @@ impl Connections {
         label: Option<&str>,
         client: Client,
         exchange: Exchange,
-    ) -> io::Result<()> {
+    ) -> io::Result<()>
+        ensures { held_at self.old.held key ≡ None → TakesOne self.old.held self.new.held }
+    {
         let folder = self.folder.as_str();
         match Spooled::make(rt, self.alloc, folder, key, exchange.request_bytes()) {
             Ok((files, reply)) => {
@@ -150,7 +175,7 @@ impl Connections {
                     reply,
                     label,
                     is_over: false,
-                    moved: self.now,
+                    refused: None,
                 };
                 self.put(rt, key, connection)
             }
@@ -162,7 +187,9 @@ impl Connections {
     }
 
     // Puts the connection beside the others. After an `Err` its files are removed.
-    fn put<R: Files>(&mut self, rt: &R, key: Key, connection: Connection) -> io::Result<()> {
+    fn put<R: Files>(&mut self, rt: &R, key: Key, connection: Connection) -> io::Result<()>
+        ensures { held_at self.old.held key ≡ None → TakesOne self.old.held self.new.held }
+    {
         match self.held.insert(key, connection) {
             Ok(other) => {
                 drop(other);
@@ -183,9 +210,11 @@ impl Connections {
         notices: &mut Notices,
         job: JobNo,
         room: usize,
-    ) -> Option<LetGo> {
+    ) -> Option<LetGo>
+        ensures { LetsGoSpent self.old.held self.new.held }
+    {
         let held = self.tally(job);
-        if held.served >= room.saturating_sub(held.of_all) && held.served > 0 {
+        if held.has_share(room) {
             return Some(LetGo::Share);
         }
         if self.held.len() < room {
@@ -194,12 +223,13 @@ impl Connections {
             }
             return None;
         }
-        match held.stillest {
-            Some(still) => {
-                self.close(rt, notices, still.key, Some(LetGo::Room(room)));
-                None
-            }
-            None => Some(LetGo::NoRoom(room)),
+        let Some(still) = held.stillest else {
+            return Some(LetGo::NoRoom(room));
+        };
+        if self.let_spent_go(rt, notices, still.key, LetGo::Room(room)) {
+            None
+        } else {
+            Some(LetGo::NoRoom(room))
         }
     }
 
@@ -212,13 +242,30 @@ impl Connections {
             stillest: None,
         };
         for (key, connection) in self.held.iter() {
-            let still = Still {
-                key: *key,
-                since: connection.moved,
-            };
-            tally.add(job, connection.is_over, still);
+            tally.add(job, *key, connection);
         }
         tally
+    }
+
+    // Lets the connection go for a further one, if it is spent. It says whether it was.
+    fn let_spent_go<R: Files>(
+        &mut self,
+        rt: &R,
+        notices: &mut Notices,
+        key: Key,
+        why: LetGo,
+    ) -> bool
+        ensures { LetsGoSpent self.old.held self.new.held }
+    {
+        match take_spent(&mut self.held, key) {
+            Some(connection) => {
+                notices.let_go(key.0, connection.label(), why);
+                connection.files.remove(rt);
+                drop(connection);
+                true
+            }
+            None => false,
+        }
     }
 
     /// The command that the start's definition says, with its streams. What a look-out holds is taken from there.
@@ -305,17 +352,26 @@ impl Connections {
         drop(kept);
     }
 
-    // The run that served the connection has ended. If the job then has more of these than it may, one is let go.
+    // The run that served the connection has ended.
     fn end<R: Files>(&mut self, rt: &R, notices: &mut Notices, key: Key) {
         if let Some(connection) = self.held.get_mut(&key) {
             connection.is_over = true;
         }
-        let held = self.tally(key.0);
-        if held.over > OVER {
-            if let Some(still) = held.stillest_of_job {
-                self.close(rt, notices, still.key, Some(LetGo::Job(OVER)));
-            }
+        self.bound_over(rt, notices, key.0);
+    }
+
+    // If more of the job's are over than may be, one is let go, if one is spent.
+    fn bound_over<R: Files>(&mut self, rt: &R, notices: &mut Notices, job: JobNo)
+        ensures { LetsGoSpent self.old.held self.new.held }
+    {
+        let held = self.tally(job);
+        if held.over <= OVER {
+            return;
         }
+        let Some(still) = held.stillest_of_job else {
+            return;
+        };
+        let _was_spent = self.let_spent_go(rt, notices, still.key, LetGo::Job(OVER));
     }
 
     /// Lets the connection go, if it is held, and removes its files. Why its client was let go is told, if it was.
@@ -347,16 +403,17 @@ impl Connections {
 
     /// Sends each client what its run has written since, and lets those go that have it all, and those that can't be sent it.
     /// Once 5 milliseconds are over, those of the other connections are left for the next time, which begins with them. It says
-    /// whether one may go on at once. Where none is held no call of the system is made.
+    /// whether one may go on at once, or one that had to wait may have a place. Where none is held no call of the system is made.
     pub(crate) fn forward<R: Clock + Files>(&mut self, rt: &R, notices: &mut Notices) -> bool {
         if self.held.is_empty() {
             return false;
         }
         self.read_clock(rt);
         let begun = self.now;
+        let before = self.held.len();
         let mut is_busy = false;
         let mut next = self.first;
-        for _ in 0..self.held.len() {
+        for _ in 0..before {
             let Some(key) = self.next_from(next) else {
                 break;
             };
@@ -370,7 +427,14 @@ impl Connections {
                 }
             }
         }
-        is_busy
+        is_busy || self.has_place_for_who_waits(before)
+    }
+
+    // Whether a client that had to wait may have a place now, since fewer are held than before.
+    fn has_place_for_who_waits(&mut self, before: usize) -> bool {
+        let is_free = self.is_wanted && self.held.len() < before;
+        self.is_wanted = self.is_wanted && !is_free;
+        is_free
     }
 
     // The first from this one on, or the first of all.
@@ -403,23 +467,53 @@ impl Connections {
 }
 
 impl Tally {
+    // Of the job as many wait and are served as may be beside those of others.
+    fn has_share(&self, room: usize) -> bool {
+        let share = room.saturating_sub(self.of_all).min(MAX_CONNECTIONS);
+        self.served > 0 && self.served >= share
+    }
+
     // One more is held, beside those of the job.
-    fn add(&mut self, job: JobNo, is_over: bool, still: Still) {
-        let is_own = still.key.0 == job;
-        if is_over {
-            self.stillest = Some(stiller(self.stillest, still));
-            if is_own {
-                self.over = self.over.saturating_add(1);
-                self.stillest_of_job = Some(stiller(self.stillest_of_job, still));
-            }
-        } else {
+    fn add(&mut self, job: JobNo, key: Key, connection: &Connection) {
+        let is_own = key.0 == job;
+        if !connection.is_over {
             self.of_all = self.of_all.saturating_add(1);
             self.served = self.served.saturating_add(usize::from(is_own));
+            return;
+        }
+        self.over = self.over.saturating_add(usize::from(is_own));
+        if let Some(since) = connection.spent_since() {
+            let still = Still { key, since };
+            self.stillest = Some(stiller(self.stillest, still));
+            if is_own {
+                self.stillest_of_job = Some(stiller(self.stillest_of_job, still));
+            }
         }
     }
 }
 
-// The one that has been still for longer, the first of two that have been so for as long.
+// Whether the connection is held, and spent.
+fn is_spent_at(held: &BTreeMap<Key, Connection>, key: Key) -> bool
+    ensures { result ≡ true → IsSomeAnd (held_at held.now key) IsSpent }
+{
+    match held.get(&key) {
+        Some(connection) => connection.is_spent(),
+        None => false,
+    }
+}
+
+// The connection, which is held no more, if it is spent.
+fn take_spent(held: &mut BTreeMap<Key, Connection>, key: Key) -> Option<Connection>
+    ensures { LetsGoSpent held.old held.new }
+{
+    if is_spent_at(held, key) {
+        held.remove(&key)
+    } else {
+        None
+    }
+}
+
+// The one whose client takes nothing for longer, the first of two that take nothing for as long.
 fn stiller(stillest: Option<Still>, one: Still) -> Still {
     match stillest {
         Some(stillest) if stillest.since <= one.since => stillest,

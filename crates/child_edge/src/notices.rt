@@ -118,6 +118,9 @@ const OF_RUNS: [Asked; 4] = [Asked::Start, Asked::Term, Asked::Kill, Asked::Wait
 /// What the bounds on connections ask for: they are told anew once the job holds none.
 pub(crate) const OF_ROOM: [Asked; 4] = [Asked::Over, Asked::Room, Asked::NoRoom, Asked::Share];
 
+/// After so many requests that were answered well a refusal for want of memory is told anew.
+const WELL: u32 = 1_000;
+
 /// A job, and the number of what was asked of the system for it.
 type Call = (JobNo, u8);
 
@@ -133,6 +136,9 @@ pub(crate) struct Notices {
     paths: BTreeMap<String, String>,
     /// Why the last start was refused; none if it went well, or if there was no memory for the words.
     pub(crate) start_refusal: Option<String>,
+    // A refusal for want of memory is to be told; and how many requests were answered well since the last one.
+    is_short: bool,
+    well: u32,
 }
 
 impl Notices {
@@ -145,6 +151,8 @@ impl Notices {
             told: BTreeMap::new(alloc),
             paths: BTreeMap::new(alloc),
             start_refusal: None,
+            is_short: false,
+            well: WELL,
         }
     }
 
@@ -152,6 +160,9 @@ impl Notices {
     pub(crate) fn next(&mut self) -> Option<Notice> {
         if let Some(notice) = self.waiting.pop_front() {
             return Some(notice);
+        }
+        if self.is_short {
+            return self.short();
         }
         if self.dropped == 0 {
             return None;
@@ -163,6 +174,27 @@ impl Notices {
             kind: NoticeKind::Refusal,
             text: Text::new(text),
         })
+    }
+
+    // Without memory for the line itself it is told later.
+    fn short(&mut self) -> Option<Notice> {
+        let text = filled(self.alloc, "a request was refused: memory was refused", &[])?;
+        self.is_short = false;
+        Some(Notice {
+            kind: NoticeKind::Refusal,
+            text: Text::new(text),
+        })
+    }
+
+    /// A request was answered: refused for want of memory, or otherwise. The first such refusal is told, and the first behind 1,000 other
+    /// answers in a row.
+    pub(crate) fn answered(&mut self, is_short: bool) {
+        if is_short {
+            self.is_short = self.is_short | (self.well >= WELL);
+            self.well = 0;
+        } else {
+            self.well = self.well.saturating_add(1).min(WELL);
+        }
     }
 
     /// Tells what became of a run, if runs are told.

@@ -137,6 +137,14 @@ impl<R: Processes> OsEdge<R> {
         }
     }
 
+    /// A request of a control client was answered: it was refused for want of memory, or not. The first such refusal is told, and the first
+    /// behind 1,000 other answers in a row. Takes no memory.
+    pub fn note_answer(&mut self, is_short: bool)
+        ensures { self.new ≡ self.old }
+    {
+        self.notices.answered(is_short);
+    }
+
     /// From now on each start, end, TERM and KILL of a run is told too. Takes no memory.
     pub fn log_runs(&mut self)
         ensures { self.new ≡ self.old }
@@ -252,11 +260,22 @@ impl<R: Clock + Files<File = File> + Processes> OsEdge<R> {
         self.reserve.take(&self.rt);
     }
 
+    /// Whether a further client of the job whose request came whole has to wait for a place: as many of the job wait or are served as
+    /// there is room left beside those of all jobs, or 64; or as many are held as there is [`room`](OsEdge::room) for, or 64 of the job
+    /// whose run is over, and none of them is spent. One is spent whose run is over and whose client was offered the reply for 5 seconds and took
+    /// nothing of it. Takes no memory.
+    pub fn must_wait(&mut self, job: JobNo) -> bool
+        ensures { self.new ≡ self.old }
+    {
+        let room = self.sockets.room();
+        self.connections.must_wait(job, room)
+    }
+
     /// Holds a connection whose request came whole, under the job and a number that it has had for no other: its request
-    /// is spooled, and the run that is started with the number serves it. If as many of the job wait or are served as there is
-    /// room left beside those of all jobs, the new one is refused. If as many are held as there is [`room`](OsEdge::room) for, the
-    /// one is let go for it whose run is over and whose client has been still for longest; if none has its run over, the new one
-    /// is refused. After an `Err`, which is counted as a failure and told, the client is let go and nothing is left.
+    /// is spooled, and the run that is started with the number serves it. If as many are held as there is [`room`](OsEdge::room) for, one
+    /// that is spent is let go for it, and no other; of these the one whose client takes nothing for longest. If none is spent, or the job
+    /// has its share, the new one is refused; ask before whether it [`must_wait`](OsEdge::must_wait). After an `Err`, which is counted as a
+    /// failure and told, the client is let go and nothing is left.
     pub fn take(
         &mut self,
         job: JobNo,

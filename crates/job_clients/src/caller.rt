@@ -51,13 +51,31 @@ pub struct Caller<C = Client> {
     pub is_ready: bool,
     // It was not read yet.
     pub is_new: bool,
+    // If its request is whole and it waits for a place: the number of those that came so before it.
+    pub turn: Option<u64>,
+}
+
+impl<C> Caller<C> {
+    /// The `up` at which it came, as one that comes now, by this bind, is to see it: one of its own job whose request is whole came no
+    /// earlier than that.
+    pub(crate) fn came_before(&self, bind: u64, up: u64) -> u64 {
+        if self.turn.is_some() && self.origin.bind == bind {
+            up
+        } else {
+            self.came
+        }
+    }
 }
 
 impl<C: Sender> Caller<C> {
-    /// Takes what came of the request by this `up`, at most 65,536 bytes.
+    /// Takes what came of the request by this `up`, at most 65,536 bytes. Of one whose request is whole nothing more comes, and it may be
+    /// silent.
     pub fn gather(&mut self, up: u64) -> Gathered
         ensures { Hears C.remaining result self.old self.new }
     {
+        if self.turn.is_some() {
+            return Gathered::Waits;
+        }
         if !self.is_ready {
             return self.waits(up);
         }

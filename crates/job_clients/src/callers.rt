@@ -38,6 +38,8 @@ pub struct Callers<C = Client> {
     // The binds of all of them, to count the jobs.
     binds: Vec<u64>,
     room: CallerRoom,
+    // How many had to wait whose request was whole.
+    turns: u64,
 }
 
 // A job may have a third of the room, so that one job's clients leave room for those of others.
@@ -70,6 +72,7 @@ impl<C: Sender + Drop> Callers<C> {
             waited,
             binds,
             room: room_of(CALLERS),
+            turns: 0,
         })
     }
 
@@ -147,7 +150,7 @@ impl<C: Sender + Drop> Callers<C> {
         self.room.share = share_of(self.room.in_all, jobs_among(&self.binds));
     }
 
-    /// Where a client can be that comes at this `up`, by this bind.
+    /// Where a client can be that comes at this `up`, by this bind. None whose request is whole goes for another one of its own job.
     pub fn place(&mut self, bind: u64, up: u64) -> Place
         ensures { coming_in self.new ≡ coming_in self.old }
     {
@@ -156,7 +159,7 @@ impl<C: Sender + Drop> Callers<C> {
             let _listed = self.heard.push(Heard {
                 key,
                 bind: caller.origin.bind,
-                came: caller.came,
+                came: caller.came_before(bind, up),
             });
         }
         let place = place_for(&self.heard, &self.waited, bind, self.room, up);
@@ -174,6 +177,36 @@ impl<C: Sender + Drop> Callers<C> {
             }
         }
         false
+    }
+
+    /// Whether the client of the key waits with a whole request.
+    pub fn is_waiting(&self, key: usize) -> bool {
+        match self.held.get(key) {
+            Some(caller) => caller.turn.is_some(),
+            None => false,
+        }
+    }
+
+    /// The request of the client of the key is whole: from this `up` on it waits for a place, behind those that wait already.
+    pub fn line_up(&mut self, key: usize, up: u64)
+        ensures { coming_in self.new ≡ coming_in self.old }
+    {
+        self.turns = self.turns.saturating_add(1);
+        let turn = self.turns;
+        give_turn(&mut self.held, key, turn, up);
+    }
+
+    /// Of those that wait with a whole request the first whose turn is above this one: its turn and its key.
+    pub fn next_in_line(&self, turn: u64) -> Option<(u64, usize)> {
+        let mut first: Option<(u64, usize)> = None;
+        for (key, caller) in self.held.iter() {
+            first = match (caller.turn, first) {
+                (Some(own), Some((least, _))) if turn < own && own < least => Some((own, key)),
+                (Some(own), None) if turn < own => Some((own, key)),
+                _ => first,
+            };
+        }
+        first
     }
 
     /// Takes a client in, for which there is a place. After an `Err` it is let go, for this reason.
@@ -198,6 +231,7 @@ impl<C: Sender + Drop> Callers<C> {
             heard_at: up,
             is_ready: true,
             is_new: true,
+            turn: None,
         };
         let token = Token(self.held.vacant_key().saturating_add(FIRST));
         match caller.client.register(registry, token) {
@@ -226,5 +260,15 @@ fn rouse<C>(held: &mut Slab<Caller<C>>, key: usize)
 {
     if let Some(caller) = held.get_mut(key) {
         caller.is_ready = true;
+    }
+}
+
+// The client of the key has this turn, and waits since this `up`.
+fn give_turn<C>(held: &mut Slab<Caller<C>>, key: usize, turn: u64, up: u64)
+    ensures { Rouses key held.old held.new }
+{
+    if let Some(caller) = held.get_mut(key) {
+        caller.turn = Some(turn);
+        caller.came = up;
     }
 }

@@ -17,6 +17,8 @@ pub enum Loss {
     Silent,
     /// It came first, 5 seconds ago or more, and there was no room for another client.
     Displaced,
+    /// Its request was whole, it waited first, for 5 seconds or more, and one of another job came.
+    Outwaited,
     /// There is no room for it.
     Crowded,
     NoMemory,
@@ -55,6 +57,7 @@ impl Loss {
             Loss::System(error) => return format!(in alloc; "{error}"),
             Loss::Silent => "it sent nothing for a minute",
             Loss::Displaced => "its request took 5 seconds, and another one came",
+            Loss::Outwaited => "it waited 5 seconds for a place, and one of another job came",
             Loss::Crowded => "too many clients send at a time",
             Loss::NoMemory => "no memory",
             Loss::QueueFull => "too many connections wait",

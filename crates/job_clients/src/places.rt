@@ -30,7 +30,7 @@ pub enum Place {
     Free,
     /// In the place of the client of this key, which is let go.
     Of(usize),
-    /// Nowhere, since its job has as many as a job may have: it is closed.
+    /// Nowhere, since its job has as many as a job may have. Whoever takes clients in leaves it in the system's queue.
     Nowhere,
     /// In the system's queue, until there is a place. Its job has fewer than its share, so the others give way.
     Next,

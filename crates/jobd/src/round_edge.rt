@@ -55,6 +55,9 @@ pub trait RoundEdge: ChildEdge + SleepEdge + PathEdge + SocketEdge {
     /// As many clients there is room for now, beside the sockets of jobs.
     fn room(&self) -> usize;
 
+    /// Whether a further client of the job whose request is whole has to wait for a place.
+    fn must_wait(&mut self, job: JobNo) -> bool;
+
     /// Whether the job has the sockets of this bind still.
     fn listens_at(&self, origin: Origin) -> bool;
 
@@ -142,6 +145,10 @@ impl<R: System> RoundEdge for OsEdge<R> {
         OsEdge::room(self)
     }
 
+    fn must_wait(&mut self, job: JobNo) -> bool {
+        OsEdge::must_wait(self, job)
+    }
+
     fn listens_at(&self, origin: Origin) -> bool {
         OsEdge::bind_of(self, origin.job) == Some(origin.bind)
     }
@@ -176,7 +183,9 @@ impl<R: System> RoundEdge for OsEdge<R> {
         OsEdge::start_refusal(self)
     }
 
-    fn note_reply(&mut self, _refusal: Option<Refusal>) {}
+    fn note_reply(&mut self, refusal: Option<Refusal>) {
+        OsEdge::note_answer(self, refusal == Some(Refusal::NoMemory));
+    }
 
     fn note_closing(&mut self) {}
 

@@ -345,6 +345,10 @@ impl<T: SettingStore, E: RoundEdge, W: Write> LoopHost for RoundLauncher<T, E, W
         self.host.edge().room()
     }
 
+    fn must_wait(&mut self, job: JobNo) -> bool {
+        self.host.edge().must_wait(job)
+    }
+
     fn listens_at(&mut self, origin: Origin) -> bool {
         self.host.edge().listens_at(origin)
     }

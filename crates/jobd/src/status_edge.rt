@@ -197,6 +197,10 @@ impl<E: RoundEdge, R: System> RoundEdge for StatusEdge<E, R> {
         self.edge.room()
     }
 
+    fn must_wait(&mut self, job: JobNo) -> bool {
+        self.edge.must_wait(job)
+    }
+
     fn listens_at(&self, origin: Origin) -> bool {
         self.edge.listens_at(origin)
     }
@@ -234,6 +238,7 @@ impl<E: RoundEdge, R: System> RoundEdge for StatusEdge<E, R> {
     }
 
     fn note_reply(&mut self, refusal: Option<Refusal>) {
+        self.edge.note_reply(refusal);
         if let Some(keeper) = &mut self.keeper {
             keeper.replied(refusal);
         }

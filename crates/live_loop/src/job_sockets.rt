@@ -123,8 +123,8 @@ impl JobSockets {
     fn is_put_off(&self, place: Place, bind: u64) -> bool {
         match place {
             Place::Free => false,
-            Place::Next | Place::Later => true,
-            Place::Of(_) | Place::Nowhere => self.callers.has_new(bind),
+            Place::Nowhere | Place::Next | Place::Later => true,
+            Place::Of(_) => self.callers.has_new(bind),
         }
     }
 
@@ -149,6 +149,15 @@ impl JobSockets {
         true
     }
 
+    // Why the client of the key goes for another one.
+    fn loss_of(&self, key: usize) -> Loss {
+        if self.callers.is_waiting(key) {
+            Loss::Outwaited
+        } else {
+            Loss::Displaced
+        }
+    }
+
     fn welcome<H: LoopHost>(
         &mut self,
         registry: &Registry,
@@ -164,7 +173,8 @@ impl JobSockets {
         match place {
             Place::Free => self.take_in(registry, host, origin, client),
             Place::Of(key) => {
-                self.let_go(host, key, Some(Loss::Displaced));
+                let loss = self.loss_of(key);
+                self.let_go(host, key, Some(loss));
                 self.take_in(registry, host, origin, client);
             }
             Place::Nowhere | Place::Next | Place::Later => {
@@ -221,8 +231,8 @@ impl JobSockets {
         }
     }
 
-    /// Takes what the clients have sent, and hands in those whose request is whole. Where there is no time left, the other clients
-    /// are left for the next round. It says whether one may go on at once.
+    /// Takes what the clients have sent, and hands in those whose request is whole, as far as there are places. Where there is no time left,
+    /// the other clients are left for the next round. It says whether one may go on at once.
     pub(crate) fn gather<H: LoopHost, L: Limit>(
         &mut self,
         alloc: Global,
@@ -235,6 +245,15 @@ impl JobSockets {
         if self.callers.is_empty() {
             return false;
         }
+        let is_busy = self.hear_all(host, time);
+        let is_late = self.hand_in_line(alloc, host, label, time);
+        is_busy || is_late
+    }
+
+    // Takes what the clients have sent. It says whether one may go on at once.
+    fn hear_all<H: LoopHost, L: Limit>(&mut self, host: &mut H, time: &mut L) -> bool
+        ensures { Gathers H.Asked H.Taken H.Came (desk_in self.old) host.old (desk_in self.new) host.new }
+    {
         let first = self.first_key;
         let mut is_busy = false;
         for step in 0..CALLERS {
@@ -243,7 +262,7 @@ impl JobSockets {
             if matches!(what, Gathered::Waits) {
                 continue;
             }
-            let goes_on = self.settle(alloc, host, label, key, what);
+            let goes_on = self.settle(host, key, what);
             is_busy = is_busy | goes_on;
             if !time.has_time() {
                 self.first_key = key.wrapping_add(1) % CALLERS;
@@ -253,22 +272,15 @@ impl JobSockets {
         is_busy
     }
 
-    // Hands in a client whose request is whole, and lets one go that is lost. It says whether it may go on at once.
-    fn settle<H: LoopHost>(
-        &mut self,
-        alloc: Global,
-        host: &mut H,
-        label: &mut LabelRoom,
-        key: usize,
-        gathered: Gathered,
-    ) -> bool
+    // Has a client wait for its turn whose request is whole, and lets one go that is lost. It says whether it may go on at once.
+    fn settle<H: LoopHost>(&mut self, host: &mut H, key: usize, gathered: Gathered) -> bool
         ensures { Gathers H.Asked H.Taken H.Came (desk_in self.old) host.old (desk_in self.new) host.new }
     {
         match gathered {
             Gathered::Waits => false,
             Gathered::MayGoOn => true,
             Gathered::Whole => {
-                self.hand_in(alloc, host, label, key);
+                self.callers.line_up(key, host.up());
                 false
             }
             Gathered::Lost(loss) => {
@@ -276,6 +288,50 @@ impl JobSockets {
                 false
             }
         }
+    }
+
+    // Hands in those whose request is whole, the one first whose request was whole first, but those for whose job there is no place. Where
+    // there is no time left, the others are left for the next round. True then.
+    fn hand_in_line<H: LoopHost, L: Limit>(
+        &mut self,
+        alloc: Global,
+        host: &mut H,
+        label: &mut LabelRoom,
+        time: &mut L,
+    ) -> bool
+        ensures { Gathers H.Asked H.Taken H.Came (desk_in self.old) host.old (desk_in self.new) host.new }
+    {
+        let mut last = 0;
+        for _ in 0..CALLERS {
+            let Some((turn, key)) = self.callers.next_in_line(last) else {
+                return false;
+            };
+            last = turn;
+            if self.hand_in_if_placed(alloc, host, label, key) && !time.has_time() {
+                return true;
+            }
+        }
+        false
+    }
+
+    // Hands in a client whose request is whole, unless it has to wait for a place. It says whether it did.
+    fn hand_in_if_placed<H: LoopHost>(
+        &mut self,
+        alloc: Global,
+        host: &mut H,
+        label: &mut LabelRoom,
+        key: usize,
+    ) -> bool
+        ensures { Gathers H.Asked H.Taken H.Came (desk_in self.old) host.old (desk_in self.new) host.new }
+    {
+        let Some(origin) = self.callers.origin_of(key) else {
+            return false;
+        };
+        if host.must_wait(origin.job) {
+            return false;
+        }
+        self.hand_in(alloc, host, label, key);
+        true
     }
 
     // What became of one client. One that came to sockets which were given up since is let go, also if the number has new

@@ -129,6 +129,10 @@ pub trait LoopHost: PathHost + Answers {
     fn room(&mut self) -> usize
         ensures { Self.Asked self.old self.new };
 
+    /// Whether a further client of the job whose request is whole has to wait for a place.
+    fn must_wait(&mut self, job: JobNo) -> bool
+        ensures { Self.Asked self.old self.new };
+
     /// Whether the job has these sockets still.
     fn listens_at(&mut self, origin: Origin) -> bool
         ensures { Self.Asked self.old self.new };

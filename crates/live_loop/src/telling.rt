@@ -20,6 +20,7 @@ pub(crate) fn tell<R: Eprint, H: LoopHost>(rt: &R, alloc: Global, live: &mut Liv
     ensures asks { Asks H.Asked live.old.host live.new.host }
     ensures kept { IsKeptBy live.old live.new }
 {
+    live.rooms.voice.begin();
     if !live.rooms.voice.go_on(rt) {
         return;
     }

@@ -1,5 +1,5 @@
-//! Standard error: a line at a time, and only while it takes lines without a wait. To a terminal, or another device, a line goes in pieces of
-//! 256 bytes: a terminal that says that it takes something takes as many.
+//! Standard error: a line at a time, and only while it takes lines without a wait. To a terminal, or another device, a line goes letter by
+//! letter, and it is asked before each: one that says that it takes something may have room for one byte alone.
 
 ghost use Rattle.std.specs.Prelude.{◌≡◌, ◌++◌, ◌∷◌, [], IfOk, string_bytes, chars, codes};
 ghost use Rattle.plain_text.specs.Plain.{plain_text};
@@ -24,8 +24,8 @@ const TAKING: Token = Token(0);
 /// What tells of which kind it is.
 const ITS_FILE: &str = "/proc/self/fd/2";
 
-/// How many bytes go to a device at a time.
-const PIECE: usize = 256;
+/// How many letters go to a device in a round. Each takes three calls of the system.
+const LETTERS: usize = 4096;
 
 /// A poll that knows when standard error takes something. A pipe or a socket then takes 4,096 bytes without a wait, and a line has
 /// fewer, since no text within it is longer than 1,024 bytes.
@@ -46,6 +46,8 @@ pub(crate) struct Voice {
     // What is left of a line for a device, from this byte on.
     rest: String,
     from: usize,
+    // As many letters may go to a device in this round still.
+    left: usize,
 }
 
 impl Watch {
@@ -98,7 +100,13 @@ impl Voice {
             alloc,
             rest: String::new(alloc),
             from: 0,
+            left: 0,
         })
+    }
+
+    /// A round begins to tell.
+    pub(crate) fn begin(&mut self) {
+        self.left = LETTERS;
     }
 
     /// Whether nothing is left of a line.
@@ -131,22 +139,24 @@ impl Voice {
         true
     }
 
-    /// Tells what is left of a line, piece by piece, while that is taken without a wait. True: nothing is left.
+    /// Tells what is left of a line, letter by letter, while that is taken without a wait and the round's letters are not spent. True: nothing
+    /// is left.
     pub(crate) fn go_on<R: Eprint>(&mut self, rt: &R) -> bool {
         for _ in 0..self.rest.len() {
             if self.is_done() {
                 return true;
             }
-            if !self.is_taking() {
+            if self.left == 0 || !self.is_taking() {
                 return false;
             }
-            let piece = match self.rest.as_str().get(self.from..) {
-                Some(left) => front_of(left),
+            self.left = self.left.saturating_sub(1);
+            let letter = match self.rest.as_str().get(self.from..) {
+                Some(left) => first_of(left),
                 None => "",
             };
-            let _written = eprint!(rt; "{piece}");
-            // A piece is never empty.
-            self.from = self.from.saturating_add(piece.len().max(1));
+            let _written = eprint!(rt; "{letter}");
+            // A letter is never empty.
+            self.from = self.from.saturating_add(letter.len().max(1));
         }
         self.is_done()
     }
@@ -177,11 +187,11 @@ fn line_of(alloc: Global, level: &str, text: &str) -> Result<String, AllocError>
     }
 }
 
-// As much of the text as goes to a device at a time. No letter is cut.
-fn front_of(text: &str) -> &str {
-    for less in 0..4 {
-        if let Some(front) = text.get(..PIECE - less) {
-            return front;
+// The first letter of the text.
+fn first_of(text: &str) -> &str {
+    for bytes in 1..5 {
+        if let Some(letter) = text.get(..bytes) {
+            return letter;
         }
     }
     text

@@ -1,21 +1,10 @@
--- A further client.
+-- Those who send are heard, then those whose request is whole are handed in.
 use Rattle.live_loop.specs.Rounds.{nobody}
-use Rattle.live_loop.proofs.RoundsLemmas.{gathers_append, gathers_heard}
+use Rattle.live_loop.proofs.RoundsLemmas.{gathers_append}
 use Rattle.live_loop.proofs.job_sockets.JobSockets.gather.Goals as goal
 
 pub returns-then-is_empty : goal.returns-then-is_empty
 returns-then-is_empty g c = nobody
 
-pub loop-step-init : goal.loop-step-init
-loop-step-init g c = nobody
-
-pub loop-step-preserved-then-matches : goal.loop-step-preserved-then-matches
-loop-step-preserved-then-matches g c = gathers_heard c.loop-step.invariant c.gathered-what.ensures.grows c.gathered-what.ensures.conn c.gathered-what.ensures.asks
-
-pub returns-then-not-has_time : goal.returns-then-not-has_time
-returns-then-not-has_time g c =
-    gathers_append (gathers_heard c.loop-step.invariant c.gathered-what.ensures.grows c.gathered-what.ensures.conn c.gathered-what.ensures.asks) c.settle-goes_on.ensures
-
-pub loop-step-preserved : goal.loop-step-preserved
-loop-step-preserved g c =
-    gathers_append (gathers_heard c.loop-step.invariant c.gathered-what.ensures.grows c.gathered-what.ensures.conn c.gathered-what.ensures.asks) c.settle-goes_on.ensures
+pub returns : goal.returns
+returns g c = gathers_append c.hear_all-is_busy.ensures c.hand_in_line-is_late.ensures

@@ -1,4 +1,4 @@
--- Nothing is asked, or one is let go.
+-- Nothing is asked, or one is let go, or waits with the request that it has.
 use Rattle.std.proofs.Common.{refl}
 use Rattle.live_loop.specs.Rounds.{nobody, went}
 use Rattle.live_loop.proofs.RoundsLemmas.{desk_same, gathers_asks, gathers_same}
@@ -9,6 +9,9 @@ returns-in-Waits g c = nobody
 
 pub returns-in-MayGoOn : goal.returns-in-MayGoOn
 returns-in-MayGoOn g c = nobody
+
+pub returns-in-Whole : goal.returns-in-Whole
+returns-in-Whole g c = gathers_same nobody (desk_same refl c.line_up.ensures)
 
 pub returns-in-Lost : goal.returns-in-Lost
 returns-in-Lost g c = gathers_asks (gathers_same (went nobody c.let_go.ensures.gone) (desk_same c.let_go.ensures.conn refl)) c.let_go.ensures.asks

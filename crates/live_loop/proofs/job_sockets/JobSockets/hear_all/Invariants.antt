@@ -1,7 +1,7 @@
 -- What became of clients so far.
 use Rattle.live_loop.specs.Kept.{desk_in}
 use Rattle.live_loop.specs.Rounds.{Gathers}
-use Rattle.live_loop.proofs.job_sockets.JobSockets.gather.Given as goal
+use Rattle.live_loop.proofs.job_sockets.JobSockets.hear_all.Given as goal
 
 abbrev pub invariant-loop-step : goal.invariant-loop-step
 invariant-loop-step g l =
