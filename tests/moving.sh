@@ -1,5 +1,5 @@
 #!/usr/bin/env bash
-# Types the lines of docs/MOVING.md in a copy of examples/moving/, and then sees each of its 27 jobs loaded and run once; and that `jobscope check --strict`
+# Types the lines of docs/MOVING.md in a copy of examples/moving/, and then sees each of its 28 jobs loaded and run once; and that `jobscope check --strict`
 # finds nothing in what jobscope cron, from-systemd and from-supervisor wrote. Then it types each row of the page that stands for a restart, a stop or a start
 # of another service manager, with a service that saves at TERM. The folder of the programs is the first word, or build. It is run by hand.
 set -euo pipefail
@@ -58,8 +58,8 @@ for label in labels:
         time.sleep(0.1)
     else:
         faults.append(f"{label} did not run: {it}")
-if len(labels) != 28:
-    faults.append(f"{len(labels)} definitions, of 27 jobs, one of which has two processes")
+if len(labels) != 29:
+    faults.append(f"{len(labels)} definitions, of 28 jobs, one of which has two processes")
 ours = [path for path in sorted(glob.glob(f"{folder}/jobs/*.json")) if not os.path.basename(path).startswith(("org.example.", "runit."))]
 check = subprocess.run([f"{programs}/jobscope", "check", "--strict", *ours], capture_output=True, text=True)
 if check.returncode:

@@ -64,6 +64,10 @@ class Writer:
             shown = hex(number)
         return shown
 
+    def real(self):
+        number = self.chance.choice((0.0, 1.5, -2.0, 0.1, 1e20, 1e-7, -2.5e300, 5e-324, self.chance.uniform(-1e6, 1e6)))
+        return self.chance.choice((repr(number), f" {number} ", f"{number:.17g}", f"{number:e}"))
+
     def element(self, name, inner):
         close = self.chance.choice(("", "", " "))
         if not inner and self.chance.random() < 0.5:
@@ -71,7 +75,7 @@ class Writer:
         return f"<{name}{close}>{inner}</{name}{close}>"
 
     def value(self, depth):
-        kind = self.chance.choice(("dict", "array", "string", "integer", "true", "false") if depth else ("string", "integer", "true", "false"))
+        kind = self.chance.choice(("dict", "array", "string", "integer", "real", "true", "false") if depth else ("string", "integer", "real", "true", "false"))
         if kind == "dict":
             inner = "".join(f"{self.blanks()}{self.element('key', self.text())}{self.blanks()}{self.value(depth - 1)}"
                             for _ in range(self.chance.choice((0, 1, 2, 4)))) + self.blanks()
@@ -79,14 +83,22 @@ class Writer:
             inner = "".join(self.blanks() + self.value(depth - 1) for _ in range(self.chance.choice((0, 1, 3)))) + self.blanks()
         elif kind == "integer":
             return f"<integer>{self.integer()}</integer>"
+        elif kind == "real":
+            return f"<real>{self.real()}</real>"
         else:
             inner = self.text() if kind == "string" else ""
         return self.element(kind, inner)
 
+    def top(self):
+        """A dictionary, as a definition is, or now and then another value."""
+        if self.chance.random() < 0.1:
+            return self.value(4)
+        return self.element("dict", "".join(f"{self.element('key', self.text())}{self.blanks()}{self.value(3)}" for _ in range(self.chance.choice((1, 2, 4)))))
+
     def list(self):
         head = self.chance.choice((HEAD, HEAD, HEAD.replace("\n", "\r\n"), "", "\ufeff"))
         version = self.chance.choice((' version="1.0"', "", " "))
-        text = f"{head}<plist{version}>{self.blanks()}{self.value(4)}{self.blanks()}</plist>{self.blanks()}"
+        text = f"{head}<plist{version}>{self.blanks()}{self.top()}{self.blanks()}</plist>{self.blanks()}"
         if self.chance.random() < 0.4:
             text = self.damaged(text)
         return text.encode()
@@ -119,7 +131,10 @@ def meant(data):
 
 # What the program refuses and plistlib takes, by the words of the refusal.
 STRICTER = [
-    ("has no place in a definition", "a real, a date or bytes"),
+    ("has no place in a definition", "a date or bytes"),
+    ("its value is no <dict>", "a value that is no dictionary"),
+    ("has no number of 64 bits", "a real that JSON has not, or in a form of python's own, as 1_0"),
+    ("<plist> has no value in it", "an empty <plist>"),
     ("a text stands between elements", "a text between elements"),
     ("has an attribute that no property list has", "an attribute"),
     ("stands behind the list's value", "more than one value, of which plistlib takes the last"),
@@ -127,7 +142,6 @@ STRICTER = [
     ("has no integer from", "an integer past 64 bits, or in a form of python's own, as 1_0"),
     ("is no element of a property list", "an element that plistlib passes over"),
     ("<?xml ..?> does not stand first", "another version of XML"),
-    ("</plist> closes nothing", "an empty <plist>"),
     ("is not closed before the next element", "an element within a text"),
     ("has a text in it", "a text in <true> or <false>"),
 ]
@@ -159,7 +173,7 @@ def written(words, folder, count):
     for n in range(count):
         path = os.path.join(into, f"{n}.json")
         found.append(open(path, encoding="utf-8").read() if os.path.exists(path) else None)
-    told = dict(re.findall(r"/([0-9]+)\.plist:[0-9]+: error: (.*)", ran.stderr))
+    told = dict(re.findall(r"/([0-9]+)\.plist(?::[0-9]+)?: error: (.*)", ran.stderr))
     return found, told
 
 

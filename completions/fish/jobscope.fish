@@ -59,6 +59,7 @@ complete -c jobscope -n $none -a plist -d 'Write property lists in XML as defini
 complete -c jobscope -n $none -a help -d 'Print help'
 complete -c jobscope -n '__fish_seen_subcommand_from cron' -a - -d 'The lines of standard input'
 complete -c jobscope -n '__fish_seen_subcommand_from cron' -l system -d "The lines have a user's field"
+complete -c jobscope -n '__fish_seen_subcommand_from cron' -l logs -r -F -d 'Keep the output of each job in this folder'
 complete -c jobscope -n '__fish_seen_subcommand_from cron plist' -l into -r -F -d 'Write a file for each definition in this folder'
 complete -c jobscope -n '__fish_seen_subcommand_from plist' -a '(__jobscope_lists)'
 complete -c jobscope -n '__fish_seen_subcommand_from check next drift' -a '(__jobscope_files)'

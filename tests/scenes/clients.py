@@ -11,7 +11,7 @@ import threading
 import time
 
 from harness import (
-    BOUND, TOO_MANY, Deadline, begin, call, check, connect, descriptors, gated_job, in_time, make, read_all, read_line, shell_job, socket_job,
+    BOUND, TOO_MANY, Deadline, begin, call, check, connect, descriptors, gated_job, in_time, make, read_all, read_line, requests_in, shell_job, socket_job,
     text_at, wait_for,
 )
 

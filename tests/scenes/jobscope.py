@@ -48,7 +48,7 @@ class Case:
 
 def came(stage, folder, case):
     """What the program ends with and writes, in the folder of the case."""
-    around = {key: value for key, value in os.environ.items() if key not in ("JOBD_JOURNAL", "JOBD_STATUS_FILE", "COLUMNS", "NO_COLOR", "HOME")}
+    around = {key: value for key, value in os.environ.items() if key not in ("JOBD_JOURNAL", "JOBD_STATUS_FILE", "COLUMNS", "NO_COLOR", "HOME", "LOGNAME")}
     around.update(line.split("=", 1) for line in case.lines("environment"))
     command = [*stage.given.jobscope, *case.lines("words")]
     try:
@@ -212,7 +212,7 @@ def load_of(label):
 
 def ran(stage, words, given=b""):
     """What the program ends with and writes, with no home folder in its environment."""
-    around = {key: value for key, value in os.environ.items() if key != "HOME"}
+    around = {key: value for key, value in os.environ.items() if key not in ("HOME", "LOGNAME")}
     it = subprocess.run([*stage.given.jobscope, *words], env=around, input=given, capture_output=True, timeout=patience(LONGEST))
     return it.returncode, it.stdout.decode(), it.stderr.decode()
 
@@ -225,6 +225,9 @@ LAID_OUT = """{
     "-c",
     "tick"
   ],
+  "EnvironmentVariables": {
+    "SHELL": "/bin/sh"
+  },
   "StartCalendarInterval": [
     {
       "Minute": 30,
@@ -233,13 +236,14 @@ LAID_OUT = """{
   ]
 }
 """
+LOST = "cron:2: note: no --logs: what the jobs write is lost, which cron mailed; --logs FOLDER keeps it\n"
 
 
 def jobscope_cron_files(stage):
     """`jobscope cron --into` makes a file of each definition and writes over none, and refuses what no load takes."""
     with tempfile.TemporaryDirectory() as folder:
         lines = b"# nightly\n30 3 * * * tick\n@reboot boot\n"
-        check((got := ran(stage, ["cron", "--into", folder, "-"], lines)) == (0, "", ""), f"cron --into: {got}")
+        check((got := ran(stage, ["cron", "--into", folder, "-"], lines)) == (0, "", LOST), f"cron --into: {got}")
         names = sorted(os.listdir(folder))
         check(names == ["cron.2.nightly.json", "cron.3.boot.json"], f"files: {names}")
         check((text := text_at(f"{folder}/{names[0]}")) == LAID_OUT, f"laid out: {text!r}")
@@ -276,15 +280,15 @@ def jobscope_plist_files(stage):
         words = ["plist", "--into", folder, f"{lists}/one.plist", f"{lists}/past.plist", f"{lists}/twice.plist"]
         check((got := ran(stage, words))[:2] == (1, ""), f"plist --into: {got}")
         check((names := sorted(os.listdir(folder))) == ["one.json", "twice.json"], f"files: {names}")
-        check((text := text_at(f"{folder}/one.json")) == '"a\\nb\\ncé"\n', f"one.json: {text!r}")
+        check((text := text_at(f"{folder}/one.json")) == '{\n  "A": "a\\nb\\ncé"\n}\n', f"one.json: {text!r}")
         check((got := ran(stage, words[:4]))[0] == 65 and "one.json: " in got[2], f"over a file: {got}")
-        for count, status in ((262_144, 0), (262_145, 65)):
-            long = "x" * (count - len("<plist><string></string></plist>"))
+        for count, status in ((262_144, 0), (262_145, 1)):
+            long = "x" * (count - len("<plist><dict><key>A</key><string></string></dict></plist>"))
             with open(f"{folder}/long.plist", "w", encoding="utf-8") as it:
-                it.write(f"<plist><string>{long}</string></plist>")
+                it.write(f"<plist><dict><key>A</key><string>{long}</string></dict></plist>")
             check((got := ran(stage, ["plist", f"{folder}/long.plist"]))[0] == status, f"a list of {count} bytes: {got[0]}, {got[2]}")
-        deep = json.loads(ran(stage, ["plist", f"{lists}/deep_127.plist"])[1])
-        depth = 0
+        deep = json.loads(ran(stage, ["plist", f"{lists}/deep_127.plist"])[1])["A"]
+        depth = 1
         while deep is not None:
             deep, depth = (deep[0] if deep else None), depth + 1
         check(depth == 127, f"depth {depth}")

@@ -5,7 +5,7 @@ use crate::command::{Paths, WordFault, ZoneWords};
 use crate::jobd::zone_in;
 use crate::numbers::{number_of, wrong_number};
 use crate::parse::{Explanation, explain_by, parse};
-use crate::scope_command::{Meaning, MomentWords, ScopeCommand, TASKS, Task};
+use crate::scope_command::{FolderWords, Meaning, MomentWords, ScopeCommand, TASKS, Task};
 use crate::scope_words::jobscope_words;
 use clap::ArgMatches;
 use std::alloc::{AllocError, Global};
@@ -35,10 +35,10 @@ fn command_in(
     };
     let journals = texts_in(alloc, found, "journal");
     let status_file = value_of(alloc, found, "status-file");
-    let into = value_of(alloc, found, "into");
+    let folders = folders_in(alloc, found);
     let moments = moments_in(alloc, found);
-    match (words, journals, status_file, into, moments) {
-        (Ok(words), Ok(journals), Ok(status_file), Ok(into), Ok(moments)) => Ok(ScopeCommand {
+    match (words, journals, status_file, folders, moments) {
+        (Ok(words), Ok(journals), Ok(status_file), Ok(folders), Ok(moments)) => Ok(ScopeCommand {
             task,
             is_strict: is_set(found, "strict"),
             is_failing: is_set(found, "failing"),
@@ -54,14 +54,14 @@ fn command_in(
             zone,
             journals,
             status_file,
-            into,
+            folders,
             words,
         }),
-        (words, journals, status_file, into, moments) => {
+        (words, journals, status_file, folders, moments) => {
             drop(words);
             drop(journals);
             drop(status_file);
-            drop(into);
+            drop(folders);
             drop(moments);
             drop(zone);
             Err(AllocError)
@@ -88,6 +88,19 @@ fn texts_in(alloc: Global, found: &ArgMatches<'_>, id: &str) -> Result<Paths, Al
     match values_of(alloc, found, id)? {
         Some(words) => Ok(words),
         None => Ok(Paths::new(Vec::new(alloc))),
+    }
+}
+
+fn folders_in(alloc: Global, found: &ArgMatches<'_>) -> Result<FolderWords, AllocError> {
+    let into = value_of(alloc, found, "into");
+    let logs = value_of(alloc, found, "logs");
+    match (into, logs) {
+        (Ok(into), Ok(logs)) => Ok(FolderWords { into, logs }),
+        (into, logs) => {
+            drop(into);
+            drop(logs);
+            Err(AllocError)
+        }
     }
 }
 

@@ -20,4 +20,4 @@ pub use jobctl::{control_command, explain};
 pub use jobd::{daemon_command, explain_daemon};
 pub use jobscope::{explain_scope, read_scope_words};
 pub use parse::Explanation;
-pub use scope_command::{Meaning, MomentWords, ScopeCommand, Task};
+pub use scope_command::{FolderWords, Meaning, MomentWords, ScopeCommand, Task};

@@ -58,6 +58,15 @@ pub struct MomentWords {
     pub until: Option<Text>,
 }
 
+/// Folders that the words name.
+#[derive(Drop)]
+pub struct FolderWords {
+    /// In which each definition becomes a file.
+    pub into: Option<Text>,
+    /// In which the output of each job is kept.
+    pub logs: Option<Text>,
+}
+
 /// A subcommand's words. What the subcommand does not take is absent.
 #[derive(Drop)]
 pub struct ScopeCommand {
@@ -90,8 +99,7 @@ pub struct ScopeCommand {
     pub journals: Paths,
     /// The path of a launcher's status file.
     pub status_file: Option<Text>,
-    /// The folder in which each definition becomes a file.
-    pub into: Option<Text>,
+    pub folders: FolderWords,
     /// The paths of definitions, the labels of the jobs that are shown (of none, all are), or the lines of a crontab.
     pub words: Paths,
 }

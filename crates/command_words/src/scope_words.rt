@@ -223,6 +223,12 @@ const CRON: &[Argument] = &[
     },
     INTO,
     Argument {
+        id: "logs",
+        form: Form::Value { required: false },
+        value: "FOLDER",
+        help: "Keep the output of each job in LABEL.log there; it is lost where absent",
+    },
+    Argument {
         id: "lines",
         form: Form::Words,
         value: "LINE",

@@ -22,6 +22,7 @@ load_verdict (Err fault) = Refused
 abbrev pub verdict_on : Contents → Verdict
 verdict_on (came.Bytes bytes) = load_verdict (def_of bytes.items)
 verdict_on came.Unread = Unread
+verdict_on came.TooLong = Unread
 verdict_on came.Nothing = Well
 
 -- a file that was read: its path, and what it came to

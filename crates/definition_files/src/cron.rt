@@ -5,6 +5,7 @@ mod definition;
 mod entries;
 mod fault;
 mod fields;
+mod guard;
 mod input;
 mod items;
 mod keeper;

@@ -31,8 +31,10 @@ pub struct Asked<'a> {
 pub enum Contents {
     /// These bytes were read.
     Bytes(Vec<u8>),
-    /// It can't be read, or is too long; and this was told.
+    /// It can't be read; and this was told.
     Unread,
+    /// It is too long; and this was told.
+    TooLong,
     /// It is a folder without a definition; and this was told.
     Nothing,
 }
@@ -107,7 +109,7 @@ fn contents_of(
         Ok(Some(bytes)) => Ok(Contents::Bytes(bytes)),
         Ok(None) => {
             tell_of(host, path, &"too long for a request");
-            Ok(Contents::Unread)
+            Ok(Contents::TooLong)
         }
         Err(error) => {
             tell_error(host, path, &error)?;

@@ -1,5 +1,6 @@
 //! A folder in which each definition becomes a file of its own.
 
+use crate::services::port_of;
 use json::{Pretty, Reader, Scratch, Token};
 use run_times::Ink;
 use run_times::telling::tell_error;
@@ -8,13 +9,25 @@ use std::fs::OpenOptions;
 use std::io;
 use std::io::{ErrorKind, Write};
 
+/// The key whose text may name a service.
+const SERVICE_NAME: &str = "SockServiceName";
+
 /// The text of JSON with a line for each member and item, and a newline. The keys stay in their order.
 pub fn laid_out(alloc: Global, text: &str) -> Result<Vec<u8>, AllocError> {
+    laid_out_with(alloc, text, "")
+}
+
+/// As `laid_out`, and a text of `SockServiceName` that names a service of these lines, which are as those of services(5), becomes its port of TCP.
+pub(crate) fn laid_out_with(
+    alloc: Global,
+    text: &str,
+    services: &str,
+) -> Result<Vec<u8>, AllocError> {
     let mut scratch = Scratch::new(alloc);
     let mut pretty = Pretty::new(alloc);
     let put = match Reader::new(text, &mut scratch) {
         Ok(mut reader) => {
-            let put = put_each(&mut reader, text.len(), &mut pretty);
+            let put = put_each(&mut reader, text.len(), &mut pretty, services);
             drop(reader);
             put
         }
@@ -31,15 +44,35 @@ pub fn laid_out(alloc: Global, text: &str) -> Result<Vec<u8>, AllocError> {
 }
 
 // Adds the tokens that are left, which are at most so many.
-fn put_each(reader: &mut Reader<'_>, most: usize, pretty: &mut Pretty) -> Result<(), AllocError> {
+fn put_each(
+    reader: &mut Reader<'_>,
+    most: usize,
+    pretty: &mut Pretty,
+    services: &str,
+) -> Result<(), AllocError> {
+    let mut is_service = false;
     for _ in 0..most {
         match reader.next() {
             Some(Token::Bad) => break,
-            Some(token) => pretty.token(token)?,
+            Some(Token::String(name)) if is_service => {
+                is_service = false;
+                pretty.token(Token::String(port_of(services, name)))?;
+            }
+            Some(token) => {
+                is_service = names_service(token);
+                pretty.token(token)?;
+            }
             None => break,
         }
     }
     Ok(())
+}
+
+fn names_service(token: Token<'_>) -> bool {
+    match token {
+        Token::Key(key) => key == SERVICE_NAME,
+        _ => false,
+    }
 }
 
 /// Writes the bytes as a file of this name, with `.json` behind it, in the folder: a new one, and never over what is there. Whether it

@@ -7,6 +7,7 @@ pub mod cron;
 mod files;
 mod folder;
 pub mod lists;
+mod services;
 mod starts;
 mod verdict;
 

@@ -4,7 +4,8 @@ ghost use Rattle.std.specs.Prelude.{IfOk};
 ghost use Rattle.definition_files.specs.ListStatus.{IsListStatus};
 
 use crate::files::{Contents, DefinitionSource};
-use crate::folder::{laid_out, put_new};
+use crate::folder::{laid_out_with, put_new};
+use crate::services::services_of;
 use crate::verdict::{Verdict, Verdicts};
 use files_and_process::path_files::{Found, Kind};
 use history_model::Text;
@@ -24,7 +25,7 @@ pub fn json_of_list(alloc: Global, bytes: &[u8]) -> Result<Option<Vec<u8>>, Allo
 
 /// Each of the lists as a definition in JSON, a line for each member and item: a file of its own name in the folder, never over what is
 /// there, or in the text if there is no folder. What is wrong with a list is told, with its line. The status is 65 if a file can't be
-/// read, or can't be written; else 1 if a list was refused: the others are written all the same; else 0.
+/// read, or can't be written; else 1 if a list was refused or is too long: the others are written all the same; else 0.
 pub fn lists_as_json<S: DefinitionSource>(
     host: &HostRuntime,
     alloc: Global,
@@ -89,6 +90,7 @@ fn add_file<S: DefinitionSource>(
             drop(bytes);
             verdict
         }
+        Ok(Contents::TooLong) => Ok(Verdict::Refused),
         Ok(_) => Ok(Verdict::Unread),
         Err(error) => Err(error),
     }
@@ -104,6 +106,13 @@ fn add_list(
     ink: &mut Ink,
 ) -> Result<Verdict, AllocError> {
     match json_of(alloc, bytes) {
+        Ok(made) if !made.starts_with(b"{") => {
+            drop(made);
+            let _written = eprintln!(host;
+                "{path}: error: its value is no <dict>, as a definition is"
+            );
+            Ok(Verdict::Refused)
+        }
         Ok(made) => {
             let kept = keep_list(host, alloc, path, made.as_slice(), into, ink);
             drop(made);
@@ -130,7 +139,14 @@ fn keep_list(
     into: Option<&str>,
     ink: &mut Ink,
 ) -> Result<Verdict, AllocError> {
-    let shown = laid_out(alloc, std::str::from_utf8(made).unwrap_or(""))?;
+    let services = services_of(host, alloc)?;
+    let shown = laid_out_with(
+        alloc,
+        std::str::from_utf8(made).unwrap_or(""),
+        services.as_str(),
+    );
+    drop(services);
+    let shown = shown?;
     let kept = match into {
         Some(folder) => put_new(host, alloc, folder, stem_of(path), shown.as_slice()),
         None => {

@@ -98,7 +98,7 @@ fn add_job<S: DefinitionSource>(
             drop(bytes);
             verdict
         }
-        Ok(Contents::Unread) => Ok(Verdict::Unread),
+        Ok(Contents::Unread | Contents::TooLong) => Ok(Verdict::Unread),
         Ok(Contents::Nothing) => Ok(Verdict::Well),
         Err(error) => Err(error),
     }

@@ -14,9 +14,10 @@ pub(crate) enum Leaf {
     Key,
     Text,
     Integer,
+    Real,
     True,
     False,
-    /// A real number, a date or bytes, which no key of a definition has.
+    /// A date or bytes, which no key of a definition has.
     Other,
 }
 
@@ -28,7 +29,7 @@ const ELEMENTS: &[(&str, Element)] = &[
     ("integer", Element::Leaf(Leaf::Integer)),
     ("true", Element::Leaf(Leaf::True)),
     ("false", Element::Leaf(Leaf::False)),
-    ("real", Element::Leaf(Leaf::Other)),
+    ("real", Element::Leaf(Leaf::Real)),
     ("date", Element::Leaf(Leaf::Other)),
     ("data", Element::Leaf(Leaf::Other)),
 ];

@@ -8,6 +8,7 @@ mod integers;
 mod lines;
 mod list;
 mod marks;
+mod reals;
 
 pub use fault::ListFault;
 pub use list::json_of;

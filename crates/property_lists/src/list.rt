@@ -10,6 +10,7 @@ use crate::fault::{ListFault, Wrong};
 use crate::integers::{Integer, integer_of};
 use crate::lines::line_behind;
 use crate::marks::{Mark, behind_head, is_blank, next_mark};
+use crate::reals::real_of;
 use json::Writer;
 use json_kinds::json_value;
 use std::alloc::{AllocError, Global};
@@ -71,7 +72,8 @@ struct Making<'a> {
 /// The JSON of the list that the bytes mean, in one line: the first value of `<plist>`, with the keys in their order. A string and a key
 /// have each entity decoded once; an integer is the number that it is. Refused, with the line of the first fault: more than 262,144 bytes;
 /// a binary list; bytes that are no UTF-8, or no XML of this kind; more than 127 dictionaries and arrays in one another; a value where a
-/// key is wanted, or a key where a value is; an integer out of -2^63 to 2^64 - 1; a `<real>`, `<date>` or `<data>`.
+/// key is wanted, or a key where a value is; an integer out of -2^63 to 2^64 - 1; a real that is no
+/// number or is past what 64 bits have; a `<date>` or `<data>`.
 pub fn json_of(alloc: Global, bytes: &[u8]) -> Result<Vec<u8>, ListFault<'_>>
     ensures json { IfOk result (λ made. (value : Data) × (Some value ≡ json_in made.items)) }
     ensures short { OnOk result (length bytes.now ≤ 262144) }
@@ -326,6 +328,9 @@ fn end<'a>(making: &mut Making<'a>, name: &'a str) -> Result<(), Wrong<'a>> {
         making.stage = Stage::Done;
         return Ok(());
     }
+    if name == ROOT && making.stage == Stage::Within && making.open.is_empty() {
+        return Err(Wrong::Because("<$> has no value in it", name));
+    }
     let put = match (making.open.pop(), name) {
         (Some(Inside::Key), "dict") => making.writer.end_object(),
         (Some(Inside::Member), "array") => making.writer.end_array(),
@@ -369,6 +374,10 @@ fn end_leaf<'a>(making: &mut Making<'a>, reading: Reading<'a>) -> Result<(), Wro
             Some(Integer::Negative(number)) => making.writer.i64(number),
             None => return Err(Wrong::Because(NO_INTEGER, name)),
         },
+        Leaf::Real => match real_of(text) {
+            Some(number) => making.writer.float(number),
+            None => return Err(Wrong::Because(NO_REAL, name)),
+        },
         Leaf::True | Leaf::False => {
             if !text.trim_start_matches(is_blank).is_empty() {
                 return Err(Wrong::Because("<$> has a text in it", name));
@@ -383,5 +392,7 @@ fn end_leaf<'a>(making: &mut Making<'a>, reading: Reading<'a>) -> Result<(), Wro
 }
 
 const NO_INTEGER: &str = "<$> has no integer from -9223372036854775808 to 18446744073709551615";
+
+const NO_REAL: &str = "<$> has no number of 64 bits";
 
 const OTHER: &str = "<$> has no place in a definition, and no form in JSON";

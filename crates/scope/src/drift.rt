@@ -134,7 +134,7 @@ fn add_file(
             drop(bytes);
             added
         }
-        Ok(Contents::Unread) => Ok(false),
+        Ok(Contents::Unread | Contents::TooLong) => Ok(false),
         Ok(Contents::Nothing) => Ok(true),
         Err(error) => Err(error),
     }

@@ -122,18 +122,18 @@ fn of_lines(
     of: &ScopeCommand,
     lines: &[Text],
 ) -> io::Result<u8> {
-    let around = surroundings_of(host, alloc, of.has_user)?;
+    let around = surroundings_of(host, alloc, of.has_user, named(&of.folders.logs))?;
     let mut keeper = HostLines {
         host,
-        into: into_of(of),
+        into: named(&of.folders.into),
     };
     let ended = cron_ended(host, alloc, &mut keeper, lines, &around);
     drop(around);
     ended
 }
 
-fn into_of(of: &ScopeCommand) -> Option<&str> {
-    match &of.into {
+fn named(folder: &Option<Text>) -> Option<&str> {
+    match folder {
         Some(folder) => Some(folder.as_str()),
         None => None,
     }
@@ -143,7 +143,8 @@ fn into_of(of: &ScopeCommand) -> Option<&str> {
 fn of_lists(host: &HostRuntime, alloc: Global, of: &ScopeCommand) -> io::Result<u8> {
     let mut source = HostFiles { host };
     let paths = of.words.as_slice();
-    plist_ended(host, alloc, &mut source, paths, LINE_LIMIT, into_of(of))
+    let into = named(&of.folders.into);
+    plist_ended(host, alloc, &mut source, paths, LINE_LIMIT, into)
 }
 
 // What is told of definitions in the zone that the words name, as of the second that they name, or of now.

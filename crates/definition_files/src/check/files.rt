@@ -152,7 +152,7 @@ fn check_file<S: DefinitionSource>(
             drop(bytes);
             verdict
         }
-        Ok(Contents::Unread) => Ok(Verdict::Unread),
+        Ok(Contents::Unread | Contents::TooLong) => Ok(Verdict::Unread),
         Ok(Contents::Nothing) => Ok(Verdict::Well),
         Err(error) => Err(error),
     }

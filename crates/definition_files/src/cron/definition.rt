@@ -7,6 +7,7 @@ ghost use Rattle.definition_files.specs.LineStatus.{Loads};
 use crate::cron::command::command_of;
 use crate::cron::entries::{EntriesFault, entries_of};
 use crate::cron::fault::{LineFault, told};
+use crate::cron::guard::guard_in;
 use crate::cron::line::When;
 use crate::cron::naming::name_of;
 use crate::cron::settings::Settings;
@@ -38,17 +39,29 @@ pub struct Job<'a> {
     pub command: &'a str,
 }
 
+/// What a definition runs.
+#[derive(Clone, Copy)]
+struct Words<'a> {
+    user: Option<&'a str>,
+    /// The test before the command; empty if there is none.
+    guard: &'a str,
+    command: &'a str,
+}
+
 /// A definition that was made of a line.
 #[derive(Drop)]
 pub struct Made {
     pub label: String,
     /// The definition as JSON, in one line with its newline.
     pub text: String,
+    /// It starts at more minutes than the line names, and a test before the command ends those runs.
+    pub is_guarded: bool,
 }
 
-/// The definition that runs the job's command by the shell, with the variables that were set, in the home folder. Each is one that a load
-/// takes. Refused: no entries match what the fields match, or more than 64 would; the command has an input, a NUL byte or more than 4,096
-/// bytes; or a load would refuse the definition for something else, as a variable that is too long.
+/// The definition that runs the job's command by the shell, with the variables that were set and those that cron sets, in the home folder. Each
+/// is one that a load takes. If no 64 entries say the line's minutes, or a day and a weekday must both suit, a test stands before the command.
+/// Refused: the command has an input, a NUL byte or more than 4,096 bytes; or a load would refuse the definition for something else, as a
+/// variable that is too long.
 pub fn definition_of(
     alloc: Global,
     job: Job<'_>,
@@ -64,22 +77,30 @@ pub fn definition_of(
         user,
         command,
     } = job;
-    let read = match command_of(alloc, command) {
-        Ok(command) => {
-            let label = label_of(alloc, number, comment, command.as_str());
-            let text = text_of(
-                alloc,
-                &label,
-                &when,
+    let mut when = when;
+    let guard = guard_in(alloc, &mut when);
+    let read = match (guard, command_of(alloc, command)) {
+        (Ok(guard), Ok(command)) => {
+            let words = Words {
                 user,
-                command.as_str(),
-                settings,
-                around,
-            );
+                guard: guard.as_str(),
+                command: command.as_str(),
+            };
+            let label = label_of(alloc, number, comment, command.as_str());
+            let text = text_of(alloc, &label, &when, &words, settings, around);
+            let is_guarded = !guard.is_empty();
+            drop(guard);
             drop(command);
-            made_of(alloc, label, text)
+            made_of(alloc, label, text, is_guarded)
         }
-        Err(fault) => Err(fault),
+        (guard, Err(fault)) => {
+            drop(guard);
+            Err(fault)
+        }
+        (Err(_), command) => {
+            drop(command);
+            Err(LineFault::NoMemory)
+        }
     };
     drop(when);
     read
@@ -103,12 +124,17 @@ fn made_of(
     alloc: Global,
     label: Result<String, AllocError>,
     text: Result<String, LineFault>,
+    is_guarded: bool,
 ) -> Result<Made, LineFault>
     ensures loads { IfOk result (λ made. Loads (string_bytes made.text)) }
 {
     match (label, text) {
         (Ok(label), Ok(text)) => match load_fault(alloc, text.as_str()) {
-            None => Ok(Made { label, text }),
+            None => Ok(Made {
+                label,
+                text,
+                is_guarded,
+            }),
             Some(fault) => {
                 drop(label);
                 drop(text);
@@ -147,24 +173,31 @@ fn text_of(
     alloc: Global,
     label: &Result<String, AllocError>,
     when: &When,
-    user: Option<&str>,
-    command: &str,
+    words: &Words<'_>,
     settings: &Settings,
     around: &Surroundings,
 ) -> Result<String, LineFault> {
     let mut ink = Ink::new(alloc);
     ink.put("{\"Label\": ");
-    match label {
-        Ok(label) => put_json(alloc, &mut ink, label.as_str()),
-        Err(_) => ink.refuse(),
-    }
+    let label = match label {
+        Ok(label) => label.as_str(),
+        Err(_) => {
+            ink.refuse();
+            ""
+        }
+    };
+    put_json(alloc, &mut ink, label);
     ink.put(", \"ProgramArguments\": [");
-    put_user(alloc, &mut ink, user, around);
-    put_json(alloc, &mut ink, settings.value_of("SHELL").unwrap_or(SHELL));
-    ink.put(", \"-c\", ");
-    put_json(alloc, &mut ink, command);
+    put_user(alloc, &mut ink, words.user, around);
+    let shell = settings.value_of("SHELL").unwrap_or(SHELL);
+    if !words.guard.is_empty() {
+        put_shell(alloc, &mut ink, SHELL, words.guard);
+        ink.put(", ");
+    }
+    put_shell(alloc, &mut ink, shell, words.command);
     ink.put("]");
-    put_surroundings(alloc, &mut ink, user, settings, around);
+    put_surroundings(alloc, &mut ink, words.user, settings, around);
+    put_logs(alloc, &mut ink, label, around);
     let fault = put_start(alloc, &mut ink, when);
     match (fault, ink.into_text()) {
         (None, Ok(text)) => Ok(text),
@@ -173,6 +206,32 @@ fn text_of(
             drop(text);
             Err(fault)
         }
+    }
+}
+
+// Adds the words of a shell that does what this text says.
+fn put_shell(alloc: Global, ink: &mut Ink, shell: &str, text: &str) {
+    put_json(alloc, ink, shell);
+    ink.put(", \"-c\", ");
+    put_json(alloc, ink, text);
+}
+
+// Adds the file that keeps the output, if there is a folder for it.
+fn put_logs(alloc: Global, ink: &mut Ink, label: &str, around: &Surroundings) {
+    let Some(folder) = around.logs.as_deref() else {
+        return;
+    };
+    let mut path = Ink::new(alloc);
+    path.fill("$/$.log", &[Text(folder), Text(label)]);
+    match path.into_text() {
+        Ok(path) => {
+            ink.put(", \"StandardOutPath\": ");
+            put_json(alloc, ink, path.as_str());
+            ink.put(", \"StandardErrorPath\": ");
+            put_json(alloc, ink, path.as_str());
+            drop(path);
+        }
+        Err(_) => ink.refuse(),
     }
 }
 
@@ -219,7 +278,7 @@ fn put_option(alloc: Global, ink: &mut Ink, option: &str, value: &str) {
     ink.put(", ");
 }
 
-// Adds the variables, and the working folder, which is the home folder.
+// Adds the variables, those first that cron sets, and the working folder, which is the home folder.
 fn put_surroundings(
     alloc: Global,
     ink: &mut Ink,
@@ -235,30 +294,29 @@ fn put_surroundings(
         None => around.home.as_deref(),
     };
     let set = settings.value_of("HOME");
-    let mut is_first = true;
-    if let (Some(_), Some(home), None) = (user, own, set) {
-        put_variable(alloc, ink, &mut is_first, "HOME", home);
+    let mut before = ", \"EnvironmentVariables\": {";
+    if settings.value_of("SHELL").is_none() {
+        put_variable(alloc, ink, &mut before, "SHELL", SHELL);
     }
-    if let Some(name) = user {
-        put_variable(alloc, ink, &mut is_first, "LOGNAME", name);
+    if let (Some(home), None) = (own, set) {
+        put_variable(alloc, ink, &mut before, "HOME", home);
+    }
+    if let Some(name) = user.or(around.asker()) {
+        put_variable(alloc, ink, &mut before, "LOGNAME", name);
     }
     for (name, value) in settings.as_slice() {
-        put_variable(alloc, ink, &mut is_first, name.as_str(), value.as_str());
+        put_variable(alloc, ink, &mut before, name.as_str(), value.as_str());
     }
-    ink.put(if is_first { "" } else { "}" });
+    ink.put("}");
     if let Some(home) = set.or(own) {
         ink.put(", \"WorkingDirectory\": ");
         put_json(alloc, ink, home);
     }
 }
 
-fn put_variable(alloc: Global, ink: &mut Ink, is_first: &mut bool, name: &str, value: &str) {
-    ink.put(if *is_first {
-        ", \"EnvironmentVariables\": {"
-    } else {
-        ", "
-    });
-    *is_first = false;
+fn put_variable(alloc: Global, ink: &mut Ink, before: &mut &'static str, name: &str, value: &str) {
+    ink.put(*before);
+    *before = ", ";
     put_json(alloc, ink, name);
     ink.put(": ");
     put_json(alloc, ink, value);

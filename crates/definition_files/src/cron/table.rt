@@ -22,6 +22,10 @@ struct Above {
     settings: Settings,
     /// The comment that stands right above; empty if there is none.
     comment: String,
+    /// Cron would mail what a command writes.
+    is_mailed: bool,
+    /// That the output is lost was told.
+    is_loss_told: bool,
 }
 
 /// A definition for each line that runs a command, which the keeper is given. Each line is judged once, in order. What is wrong with a
@@ -41,6 +45,8 @@ pub fn definitions_of<K: LineKeeper>(
     let mut above = Above {
         settings: Settings::new(alloc),
         comment: String::new(alloc),
+        is_mailed: true,
+        is_loss_told: false,
     };
     let judged = judge_each(host, alloc, keeper, lines, around, &mut above, &mut text);
     drop(above);
@@ -106,6 +112,9 @@ fn made_of(
             if is_taken(name) {
                 above.settings.set(alloc, name, value)?;
             }
+            if name == "MAILTO" {
+                above.is_mailed = !value.is_empty();
+            }
             tell_variable(host, number, name, value);
             Ok(None)
         }
@@ -127,7 +136,10 @@ fn made_of(
             let made = definition_of(alloc, job, &above.settings, around);
             above.comment.clear();
             match made {
-                Ok(made) => Ok(Some(made)),
+                Ok(made) => {
+                    tell_made(host, number, made.is_guarded, around, above);
+                    Ok(Some(made))
+                }
                 Err(fault) => Err(fault),
             }
         }
@@ -191,6 +203,28 @@ fn tell_user(
         _ => return,
     };
     tell_note(host, number, name, told);
+}
+
+const GUARDED: &str =
+    "no 64 entries say its minutes; it starts at more, and a test before the command ends those runs, with code 0, by the zone of TZ= in it: write the launcher's";
+
+const LOST: &str = "what the jobs write is lost, which cron mailed; --logs FOLDER keeps it";
+
+// Tells what a definition has that the line has not: a test before the command; and once that the output is lost.
+fn tell_made(
+    host: &HostRuntime,
+    number: usize,
+    is_guarded: bool,
+    around: &Surroundings,
+    above: &mut Above,
+) {
+    if is_guarded {
+        tell_note(host, number, "a guard", GUARDED);
+    }
+    if around.logs.is_none() & above.is_mailed & !above.is_loss_told {
+        above.is_loss_told = true;
+        tell_note(host, number, "no --logs", LOST);
+    }
 }
 
 fn tell_note<'a>(host: &HostRuntime, number: usize, name: &'a str, told: &'a str) {

@@ -1,0 +1,155 @@
+//! A test before the command, for a line that no 64 entries can say.
+
+use crate::cron::entries::MOST_ENTRIES;
+use crate::cron::fields::{Field, Fields};
+use crate::cron::line::When;
+use run_times::Ink;
+use std::alloc::{AllocError, Global};
+
+// The moment that is judged: that of the start, put back by the field's first minute. From the first minute of an hour that has entries up to the
+// first one of the next it has the hour of the entry that came due last, however late the start is.
+const BEFORE_MINUTE: &str = "set -- \"$(TZ=:/etc/localtime /bin/date -d '";
+
+const BEHIND_MINUTE: &str = " minutes ago' +%-m.%-d.%w%u.%-H)\" \"$@\"; ";
+
+const END: &str = "shift; exec \"$0\" \"$@\"";
+
+/// A field, with what stands before and behind each value in the text of the moment.
+#[derive(Clone, Copy)]
+struct Judged<'a> {
+    field: &'a Field,
+    before: &'static str,
+    behind: &'static str,
+}
+
+/// The words of a shell that become the program at the line's minutes alone, if no 64 entries say these, or a day and a weekday must both suit:
+/// a field that they judge is then as `*`. Empty, and the fields as they were, if entries say the minutes.
+pub(crate) fn guard_in(alloc: Global, when: &mut When) -> Result<String, AllocError> {
+    let mut ink = Ink::new(alloc);
+    if let When::Minutes(fields) = when {
+        if is_both(fields) || has_many(fields) {
+            put_guard(&mut ink, fields);
+        }
+    }
+    ink.into_text()
+}
+
+fn put_guard(ink: &mut Ink, fields: &mut Fields) {
+    ink.put(BEFORE_MINUTE);
+    ink.put_number(first_minute(fields));
+    ink.put(BEHIND_MINUTE);
+    if is_both(fields) {
+        put_case(ink, &[by_day(&fields.days)]);
+        fields.days.is_every = true;
+    }
+    if has_many(fields) {
+        put_case(ink, &[by_hour(&fields.hours)]);
+        fields.hours.is_every = true;
+    }
+    if has_many(fields) {
+        put_case(ink, &[by_day(&fields.days), by_weekday(&fields.weekdays)]);
+        fields.days.is_every = true;
+        fields.weekdays.is_every = true;
+    }
+    if has_many(fields) {
+        put_case(ink, &[by_month(&fields.months)]);
+        fields.months.is_every = true;
+    }
+    ink.put(END);
+}
+
+fn by_hour(field: &Field) -> Judged<'_> {
+    Judged {
+        field,
+        before: "*.*.*.",
+        behind: "",
+    }
+}
+
+fn by_day(field: &Field) -> Judged<'_> {
+    Judged {
+        field,
+        before: "*.",
+        behind: ".*.*",
+    }
+}
+
+// Both numbers of Sunday stand in the text of the moment.
+fn by_weekday(field: &Field) -> Judged<'_> {
+    Judged {
+        field,
+        before: "*.*.*",
+        behind: "*.*",
+    }
+}
+
+fn by_month(field: &Field) -> Judged<'_> {
+    Judged {
+        field,
+        before: "",
+        behind: ".*.*.*",
+    }
+}
+
+// Adds the test that one of the fields suits; nothing, if none has values.
+fn put_case(ink: &mut Ink, fields: &[Judged<'_>]) {
+    let mut is_first = true;
+    for judged in fields {
+        put_values(ink, judged, &mut is_first);
+    }
+    if !is_first {
+        ink.put(") ;; *) exit;; esac; ");
+    }
+}
+
+fn put_values(ink: &mut Ink, judged: &Judged<'_>, is_first: &mut bool) {
+    if judged.field.is_every {
+        return;
+    }
+    for value in judged.field.values.as_slice() {
+        ink.put(if *is_first { "case $1 in " } else { "|" });
+        ink.put(judged.before);
+        ink.put_number(u64::from(*value));
+        ink.put(judged.behind);
+        *is_first = false;
+    }
+}
+
+fn first_minute(fields: &Fields) -> u64 {
+    match fields.minutes.values.as_slice().first() {
+        Some(minute) => u64::from(*minute),
+        None => 0,
+    }
+}
+
+// A day and a weekday are named, and both have to suit.
+fn is_both(fields: &Fields) -> bool {
+    !fields.is_either & !fields.days.is_every & !fields.weekdays.is_every
+}
+
+// The fields make more entries than a definition may have.
+fn has_many(fields: &Fields) -> bool {
+    let by_day = if fields.days.is_every {
+        0
+    } else {
+        choices(&fields.days)
+    };
+    let by_weekday = if fields.weekdays.is_every & !fields.days.is_every {
+        0
+    } else {
+        choices(&fields.weekdays)
+    };
+    let days = by_day.saturating_add(by_weekday);
+    let hours = choices(&fields.hours).saturating_mul(choices(&fields.months));
+    days.saturating_mul(hours)
+        .saturating_mul(choices(&fields.minutes))
+        > MOST_ENTRIES
+}
+
+fn choices(field: &Field) -> usize {
+    if field.is_every {
+        1
+    } else {
+        field.values.len()
+    }
+}
