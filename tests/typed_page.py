@@ -35,10 +35,16 @@ def steps_of(text, mark):
     return steps
 
 
+def by_make_quick(rows):
+    """The lines but for what programs of `make quick` say of themselves, which is none of the page's."""
+    return [row for row in rows if not row.endswith(": not proved (make quick made it; make build proves it)")]
+
+
 def plain(rows):
     """The lines without what differs from run to run."""
     forms = [(r"^\d+\t", "PID\t"), (r"(?<=pid = )\d+", "PID"), (r"\b\d{4}-\d\d-\d\d\b( [A-Z][a-z]{2}\b)?", "DATE"), (r"\b\d\d:\d\d:\d\d\b", "TIME"), (r"\bafter \d+\.\d s", "after SPAN"),
              (r"[+-]\d{4}\b", "ZONE")]
+    rows = by_make_quick(rows)
     for form, word in forms:
         rows = [re.sub(form, word, row) for row in rows]
     return rows
@@ -48,7 +54,10 @@ def came_of(shell, typed, shown):
     if typed[-1].endswith("&"):
         shell.stdin.write("\n".join(typed) + "\n")
         shell.stdin.flush()
-        return [shell.stdout.readline().rstrip("\n") for _ in shown]
+        came = []
+        while len(came) < len(shown) and (row := shell.stdout.readline()):
+            came += by_make_quick([row.rstrip("\n")])
+        return came
     shell.stdin.write("\n".join(typed) + f"\necho '{END}'\n")
     shell.stdin.flush()
     came = []
@@ -60,15 +69,15 @@ def came_of(shell, typed, shown):
     return [*came, "the shell has ended"]
 
 
-def type_page(page, mark, programs, folder, variables=()):
-    """Types the blocks in a shell with these variables too. Answers how many lines were typed, or 0."""
+def type_page(page, mark, programs, folder, variables=(), shell=("bash",)):
+    """Types the blocks in a shell with these variables too. Answers how many lines were typed, or 0. The words of `shell` start it, somewhere else too."""
     with open(page, encoding="utf-8") as it:
         steps = steps_of(it.read(), mark)
     environment = {key: value for key, value in os.environ.items() if not key.startswith("JOBD_") and key != "JOBCTL_TIMEOUT"}
     environment.update(variables)
     environment["PATH"] = programs + ":" + environment["PATH"]
     shell = subprocess.Popen(
-        ["bash"], cwd=folder, env=environment, stdin=subprocess.PIPE, stdout=subprocess.PIPE, stderr=subprocess.STDOUT, text=True)
+        list(shell), cwd=folder, env=environment, stdin=subprocess.PIPE, stdout=subprocess.PIPE, stderr=subprocess.STDOUT, text=True)
     # As a shell at a terminal: what runs in the background ignores no signal.
     shell.stdin.write("set -m\n")
     for typed, shown in steps:
