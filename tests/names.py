@@ -59,7 +59,7 @@ NO_FILES = {"KeepAlive", "Sockets", "StartCalendarInterval", "NAME", "File", "PR
 
 
 # Pages whose names are of other programs and of jobs that they define; a script types their lines.
-TYPED = {f"{TOP}/docs/{name}.md" for name in ("TUTORIAL", "COOKBOOK", "MOVING")}
+TYPED = {f"{TOP}/docs/{name}.md" for name in ("TUTORIAL", "COOKBOOK", "MOVING", "BEYOND-ONE-MACHINE")}
 
 # Pages whose tables are read first, and the longest row that they may have.
 SHORT = {"docs/MAP.md", "docs/GLOSSARY.md", "docs/CHANGING.md", "docs/CHEAP_TO_PROVE.md"}
