@@ -122,12 +122,12 @@ pub fn jobctl<R: Net + Files + Env + Print + Eprint + Watched + AllocGlobal + Cl
     let meant = read_by(alloc, &settings, words);
     drop(settings);
     match meant {
-        Ok(Words { socket, command }) if has_more_marks(words, &command) => {
-            drop(socket);
-            drop(command);
-            refuse_mark(rt)
-        }
         Ok(Words { socket, command }) => {
+            if has_more_marks(words, &command) {
+                drop(socket);
+                drop(command);
+                return refuse_mark(rt);
+            }
             let is_unnamed = !has_named
                 && socket.as_str() == SOCKET
                 && metadata(rt, PACKAGED).is_ok();
@@ -161,12 +161,15 @@ fn marks_of(words: &[String]) -> usize {
 // Whether a word is not UTF-8 that names no file to load or to unload.
 fn has_more_marks(words: &[String], command: &Command) -> bool {
     let mut left = marks_of(words);
-    if let Command::Load { paths, .. } | Command::Unload { paths, .. } = command {
-        for path in paths.as_slice() {
-            if path.as_str().ends_with(MARK) {
-                left = left.saturating_sub(1);
+    match command {
+        Command::Load { paths, .. } | Command::Unload { paths, .. } => {
+            for path in paths.as_slice() {
+                if path.as_str().ends_with(MARK) {
+                    left = left.saturating_sub(1);
+                }
             }
         }
+        _ => {}
     }
     left > 0
 }
