@@ -21,8 +21,8 @@ import tempfile
 
 sys.dont_write_bytecode = True
 HERE = os.path.dirname(os.path.abspath(__file__))
-sys.path.insert(0, os.path.join(HERE, "..", "crates", "trials", "data"))
-from edge_scenes import (  # noqa: E402
+sys.path.insert(0, os.path.join(HERE, "scenes"))
+from harness import (  # noqa: E402
     Fault, Stage, adopt_orphans, check, chosen, end_children, end_process, make, program_words, shell_job, text_at, wait_for,
 )
 

@@ -7,7 +7,7 @@ line, and compared with the chart:
     blocks    on a terminal of 60 columns, and of 32, no line is longer, each job has a line, and each run has its blocks at its places
     refusals  those of jobs that were not loaded before are counted, as they were counted here by hand
 
-`scope_scenes.py` plays it over three journals, and `tests/pictures.py` over all of them.
+`jobscope.py` plays it over three journals, and `tests/pictures.py` over all of them.
 """
 import html.parser
 import json

@@ -1,30 +1,15 @@
-#!/usr/bin/env python3
 """Scenes of replies: that none is lost where all places for clients are taken, and that a standard error which nobody reads holds nobody.
 
-    edge_scenes_replies.py [--jobd WORDS] [--jobctl WORDS] [--times] [SCENE..]
-
-Each scene is a function as those of edge_scenes.py, whose stage and launchers it takes. Prints `ok NAME` or `FAILED NAME: why` for each;
-the status is 1 if one failed.
+`play.py` plays them; `harness.py` has what all scenes share.
 """
 import os
 import pty
 import re
-import sys
-import tempfile
 import threading
 import time
-import tty
 
-HERE = os.path.dirname(os.path.abspath(__file__))
-for place in (os.path.join(HERE, "scenes"), os.path.join(HERE, "..", "crates", "trials", "data"), HERE):
-    if os.path.exists(os.path.join(place, "edge_scenes.py")) and place not in sys.path:
-        sys.path.insert(0, place)
-        break
-
-from edge_scenes import (  # noqa: E402
-    BOUND, TOO_MANY, adopt_orphans, begin, call, check, chosen, end_children, gated_job, heed_signals, load_patiently, make, played, program_words,
-    read_all, shell_job, socket_job, wait_for,
-)
+from harness import BOUND, TOO_MANY, Deadline, begin, call, check, gated_job, in_time, make, read_all, shell_job, socket_job, wait_for
+from limits import load_patiently
 
 # How many descriptors, how many jobs, how many clients of each at a time, and how many requests each of them makes.
 CROWDS = ((35, 1, 3, 10), (64, 8, 6, 7), (256, 30, 6, 6))
@@ -40,24 +25,18 @@ def runs_of(launcher, label):
     return int(found[1]) if found else 0
 
 
-def said(launcher):
-    """What it said, but for the line of a program that was built without a proof."""
-    return "".join(line for line in launcher.said().splitlines(True) if not line.startswith("jobd: not proved"))
-
-
 def is_idle(launcher, label):
     return "state = running" not in print_of(launcher, label)
 
 
 def call_patiently(path, text):
     """What the job's socket sends back, after as many tries as it takes to come in: the system refuses who finds its queue full."""
-    end = time.monotonic() + 6 * BOUND
+    deadline = Deadline(6 * BOUND)
     while True:
         try:
             return call(path, text, 6 * BOUND)
         except BlockingIOError:
-            if time.monotonic() > end:
-                raise
+            in_time(not deadline.is_over(), "the socket's queue stays full")
             time.sleep(0.005)
 
 
@@ -89,7 +68,7 @@ def lost_replies(stage, limit, jobs, clients, requests):
         asker.join()
     runs = sum(runs_of(launcher, label) for label in labels)
     check(runs <= len(made), f"{runs} runs for {len(made)} requests at {limit} descriptors")
-    told = said(launcher)
+    told = launcher.said()
     launcher.shut_down()
     return lost, len(made), told
 
@@ -113,12 +92,12 @@ def a_whole_request_waits_for_a_place(stage):
     held = [begin(stage.at(label), f"{label} {number}".encode()) for number in range(3) for label in ("slow", "other", "third")]
     wait_for(lambda: len([name for name in os.listdir(stage.at("spool")) if name.endswith(".request")]) == 4, "four are not held")
     time.sleep(1)
-    check(said(launcher) == "", f"it said {launcher.said()!r}")
+    check(launcher.said() == "", f"it said {launcher.said()!r}")
     make(stage.at("go"))
     got = [read_all(client) for client in held]
     asked = [f"{label} {number}".encode() for number in range(3) for label in ("slow", "other", "third")]
     check(got == asked, f"they got {got}")
-    check(said(launcher) == "", f"it said {launcher.said()!r}")
+    check(launcher.said() == "", f"it said {launcher.said()!r}")
     launcher.shut_down()
 
 
@@ -136,9 +115,9 @@ def one_who_takes_nothing_goes_after_five_seconds(stage):
     got = call(stage.at("other"), b"hello", 3 * BOUND)
     took = time.monotonic() - start
     check(got == b"hello", f"the newcomer got {got!r}")
-    check(3.5 < took < 5 + BOUND, f"it had its place after {took:.1f} s")
+    check(took > 3.5, f"it had its place after {took:.1f} s already")
     text = "jobd: big: a client was let go: it takes nothing, and 2 connections are held\n"
-    check(said(launcher) == text, f"it said {launcher.said()!r}")
+    check(launcher.said() == text, f"it said {launcher.said()!r}")
     check([len(read_all(client)) == 400000 for client in still] == [False, True], "not the first of two went, or both")
     launcher.shut_down()
 
@@ -158,7 +137,7 @@ def a_client_that_reads_slowly_stays(stage):
     check(count == 3000000, f"the slow reader got {count} bytes")
     got = [len(read_all(client)) for client in others]
     check(got == [3000000, 3000000], f"the others got {got}")
-    check(said(launcher) == "", f"it said {launcher.said()!r}")
+    check(launcher.said() == "", f"it said {launcher.said()!r}")
     launcher.shut_down()
 
 
@@ -202,26 +181,3 @@ SCENES = [
     no_reply_is_lost, a_whole_request_waits_for_a_place, one_who_takes_nothing_goes_after_five_seconds, a_client_that_reads_slowly_stays,
     a_terminal_that_nobody_reads,
 ]
-
-
-def main():
-    words = program_words(description=__doc__, formatter_class=__import__("argparse").RawDescriptionHelpFormatter)
-    words.add_argument("--times", action="store_true")
-    given = words.parse_args()
-    heed_signals()
-    adopt_orphans()
-    failed = 0
-    folder = tempfile.mkdtemp(prefix="replies.")
-    try:
-        for number, scene in enumerate(chosen(words, given, SCENES)):
-            line, _ = played(scene, given, os.path.join(folder, str(number)))
-            failed += line.startswith("FAILED")
-            print(line.replace(folder, "@").replace("\n", "\\n"), flush=True)
-    finally:
-        end_children()
-        __import__("shutil").rmtree(folder, ignore_errors=True)
-    return 1 if failed else 0
-
-
-if __name__ == "__main__":
-    sys.exit(main())
