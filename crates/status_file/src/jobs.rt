@@ -171,7 +171,7 @@ fn add_line(
 
 // By what a label is disabled, if it is. Both may disable it: then the definition is told.
 fn disabled_by(is_disabled: bool, in_definition: bool) -> Option<DisabledBy>
-    ensures { is_some result ≡ is_disabled }
+    ensures disabled { is_some result ≡ is_disabled }
     ensures by { is_disabled ≡ true → result ≡ Some (if in_definition then Definition else Override) }
 {
     match (is_disabled, in_definition) {
