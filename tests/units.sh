@@ -312,20 +312,21 @@ user=$(machine_in sh -c 'useradd -m -s /bin/sh someone && id -u someone')
 as_someone() {
     machine_in setpriv --reuid="$user" --regid="$user" --init-groups -- env HOME=/home/someone USER=someone XDG_RUNTIME_DIR="/run/user/$user" "$@"
 }
-if machine_in systemctl start "user@$user.service" 2>"$scratch/log"; then
-    as_someone mkdir -p /home/someone/.config/jobd
-    define home/someone/.config/jobd/mine.json '{"Label": "mine", "KeepAlive": true, "ProgramArguments": ["/bin/sh", "-c", "env >$HOME/variables; exec sleep 1000"]}'
-    as_someone systemctl --user enable -q --now jobd
-    [ "$(as_someone systemctl --user show -p StatusText --value jobd)" = '1 jobs loaded, 0 not' ] || fail "a user's own unit: $(as_someone systemctl --user status jobd)"
-    as_someone jobctl --socket "/run/user/$user/jobd/jobd.sock" list | grep -w mine >/dev/null || fail "a user's own launcher does not answer"
-    until_true grep -qx HOME=/home/someone "$tree/home/someone/variables"
-    [ -f "$tree/home/someone/.local/state/jobd/journal.jsonl" ] || fail "a user's own launcher has no journal"
-    as_someone systemctl --user stop jobd
-    machine_in systemctl stop "user@$user.service"
-    echo "units: systemctl --user enable --now jobd: passed"
-else
-    echo "units: user@$user.service does not start here, so a user's own unit was not tried: $(cat "$scratch/log")"
-fi
+# As user@.service starts it, without a login.
+machine_in install -d -o someone -g someone -m 700 "/run/user/$user"
+machine_in systemd-run -q --unit=someone --uid=someone -p Delegate=yes -E HOME=/home/someone -E XDG_RUNTIME_DIR="/run/user/$user" /lib/systemd/systemd --user
+answers() { as_someone systemctl --user list-units; }
+until_true answers
+as_someone mkdir -p /home/someone/.config/jobd
+define home/someone/.config/jobd/mine.json '{"Label": "mine", "KeepAlive": true, "ProgramArguments": ["/bin/sh", "-c", "env >$HOME/variables; exec sleep 1000"]}'
+as_someone systemctl --user enable -q --now jobd
+[ "$(as_someone systemctl --user show -p StatusText --value jobd)" = '1 jobs loaded, 0 not' ] || fail "a user's own unit: $(as_someone systemctl --user status jobd)"
+as_someone jobctl --socket "/run/user/$user/jobd/jobd.sock" list | grep -w mine >/dev/null || fail "a user's own launcher does not answer"
+until_true grep -qx HOME=/home/someone "$tree/home/someone/variables"
+[ -f "$tree/home/someone/.local/state/jobd/journal.jsonl" ] || fail "a user's own launcher has no journal"
+as_someone systemctl --user stop jobd
+machine_in systemctl stop someone
+echo "units: systemctl --user enable --now jobd: passed"
 machine_in userdel -r someone 2>/dev/null || true
 rm -rf "$tree/home/someone"
 
