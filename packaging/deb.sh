@@ -36,6 +36,8 @@ mkdir -p "$root/DEBIAN" "$root/etc/jobd" "$root/etc/needrestart/conf.d" "$root/l
 PREFIX=/usr DESTDIR=$PWD/$root sh "$source/install.sh"
 doc=$root/usr/share/doc/jobd
 mv "$doc/contrib/jobd.service" "$doc/contrib/jobd@.service" "$root/lib/systemd/system"
+mkdir -p "$root/usr/lib/systemd/user"
+mv "$doc/contrib/jobd-user.service" "$root/usr/lib/systemd/user/jobd.service"
 rm "$doc/LICENSE-MIT" "$doc/LICENSE-APACHE"
 # Where Debian looks for each.
 mkdir -p "$root/usr/share/zsh/vendor-completions"

@@ -28,7 +28,7 @@ ln -s jobd "$stage/bin/jobctl"
 ln -s jobd "$stage/bin/jobscope"
 install -m 644 man/*.[158] "$stage/man"
 cp -r completions "$stage"
-install -m 644 contrib/jobd.service contrib/jobd@.service contrib/jobd.logrotate contrib/Containerfile contrib/moving.py "$stage/contrib"
+install -m 644 contrib/jobd.service contrib/jobd@.service contrib/jobd-user.service contrib/jobd.logrotate contrib/Containerfile contrib/moving.py "$stage/contrib"
 install -m 755 contrib/jobd-run contrib/jobd.openrc contrib/jobd.runit contrib/jobctl-reload contrib/jobd-split-users contrib/from-systemd contrib/from-supervisor contrib/to-kubernetes \
     contrib/jobd-on-slurm "$stage/contrib"
 for page in TUTORIAL COOKBOOK FAQ MOVING OPERATING WHY-NOT-RUNNING DIFFERENCES JSON BEYOND-ONE-MACHINE; do

@@ -58,7 +58,7 @@ put() {
     install -m 644 examples/jobs/*.json examples/*.jsonl examples/*.out "$doc/examples"
     install -m 644 examples/night/journal.jsonl "$doc/examples/night"
     filled contrib/jobd-run "$root/libexec/jobd-run" 755
-    for file in jobd.service jobd@.service jobd.logrotate Containerfile moving.py; do
+    for file in jobd.service jobd@.service jobd-user.service jobd.logrotate Containerfile moving.py; do
         filled "contrib/$file" "$doc/contrib/$file" 644
     done
     for file in jobd.openrc jobd.runit from-systemd from-supervisor to-kubernetes jobd-on-slurm; do

@@ -67,7 +67,7 @@ for name in jobctl jobscope; do
 done
 [ "$(stat -c %a "$root/etc/jobd")" = 755 ] || fail "/etc/jobd is not there"
 inside jobd --help | grep -x "Kivgrond $(cat VERSION)" >/dev/null || fail "the help does not tell the version"
-inside systemd-analyze verify --man=no /lib/systemd/system/jobd.service /lib/systemd/system/jobd@.service 2>"$root/root/verified" || true
+inside systemd-analyze verify --man=no /lib/systemd/system/jobd.service /lib/systemd/system/jobd@.service /usr/lib/systemd/user/jobd.service 2>"$root/root/verified" || true
 if grep 'jobd' "$root/root/verified" >&2; then fail "systemd-analyze has a complaint"; fi
 grep -qx "Kivgrond $version" "$root/usr/share/doc/jobd/PROVED.txt" || fail "PROVED.txt names another version than $version"
 inside sh -c '[ -L /etc/systemd/system/multi-user.target.wants/jobd.service ]' || fail "jobd.service is not enabled"
@@ -187,6 +187,9 @@ keeper=
 [ ! -e "$root/usr/bin/jobd" ] || fail "a removal left the program"
 [ -f "$root/etc/jobd/hello.json" ] || fail "a removal took a definition"
 inside apt-get -qq purge -y jobd >"$root/root/log" 2>&1 || fail "$(cat "$root/root/log")"
+[ -f "$root/etc/jobd/hello.json" ] || fail "a purge took a definition"
+grep -q '^jobd: these stay, since the package did not bring them: /etc/jobd/hello.json ' "$root/root/log" || fail "not told: $(cat "$root/root/log")"
+rm -r "$root/etc/jobd"
 files >"$root/root/after"
 diff "$root/root/before" "$root/root/after" >&2 || fail "a purge leaves something"
 ! inside dpkg -s jobd >/dev/null 2>&1 || fail "dpkg still knows the package"

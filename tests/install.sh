@@ -93,7 +93,7 @@ tries() {
     done
     for path in share/man/man1/jobctl.1 share/man/man1/jobctl-reload.1 share/man/man1/jobscope.1 share/man/man5/jobd.json.5 share/man/man5/jobd.journal.5 share/man/man8/jobd.8 share/man/man8/jobd-run.8 share/man/man8/jobd-split-users.8 \
         share/bash-completion/completions/{jobctl,jobd,jobscope} share/fish/vendor_completions.d/{jobctl,jobd,jobscope}.fish \
-        share/zsh/site-functions/{_jobctl,_jobd,_jobscope} share/doc/jobd/contrib/{jobd.service,jobd@.service,jobd.logrotate,Containerfile} \
+        share/zsh/site-functions/{_jobctl,_jobd,_jobscope} share/doc/jobd/contrib/{jobd.service,jobd@.service,jobd-user.service,jobd.logrotate,Containerfile} \
         share/doc/jobd/{README.md,SECURITY.md,CHANGELOG.md,LICENSE-MIT,LICENSE-APACHE,OPERATING.md,WHY-NOT-RUNNING.md,DIFFERENCES.md} \
         share/doc/jobd/{TUTORIAL.md,COOKBOOK.md,FAQ.md,MOVING.md,JSON.md,docs/night.svg} \
         share/doc/jobd/examples/{kept_alive.json,kept_alive.jsonl,kept_alive.out,night/journal.jsonl}; do

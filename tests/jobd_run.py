@@ -10,6 +10,8 @@ import ctypes
 import glob
 import json
 import os
+import pwd
+import re
 import select
 import shutil
 import signal
@@ -377,9 +379,29 @@ def patience_outlasts_the_script(place):
 
 
 @scene
-def patience_is_at_most_120_seconds(place):
-    define_deaf(place, "a", ExitTimeOut=86400)
-    left_by_both(place, 120, 20, f"{place.jobs}/a.json: ExitTimeOut is 86400 seconds: if its launcher is killed, what it leaves gets KILL 120 seconds after TERM")
+def patience_of_ten_minutes(place):
+    define_deaf(place, "a", ExitTimeOut=600)
+    left_by_both(place, 600, 50)
+
+
+@scene
+def patience_of_what_jobctl_loaded(place):
+    """A job from elsewhere has its time too: the launcher's status file tells it."""
+    path = fast_clock(place, 10)
+    place.define("a")
+    define_deaf(place, "b", ExitTimeOut=90)
+    os.rename(f"{place.jobs}/b.json", f"{place.folder}/b.json")
+    keeper = place.start(PATH=path)
+    place.running("a")
+    check(place.control("load", f"{place.folder}/b.json")[0] == 0, "not loaded")
+    child, launcher = place.running("b"), place.launchers()[0]
+    wait_for(lambda: '"exit_time_out":90' in open(f"{place.state}/status.jsonl").read(), "the status file")
+    keeper.kill()
+    keeper.wait()
+    os.kill(launcher, signal.SIGKILL)
+    place.start(PATH=path)
+    wait_for(lambda: gone(child), f"the job is ended; told: {place.told()}", 40)
+    place.check_told(f"{child} (sleep) did not end in 90 seconds: it gets KILL")
 
 
 @scene
@@ -766,6 +788,171 @@ def systemd_is_told(place):
     keeper.terminate()
     check(keeper.wait(MOST) == 0, f"status {keeper.returncode}: {place.told()}")
     place.check_nothing_left()
+
+
+@scene
+def jobs_have_what_a_login_has_and_nothing_of_systemds(place):
+    place.define("a", f"env >{place.folder}/variables; exec sleep 1000")
+    path = stand_in(place, "systemd-notify", ":")
+    theirs = {
+        "NOTIFY_SOCKET": "@here", "JOURNAL_STREAM": "8:1", "INVOCATION_ID": "0123", "SYSTEMD_EXEC_PID": "1", "STATE_DIRECTORY": "/x", "RUNTIME_DIRECTORY": "/x",
+        "CACHE_DIRECTORY": "/x", "LOGS_DIRECTORY": "/x", "CONFIGURATION_DIRECTORY": "/x", "CREDENTIALS_DIRECTORY": "/x", "LISTEN_FDS": "1", "LISTEN_PID": "1",
+        "LISTEN_FDNAMES": "x", "MANAGERPID": "1", "MAINPID": "1", "MEMORY_PRESSURE_WATCH": "/x", "MEMORY_PRESSURE_WRITE": "x", "FDSTORE": "1",
+    }
+    for name in ("HOME", "USER", "LOGNAME", "SHELL"):
+        os.environ.pop(name, None)
+    place.start(PATH=path, **theirs)
+    place.running("a")
+    text = wait_for(lambda: os.path.exists(f"{place.folder}/variables") and open(f"{place.folder}/variables").read(), "the job's variables")
+    time.sleep(0.2)
+    text = open(f"{place.folder}/variables").read()
+    found = dict(row.partition("=")[::2] for row in text.splitlines())
+    entry = pwd.getpwuid(os.getuid())
+    wanted = {"HOME": entry.pw_dir, "USER": entry.pw_name, "LOGNAME": entry.pw_name, "SHELL": entry.pw_shell}
+    check({name: found.get(name) for name in wanted} == wanted, f"{text}")
+    check(not theirs.keys() & found.keys(), f"systemd's own: {sorted(theirs.keys() & found.keys())}")
+    for launcher in place.launchers():
+        words = open(f"/proc/{launcher}/environ", "rb").read().decode().split("\0")
+        check(not theirs.keys() & {word.split("=")[0] for word in words}, "the launcher has systemd's own")
+
+
+@scene
+def variables_that_somebody_set_stay(place):
+    place.define("a", f"env >{place.folder}/variables; exec sleep 1000")
+    place.start(HOME="/nonexistent", SHELL="/bin/own", USER="own", LOGNAME="own2")
+    place.running("a")
+    wait_for(lambda: os.path.exists(f"{place.folder}/variables") and "HOME=" in open(f"{place.folder}/variables").read(), "the job's variables")
+    time.sleep(0.2)
+    rows = open(f"{place.folder}/variables").read().splitlines()
+    for row in ("HOME=/nonexistent", "SHELL=/bin/own", "USER=own", "LOGNAME=own2"):
+        check(row in rows, f"no {row} in {rows}")
+
+
+@scene
+def failed_runs_are_told(place):
+    """JOBD_LOG=failures: a line for each run that failed, and none for one that was to be ended; with levels under systemd."""
+    place.define("bad", "exit 7", KeepAlive=False, RunAtLoad=True, StandardErrorPath=f"{place.folder}/errors")
+    place.define("signalled", "kill -USR1 $$", KeepAlive=False, RunAtLoad=True)
+    place.define("good", "exit 0", KeepAlive=False, RunAtLoad=True)
+    place.define("missing", KeepAlive=False, RunAtLoad=True, ProgramArguments=["/no/such/program"])
+    place.define("long")
+    keeper = place.start(JOBD_LOG="failures", JOURNAL_STREAM="8:1")
+    place.running("long")
+    ends = [
+        rf"<4>jobd: bad: run 1 ended with code 7 after \d+\.\d s(; its errors are in {place.folder}/errors)?",
+        r"<4>jobd: signalled: run 1 ended by signal 10 after \d+\.\d s(; its errors went nowhere \(StandardErrorPath\))?",
+        r"<4>jobd: missing: run 1: cannot start /no/such/program: No such file or directory \(os error 2\)",
+    ]
+    for form in ends:
+        wait_for(lambda: re.search(f"^{form}$", place.told(), re.M), f"a line {form}: {place.told()}")
+    check("; its errors" in place.told(), f"where errors go: {place.told()}")
+    place.control("stop", "long")
+    wait_for(lambda: place.child_of("long"), "it runs again")
+    keeper.terminate()
+    check(keeper.wait(MOST) == 0, f"status {keeper.returncode}")
+    rows = place.told().splitlines()
+    strange = [row for row in rows if not row.startswith(("<4>", "<6>")) and row != "jobd: ready" and "not proved" not in row]
+    check(not strange, f"without a level: {strange}")
+    more = [row for row in rows if re.search(r"started as|TERM to|good: run|long: run", row)]
+    check(not more, f"told, though it is no failure: {more}")
+    place.check_nothing_left()
+
+
+@scene
+def all_runs_are_told_with_their_level(place):
+    place.define("bad", "exit 7", KeepAlive=False, RunAtLoad=True)
+    place.start(JOBD_LOG="runs", JOURNAL_STREAM="8:1")
+    wait_for(lambda: "<6>jobd: bad: run 1 ended with code 7" in place.told(), f"the end: {place.told()}")
+    check("<6>jobd: bad: run 1 started as " in place.told(), f"the start: {place.told()}")
+
+
+@scene
+def status_follows(place):
+    """What systemd shows follows loads and failures within a second or two; at rest nothing runs for it."""
+    notified = f"{place.folder}/notified"
+    path = stand_in(place, "systemd-notify", f'echo "$*" >>{notified}')
+    stand_in(place, "none", ":")
+    place.define("a")
+    place.define("b", f"test ! -e {place.folder}/fail", KeepAlive=False)
+    place.define("c", KeepAlive=False)
+    os.rename(f"{place.jobs}/c.json", f"{place.folder}/c.json")
+    keeper = place.start(PATH=path, NOTIFY_SOCKET="@here")
+    place.running("a")
+    last = lambda: os.path.exists(notified) and [row for row in open(notified).read().splitlines() if "status" in row][-1:]
+    wait_for(lambda: last() == ["--ready --status=2 jobs loaded, 0 not"], f"that all are loaded: {last()}")
+    time.sleep(2)
+    check(place.control("load", f"{place.folder}/c.json")[0] == 0, "not loaded")
+    wait_for(lambda: last() == ["--status=3 jobs loaded, 0 not"], f"that a further one is loaded: {last()}", 10)
+    open(f"{place.folder}/fail", "w").close()
+    place.control("start", "b")
+    wait_for(lambda: last() == ["--status=3 jobs loaded, 0 not, 1 failing"], f"that one fails: {last()}", 10)
+    # At rest: none of the helpers of jobd-run was given the processor in three seconds.
+    time.sleep(2)
+    helpers = [pid for pid in children_of(keeper.pid) if pid not in place.launchers()]
+    check(helpers, "no reader")
+    before = [switches(pid) for pid in helpers]
+    time.sleep(3)
+    check([switches(pid) for pid in helpers] == before, f"at rest something runs: {before} {[switches(pid) for pid in helpers]}")
+    keeper.terminate()
+    check(keeper.wait(MOST) == 0, "status")
+    place.check_nothing_left()
+    wait_for(lambda: all(map(gone, helpers)), "the readers end")
+
+
+def children_of(pid):
+    found = []
+    for path in glob.glob("/proc/[0-9]*/stat"):
+        try:
+            if int(open(path).read().rpartition(")")[2].split()[1]) == pid:
+                found.append(int(path.split("/")[2]))
+        except OSError:
+            pass
+    return found
+
+
+def switches(pid):
+    return [row for row in open(f"/proc/{pid}/status") if "ctxt_switches" in row]
+
+
+@scene
+def stop_takes_as_long_as_a_job_has(place):
+    """systemd is told that it takes longer, and whom the stop waits for, as long as a job has its time."""
+    notified = f"{place.folder}/notified"
+    path = stand_in(place, "systemd-notify", f'echo "$*" >>{notified}')
+    place.define("slow", f"trap 'sleep 9; echo in order >>{place.folder}/ends; exit' TERM; : >{place.folder}/minds; while :; do sleep 0.1; done", ExitTimeOut=600)
+    keeper = place.start(PATH=path, NOTIFY_SOCKET="@here")
+    place.running("slow")
+    wait_for(lambda: os.path.exists(f"{place.folder}/minds"), "the job minds its signal")
+    wait_for(lambda: "jobs loaded" in place.told(), "that all are loaded")
+    time.sleep(1.5)
+    keeper.terminate()
+    check(keeper.wait(MOST) == 0, f"status {keeper.returncode}")
+    rows = open(notified).read().splitlines()
+    check(rows.count("EXTEND_TIMEOUT_USEC=30000000") >= 3, f"{rows}")
+    check("--status=waits for slow" in rows, f"{rows}")
+    place.check_told("jobd-run: waits for slow")
+    check(open(f"{place.folder}/ends").read() == "in order\n", "the job was not ended in order")
+    place.check_nothing_left()
+
+
+@scene
+def wait_of_the_supervisor_that_is_too_short_is_told(place):
+    place.define("a", ExitTimeOut=600)
+    keeper = place.start(JOBD_STOP_WAIT="90")
+    place.running("a")
+    wait_for(lambda: "jobs loaded" in place.told(), "that all are loaded")
+    place.check_told("a job may take 600 seconds to end (ExitTimeOut), and the supervisor gives KILL 90 seconds after TERM: 511 too early (JOBD_STOP_WAIT)")
+    keeper.terminate()
+    keeper.wait(MOST)
+    place.define("a", ExitTimeOut=0)
+    keeper = place.start(JOBD_STOP_WAIT="90")
+    place.running("a")
+    wait_for(lambda: "a job has no bound on its end (ExitTimeOut 0)" in place.told(), f"that it has no bound: {place.told()}")
+    keeper.terminate()
+    keeper.wait(MOST)
+    keeper = place.start(JOBD_STOP_WAIT="soon")
+    check(keeper.wait(MOST) == 1, "a number that is none")
+    place.check_told("JOBD_STOP_WAIT is soon, wanted a number of seconds")
 
 
 @scene

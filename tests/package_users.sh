@@ -73,7 +73,7 @@ machine_in /usr/local/bin/fake --help
 [ -e "$tree/root/was_run" ] || fail "the fake does not tell"
 rm "$tree/root/was_run"
 if machine_in "${as_user[@]}" unshare -Urm true; then
-    machine_in "${as_user[@]}" unshare -Urm sh -c 'mount --bind /usr/local/bin/fake /usr/bin/jobd && exec /usr/bin/jobd' </dev/null >/dev/null 2>&1 &
+    machine_in "${as_user[@]}" unshare -Urm sh -c 'mount -t tmpfs tmpfs /mnt && cp /usr/local/bin/fake /mnt/jobd && mount --bind /mnt /usr/bin && exec /usr/bin/jobd' </dev/null >/dev/null 2>&1 &
 else
     fail "users have no namespaces here"
 fi
@@ -91,7 +91,7 @@ for mark in "0123 $fake 1 x" "$(printf '0123 ../..\033[31m 1 x')" "$real"; do
     if grep -q "$(printf '\033')\[31m" "$scratch/log"; then fail "what the user wrote came to the terminal"; fi
     case $mark in "$real")
         if ! cmp -s <(dpkg-deb --fsys-tarfile "$tree/root/old.deb" | tar -xO ./usr/bin/jobd) <(dpkg-deb --fsys-tarfile "$package" | tar -xO ./usr/bin/jobd); then
-            for unit in jobd.service jobd@www-data.service; do
+            for unit in jobd jobd@www-data; do
                 grep -q "^jobd: the launcher goes on as version .*; systemctl restart $unit ends its jobs and starts version $version$" "$scratch/log" ||
                     fail "the launcher of $unit is not told: $(cat "$scratch/log")"
             done

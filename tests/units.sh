@@ -98,7 +98,8 @@ line=$(grep '^jobd: the launcher goes on' "$scratch/log" || true)
 if ! cmp -s <(dpkg-deb --fsys-tarfile "$tree/root/old.deb" | tar -xO ./usr/bin/jobd) <(dpkg-deb --fsys-tarfile "$package" | tar -xO ./usr/bin/jobd); then
     [[ $line == "jobd: the launcher goes on as version $old_version"*"; systemctl restart jobd ends its jobs and starts version $version" ]] ||
         fail "the upgrade is not told: $(cat "$scratch/log")"
-    if grep -q SECURITY "$scratch/log"; then fail "a fault of security, though none is mended"; fi
+    if grep -q 'THE LAUNCHER' "$scratch/log"; then fail "a fault of security of a launcher, though none is mended"; fi
+    grep -q '^jobd: \*\*\* SECURITY: version .* mends this: from-systemd wrote .*anew$' "$scratch/log" || fail "what no restart mends is not told: $(cat "$scratch/log")"
     machine_in jobscope why --journal /var/lib/jobd/journal.jsonl kept | grep '^kept is running' >/dev/null || fail "the new jobscope does not read the old journal"
     apt install -y /root/safe.deb
     grep -q '^jobd: \*\*\* SECURITY: version 99.0 mends this: anybody may do anything (a test)$' "$scratch/log" || fail "the fault is not told: $(cat "$scratch/log")"
@@ -128,7 +129,7 @@ chmod 666 "$tree/etc/jobd/shared.json"
 define etc/jobd/stdout.json '{"Label": "stdout", "ProgramArguments": ["/bin/echo", "here"], "RunAtLoad": true, "StandardOutPath": "/dev/stdout"}'
 machine_in systemctl restart jobd
 [ "$(machine_in jobctl list | cut -f 3 | tr '\n' ' ')" = 'Label asked kept stdout ' ] || fail "the restart did not wait for the loads: $(machine_in jobctl list)"
-[ "$(status_of)" = '3 jobs loaded, 2 not' ] || fail "status: $(status_of)"
+[[ $(status_of) == '3 jobs loaded, 2 not'* ]] || fail "status: $(status_of)"
 [ "$(sort "$tree/root/ends" | tr '\n' ' ')" = 'asked TERM elsewhere TERM kept TERM ' ] || fail "not ended in order: $(cat "$tree/root/ends")"
 machine_in systemctl is-active -q jobd
 cmp <(machine_in cat "/proc/$(launcher)/exe") <(machine_in cat /usr/bin/jobd) || fail "the restart did not start the new program"
@@ -168,6 +169,24 @@ fi
 machine_in cat "/proc/$(pid_of kept)/environ" | tr '\0' '\n' >"$scratch/variables"
 grep -q '^JOBD_MARK=' "$scratch/variables" || fail "the job has no mark"
 if grep -E '^(NOTIFY_SOCKET|WATCHDOG_)' "$scratch/variables"; then fail "a job may speak to systemd"; fi
+# What a login has, and nothing else of systemd's than the search path and the language. The page's table has all of it.
+for row in HOME=/root USER=root LOGNAME=root SHELL=/bin/bash; do
+    grep -qx "$row" "$scratch/variables" || fail "a job has no $row: $(cat "$scratch/variables")"
+done
+cut -d = -f 1 "$scratch/variables" | sort >"$scratch/names"
+sed -n '/^## What a job has/,/^## Under/p' docs/OPERATING.md | sed -n 's/^| `\([A-Z_`, ]*\)` |.*/\1/p' | tr -d '` ' | tr ',' '\n' | sort >"$scratch/table"
+unknown=$(comm -23 "$scratch/names" "$scratch/table" | tr '\n' ' ')
+[ -z "$unknown" ] || fail "docs/OPERATING.md does not have these variables of a job: $unknown"
+# A run that fails leaves a line, and systemctl status shows how many jobs fail, and those that were loaded since.
+define root/fails.json '{"Label": "fails", "ProgramArguments": ["/bin/sh", "-c", "exit 7"], "RunAtLoad": true, "StandardErrorPath": "/root/fails.log"}'
+machine_in jobctl load /root/fails.json
+until_true said 'jobd: fails: run 1 ended with code 7' -p warning
+said '; its errors are in /root/fails.log' -p warning || fail "where errors went is not told: $(told -p warning)"
+shows() { [ "$(status_of)" = "$1" ]; }
+# The other one's output is refused.
+until_true shows '4 jobs loaded, 2 not, 2 failing'
+machine_in jobctl unload /root/fails.json
+until_true shows '3 jobs loaded, 2 not, 1 failing'
 
 # ---- the recipes of the page
 
@@ -257,6 +276,60 @@ machine_in systemctl daemon-reload
 machine_in systemctl restart jobd
 echo "units: the watchdog started a launcher that hung anew, and its job got TERM"
 
+# ---- the time to stop
+
+# A job that takes longer than the unit waits, at a stop and at a reboot: jobd-run asks for more time.
+mkdir -p "$tree/etc/systemd/system/jobd.service.d"
+printf '[Service]\nTimeoutStopSec=8\n' >"$tree/etc/systemd/system/jobd.service.d/override.conf"
+machine_in systemctl daemon-reload
+define etc/jobd/slow.json '{"Label": "slow", "KeepAlive": true, "ExitTimeOut": 600, "ProgramArguments": ["/bin/sh", "-c", "trap '"'sleep 20; echo in order >>/root/slow; exit'"' TERM; while :; do sleep 0.1; done"]}'
+machine_in systemctl restart jobd
+until_true runs slow
+sleep 1
+machine_in systemctl stop jobd
+[ "$(cat "$tree/root/slow" 2>/dev/null)" = 'in order' ] || fail "a job that takes 20 seconds to stop did not get them: $(told | tail)"
+[ "$(machine_in systemctl show -p Result --value jobd)" = success ] || fail "a stop: $(machine_in systemctl show -p Result --value jobd)"
+said 'waits for slow' || fail "it is not told whom the stop waits for"
+machine_in systemctl start jobd
+until_true runs slow
+sleep 1
+machine_in systemctl reboot --no-wall || true
+for _ in $(seq 600); do
+    kill -0 "$machine_keeper" 2>/dev/null || break
+    sleep 0.1
+done
+[ "$(wc -l <"$tree/root/slow")" = 2 ] || fail "a reboot did not give a job its time: $(cat "$tree/root/slow")"
+machine_end
+rm "$tree/etc/jobd/slow.json"
+rm -r "$tree/etc/systemd/system/jobd.service.d"
+machine_boot "$tree"
+until_true runs kept
+echo "units: a job had 20 seconds at a stop and at a reboot, though the unit waits 8"
+
+# ---- a user's own systemd
+
+user=$(machine_in sh -c 'useradd -m -s /bin/sh someone && id -u someone')
+as_someone() {
+    machine_in setpriv --reuid="$user" --regid="$user" --init-groups -- env HOME=/home/someone USER=someone XDG_RUNTIME_DIR="/run/user/$user" "$@"
+}
+# As user@.service starts it, without a login.
+machine_in install -d -o someone -g someone -m 700 "/run/user/$user"
+machine_in systemd-run -q --unit=someone --uid=someone -p Delegate=yes -E HOME=/home/someone -E XDG_RUNTIME_DIR="/run/user/$user" /lib/systemd/systemd --user
+answers() { as_someone systemctl --user list-units; }
+until_true answers
+as_someone mkdir -p /home/someone/.config/jobd
+define home/someone/.config/jobd/mine.json '{"Label": "mine", "KeepAlive": true, "ProgramArguments": ["/bin/sh", "-c", "env >$HOME/variables; exec sleep 1000"]}'
+as_someone systemctl --user enable -q --now jobd
+[ "$(as_someone systemctl --user show -p StatusText --value jobd)" = '1 jobs loaded, 0 not' ] || fail "a user's own unit: $(as_someone systemctl --user status jobd)"
+as_someone jobctl --socket "/run/user/$user/jobd/jobd.sock" list | grep -w mine >/dev/null || fail "a user's own launcher does not answer"
+until_true grep -qx HOME=/home/someone "$tree/home/someone/variables"
+[ -f "$tree/home/someone/.local/state/jobd/journal.jsonl" ] || fail "a user's own launcher has no journal"
+as_someone systemctl --user stop jobd
+machine_in systemctl stop someone
+echo "units: systemctl --user enable --now jobd: passed"
+machine_in userdel -r someone 2>/dev/null || true
+rm -rf "$tree/home/someone"
+
 # ---- kills, by systemd's own hand
 
 old_pid=$(pid_of kept)
@@ -295,6 +368,11 @@ for unit in jobd jobd@www-data; do
 done
 until_true runs kept
 apt purge -y jobd
+for path in kept asked www-data/user; do
+    [ -f "$tree/etc/jobd/$path.json" ] || fail "a purge took a definition"
+done
+grep -q '^jobd: these stay, since the package did not bring them: ' "$scratch/log" || fail "not told: $(cat "$scratch/log")"
+rm -r "$tree/etc/jobd"
 files >"$scratch/after"
 diff "$scratch/before" "$scratch/after" >&2 || fail "a purge leaves something"
 echo "units: passed"
