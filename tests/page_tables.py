@@ -190,7 +190,7 @@ READS = {
 }
 for page, (crates, others) in READS.items():
     text = "\n".join(read(path) for crate in crates for path in glob.glob(f"crates/{crate}/src/**/*.rt", recursive=True))
-    wanted = set(re.findall(r'(?:env::var\(\w+, |said\(\w+, )"([A-Z_]+)"', text)) | others
+    wanted = set(re.findall(r'(?:env::var\(\w+, |said\(\w+, |set_in\(\w+, )"([A-Z_]+)"', text)) | others
     same(f"{page}: ENVIRONMENT", wanted, set(re.findall(r"^\.It Ev ([A-Z_]+)", section(page, "ENVIRONMENT"), re.M)))
 for path, name in (("control_words.rt", "JOBD_SOCKET"), ("scope_words.rt", "JOBD_JOURNAL")):
     if name not in read(WORDS + path):
