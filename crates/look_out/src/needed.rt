@@ -121,9 +121,9 @@ fn loader_at(
 /// within the head is none, since the system refuses it.
 pub(crate) fn interpreter_in(head: &[u8]) -> Option<&str> {
     let line = head.strip_prefix(b"#!".as_slice())?;
-    let from = count_while(line, is_blank);
+    let from = count_while(line, Kind::Blank);
     let name = &line[from.min(line.len())..];
-    let length = count_while(name, is_of_name);
+    let length = count_while(name, Kind::Name);
     if length >= name.len() && head.len() >= HEAD {
         return None;
     }
@@ -132,30 +132,37 @@ pub(crate) fn interpreter_in(head: &[u8]) -> Option<&str> {
 
 // The text up to a NUL, if there is one.
 fn name_in(bytes: &[u8]) -> Option<&str> {
-    let length = count_while(bytes, is_no_nul);
+    let length = count_while(bytes, Kind::NoNul);
     match std::str::from_utf8(&bytes[..length.min(bytes.len())]) {
         Ok(name) if !name.is_empty() => Some(name),
         _ => None,
     }
 }
 
-fn is_blank(byte: u8) -> bool {
-    byte == b' ' || byte == b'\t'
+/// Which bytes are counted.
+#[derive(Clone, Copy)]
+enum Kind {
+    /// Blanks and tabs.
+    Blank,
+    /// Those of a name in the first line of a script.
+    Name,
+    /// All but a NUL.
+    NoNul,
 }
 
-fn is_of_name(byte: u8) -> bool {
-    !is_blank(byte) && byte != b'\n' && byte != 0
-}
-
-fn is_no_nul(byte: u8) -> bool {
-    byte != 0
+fn is_of(kind: Kind, byte: u8) -> bool {
+    match kind {
+        Kind::Blank => byte == b' ' || byte == b'\t',
+        Kind::Name => byte != b' ' && byte != b'\t' && byte != b'\n' && byte != 0,
+        Kind::NoNul => byte != 0,
+    }
 }
 
 // How many bytes at the front are of the kind.
-fn count_while(bytes: &[u8], is_of_kind: fn(u8) -> bool) -> usize {
+fn count_while(bytes: &[u8], kind: Kind) -> usize {
     let mut count = 0usize;
     for byte in bytes {
-        if !is_of_kind(*byte) {
+        if !is_of(kind, *byte) {
             return count;
         }
         count = count.saturating_add(1);
