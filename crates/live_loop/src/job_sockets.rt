@@ -247,7 +247,7 @@ impl JobSockets {
         }
         let is_busy = self.hear_all(host, time);
         let is_late = self.hand_in_line(alloc, host, label, time);
-        is_busy || is_late
+        is_busy | is_late
     }
 
     // Takes what the clients have sent. It says whether one may go on at once.
