@@ -162,7 +162,7 @@ def a_terminal_that_nobody_reads(stage):
             text += os.read(master, 65536)
         except BlockingIOError:
             pass
-        return b"lines were not told" in text or b"not told" in text
+        return b"lines were dropped" in text
 
     wait_for(is_told, lambda: f"the number of lines that were dropped is not told: {text[-400:]!r}")
     lines = text.split(b"\r\n")

@@ -56,7 +56,8 @@ pub trait RoundEdge: ChildEdge + SleepEdge + PathEdge + SocketEdge {
     fn room(&self) -> usize;
 
     /// Whether a further client of the job whose request is whole has to wait for a place.
-    fn must_wait(&mut self, job: JobNo) -> bool;
+    fn must_wait(&mut self, job: JobNo) -> bool
+        ensures told { Self.told self.new ≡ Self.told self.old };
 
     /// Whether the job has the sockets of this bind still.
     fn listens_at(&self, origin: Origin) -> bool;
