@@ -175,7 +175,7 @@ def main(words):
         clock.run("clang compiles both halves", *([*clang, "-O2", *FLAGS, "-fPIE", "-c", "-x", "ir", *it] for it in zip(halves, ["-o"] * 2, compiled)))
         put(f"{room}/said.c", SAID)
         clock.run("the line that says that it is not proved", [*clang, "-O1", "-ffreestanding", "-fPIE", "-c", f"{room}/said.c", "-o", f"{room}/said.o"])
-        os.makedirs(out)
+        os.makedirs(out, exist_ok=True)
         link = [f"{kit}/bin/rattle-link", "--target", TARGET, "--toolchain", f"{kit}/toolchain", "-o", f"{out}/jobd", *compiled, f"{room}/said.o"]
         clock.run("it is linked", [*link, f"{kit}/c/libos_c.a", f"{kit}/c/liblibc_c.a"])
     # Hard links: the gate of kit 13b stops at a symbolic one in any folder here.

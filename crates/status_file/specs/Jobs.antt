@@ -4,6 +4,7 @@ use Rattle.std.specs.Option.{option_map}
 use Rattle.std.specs.List.{flat_map, AllByRecursion}
 use Rattle.history_model.specs.declared.Entry.{Entry}
 use Rattle.history_model.specs.Clock.{definition_of}
+use Rattle.history_model.specs.Labels.{Label}
 use Rattle.history_model.specs.Machine.{State, past_of, is_disabled}
 use Rattle.loaded_jobs.specs.StandsFor.{KeepsState}
 use Rattle.loaded_jobs.specs.Tables.{Table}

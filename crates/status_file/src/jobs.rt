@@ -1,6 +1,6 @@
 //! The lines of all loaded jobs.
 
-ghost use Rattle.std.specs.Prelude.{◌≡◌, true, Some, is_some};
+ghost use Rattle.std.specs.Prelude.{◌≡◌, true, Some, is_some, cond};
 ghost use Rattle.history_model.specs.Machine.{State};
 ghost use Rattle.loaded_jobs.specs.StandsFor.{KeepsState};
 ghost use Rattle.status_file.specs.declared.status.DisabledBy.TheVariants.{Definition, Override};
@@ -139,18 +139,21 @@ fn add_loaded(
 )
     ensures { AddsJobs table.now text.old text.new }
 {
-    match (facts_of(table, label), table.is_disabled(label)) {
-        (Some(facts), Some(is_disabled)) => {
-            let job = JobStatus {
-                label,
-                facts,
-                note,
-                keys: JobKeys::of(def, facts.path),
-                disabled: disabled_by(is_disabled, def.disabled()),
-            };
-            add_line(text, alloc, table, &job, def.calendar());
-        }
-        _ => {}
+    match facts_of(table, label) {
+        Some(facts) => match table.is_disabled(label) {
+            Some(is_disabled) => {
+                let job = JobStatus {
+                    label,
+                    facts,
+                    note,
+                    keys: JobKeys::of(def, facts.path),
+                    disabled: disabled_by(is_disabled, def.disabled()),
+                };
+                add_line(text, alloc, table, &job, def.calendar());
+            }
+            None => {}
+        },
+        None => {}
     }
 }
 
@@ -172,7 +175,7 @@ fn add_line(
 // By what a label is disabled, if it is. Both may disable it: then the definition is told.
 fn disabled_by(is_disabled: bool, in_definition: bool) -> Option<DisabledBy>
     ensures disabled { is_some result ≡ is_disabled }
-    ensures by { is_disabled ≡ true → result ≡ Some (if in_definition then Definition else Override) }
+    ensures by { is_disabled ≡ true → result ≡ Some (cond in_definition Definition Override) }
 {
     match (is_disabled, in_definition) {
         (false, _) => None,
