@@ -4,5 +4,5 @@ use Rattle.status_file.proofs.jobs.add_loaded.Goals as goal
 pub returns-in-None : goal.returns-in-None
 returns-in-None c = no_line c.args.table.now c.args.text.now
 
-pub returns-in-Some-None : goal.returns-in-Some-None
-returns-in-Some-None c = no_line c.args.table.now c.args.text.now
+pub returns-in-None-is_disabled : goal.returns-in-None-is_disabled
+returns-in-None-is_disabled c = no_line c.args.table.now c.args.text.now
