@@ -1,6 +1,6 @@
 #!/usr/bin/env bash
 # contrib/jobctl-reload beside a launcher: a job is replaced, a file that is refused leaves the old one, a label that does not go is
-# told. It is run by hand, after `make build`: jobctl_reload.sh [FOLDER], with jobd and jobctl in FOLDER, or in build/. SHELL_OF, or
+# told; with SLOW=1 one that takes 33 seconds to end has them. It is run by hand, after `make build`: jobctl_reload.sh [FOLDER], with jobd and jobctl in FOLDER, or in build/. SHELL_OF, or
 # sh, runs the script.
 set -euo pipefail
 
@@ -179,6 +179,21 @@ sleep 6
 wants 0 '' deaf.json
 [ -n "$(pid_of deaf)" ] || fail "the label that was gone was not loaded"
 jobctl unload deaf.json
+# One that has more than half a minute to end, as its file says.
+if [ -n "${SLOW:-}" ]; then
+    define late.json late "trap 'sleep 33; exit' TERM; : >late; while :; do sleep 0.1; done" ', "ExitTimeOut": 600'
+    wants 0 '' late.json
+    for _ in $(seq 900); do
+        [ -e late ] && break
+        sleep 0.1
+    done
+    first=$(pid_of late)
+    wants 0 '' late.json
+    second=$(pid_of late)
+    [ -n "$second" ] && [ "$second" != "$first" ] || fail "a job with ExitTimeOut 600 was not replaced after 33 seconds"
+    kill -KILL "$second"
+    jobctl unload late.json
+fi
 jobctl shutdown
 wait "$launcher"
 trap 'rm -rf "$folder"' EXIT

@@ -354,6 +354,8 @@ def left_by_both(place, seconds, factor, told=None):
     wait_for(lambda: "jobs loaded" in place.told(), "that all are loaded")
     if told:
         place.check_told(told)
+    # The status file names the job's process, a second later at most.
+    wait_for(lambda: f'"pid":{child},' in open(f"{place.state}/status.jsonl").read(), "the status file")
     keeper.kill()
     keeper.wait()
     os.kill(launcher, signal.SIGKILL)
@@ -385,6 +387,13 @@ def patience_of_ten_minutes(place):
 
 
 @scene
+def patience_of_another_job_is_at_most_120_seconds(place):
+    define_deaf(place, "a")
+    place.define("b", KeepAlive=False, ExitTimeOut=86400)
+    left_by_both(place, 120, 20)
+
+
+@scene
 def patience_of_what_jobctl_loaded(place):
     """A job from elsewhere has its time too: the launcher's status file tells it."""
     path = fast_clock(place, 10)
@@ -395,7 +404,7 @@ def patience_of_what_jobctl_loaded(place):
     place.running("a")
     check(place.control("load", f"{place.folder}/b.json")[0] == 0, "not loaded")
     child, launcher = place.running("b"), place.launchers()[0]
-    wait_for(lambda: '"exit_time_out":90' in open(f"{place.state}/status.jsonl").read(), "the status file")
+    wait_for(lambda: f'"pid":{child},' in open(f"{place.state}/status.jsonl").read(), "the status file")
     keeper.kill()
     keeper.wait()
     os.kill(launcher, signal.SIGKILL)
