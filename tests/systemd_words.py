@@ -19,12 +19,12 @@ import sys
 CONTRIB = os.path.join(os.path.dirname(os.path.dirname(os.path.abspath(__file__))), "contrib")
 FIXED = ["""--why="Prevent interrupting scheduled backup" x""", """a"b c"d'e f'g""", '''"" '' a''', r"""\x41\u00e9\101\s|""", r"""\q\w "a\qb" 'c\d'""", r"""a\;b \; c""", "a;b",
          "a ; b", "a ;", r"""'it''s' "a'b" 'c"d'""", "$ONE ${ONE} x$ONE $$ONE $${ONE}", "$TWO ${TWO} a${TWO}b", "$NONE ${NONE}a x", "%% %n %p %i", r"a\tb \"c\" \'d\'", '"a', "a\\", '"$TWO" "${TWO}"',
-         "$QUOTED ${QUOTED}", "--x=${TWO} '${ONE}'", "$ $$ ${} ${ONE", r"\e", r"\x0", "é ü'ö ä'", r"a\\b \\ \\\\", "$ONE/x x/${ONE}/y"]
+         "$QUOTED ${QUOTED}", "$BACK ${BACK}", "$OPEN ${OPEN}", "$BACK $OPEN $QUOTED", "--x=${TWO} '${ONE}'", "$ $$ ${} ${ONE", r"\e", r"\x0", "é ü'ö ä'", r"a\\b \\ \\\\", "$ONE/x x/${ONE}/y"]
 PIECES = ['"', "'", '"', "'", " ", " ", "\t", "\\", "\\\\", "\\s", "\\x41", "\\101", "\\u00e9", "\\n", "\\q", "\\;", ";", " ; ", "$ONE", "${ONE}", "${TWO}", "$$", "$", "%%", "%n", "a", "b c", "--d=",
           "é", "{", "}", "#", "\\\"", "\\'", "-", "@"]
 UNIT = """[Service]
 Type=oneshot
-Environment=ONE=one "TWO=t w o" 'QUOTED="q r" s'
+Environment=ONE=one "TWO=t w o" 'QUOTED="q r" s' 'BACK=a\\\\tb \\\\"c\\\\" d\\\\ e' "OPEN=x 'y z"
 ExecStart=/bin/words /var/words/{number} {line}
 """
 PROGRAM = "#!/bin/sh\nto=$1; shift\nprintf '%s\\n' \"$#\" > \"$to.new\"\nfor word; do printf '%s\\0' \"$word\" >> \"$to.new\"; done\nmv \"$to.new\" \"$to\"\n"
