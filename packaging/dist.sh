@@ -21,7 +21,7 @@ SOURCE_DATE_EPOCH=${SOURCE_DATE_EPOCH:-$(git log -1 --format=%ct)}
 
 stage=dist/$name
 rm -rf "$stage" "dist/$name.tar.gz"
-mkdir -p "$stage/bin" "$stage/man" "$stage/contrib" "$stage/docs" "$stage/examples/jobs" "$stage/examples/night"
+mkdir -p "$stage/bin" "$stage/man" "$stage/contrib" "$stage/docs" "$stage/examples/jobs" "$stage/examples/night" "$stage/examples/alerts"
 install -m 755 build/jobd "$stage/bin"
 strip "$stage/bin/jobd"
 ln -s jobd "$stage/bin/jobctl"
@@ -30,7 +30,8 @@ install -m 644 man/*.[158] "$stage/man"
 cp -r completions "$stage"
 install -m 644 contrib/jobd.service contrib/jobd@.service contrib/jobd-user.service contrib/jobd.logrotate contrib/Containerfile contrib/moving.py "$stage/contrib"
 install -m 755 contrib/jobd-run contrib/jobd.openrc contrib/jobd.runit contrib/jobctl-reload contrib/jobd-split-users contrib/from-systemd contrib/from-supervisor contrib/to-kubernetes \
-    contrib/jobd-on-slurm "$stage/contrib"
+    contrib/jobd-on-slurm contrib/jobd-metrics "$stage/contrib"
+cp -r contrib/ansible "$stage/contrib"
 for page in TUTORIAL COOKBOOK FAQ MOVING OPERATING WHY-NOT-RUNNING DIFFERENCES JSON BEYOND-ONE-MACHINE; do
     install -m 644 "docs/$page.md" "$stage/docs"
 done
@@ -38,6 +39,7 @@ install -m 644 docs/night.svg "$stage/docs"
 install -m 644 examples/jobs/*.json "$stage/examples/jobs"
 install -m 644 examples/*.jsonl examples/*.out "$stage/examples"
 install -m 644 examples/night/journal.jsonl "$stage/examples/night"
+install -m 644 examples/alerts/*.yml "$stage/examples/alerts"
 sed '/^<!-- in the repository -->$/,/^<!-- end -->$/d' README.md >"$stage/README.md"
 chmod 644 "$stage/README.md"
 install -m 644 SECURITY.md CHANGELOG.md LICENSE-MIT LICENSE-APACHE "$stage"

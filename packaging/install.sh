@@ -57,11 +57,14 @@ put() {
     install -d "$doc/examples/night"
     install -m 644 examples/jobs/*.json examples/*.jsonl examples/*.out "$doc/examples"
     install -m 644 examples/night/journal.jsonl "$doc/examples/night"
+    install -d "$doc/examples/alerts" "$doc/contrib/ansible/jobd/tasks"
+    install -m 644 examples/alerts/*.yml "$doc/examples/alerts"
+    install -m 644 contrib/ansible/jobd/tasks/main.yml "$doc/contrib/ansible/jobd/tasks"
     filled contrib/jobd-run "$root/libexec/jobd-run" 755
     for file in jobd.service jobd@.service jobd-user.service jobd.logrotate Containerfile moving.py; do
         filled "contrib/$file" "$doc/contrib/$file" 644
     done
-    for file in jobd.openrc jobd.runit from-systemd from-supervisor to-kubernetes jobd-on-slurm; do
+    for file in jobd.openrc jobd.runit from-systemd from-supervisor to-kubernetes jobd-on-slurm jobd-metrics; do
         filled "contrib/$file" "$doc/contrib/$file" 755
     done
 }

@@ -23,11 +23,18 @@ set -e
 mount --make-rprivate /
 {OVERLAY}
 cd "$AT/root"
-mount -t proc proc proc; mount --rbind /dev dev
-mount -t tmpfs -o mode=755 tmpfs run; mount -t tmpfs tmpfs tmp
+mount -t proc proc proc; mount -t tmpfs -o mode=755 tmpfs run; mount -t tmpfs tmpfs tmp; mount -t tmpfs -o mode=755 tmpfs dev
+cd dev
+for node in "null 1 3" "zero 1 5" "full 1 7" "random 1 8" "urandom 1 9" "tty 5 0"; do set -- $node; mknod -m 666 $1 c $2 $3; done
+mkdir pts shm; mount -t devpts -o newinstance,ptmxmode=0666 devpts pts; ln -s pts/ptmx ptmx; ln -s /proc/self/fd fd
+ln -s fd/0 stdin; ln -s fd/1 stdout; ln -s fd/2 stderr; mount -t tmpfs tmpfs shm; : >console
+cd ..
 """
 # The first process takes orphans in, and ends with all that runs there.
 FIRST = "trap : TERM INT; while :; do sleep 3600 & wait $!; done"
+# Or a real systemd, with no more than its basic units and dbus.
+SYSTEMD = "exec env -i container=lxc PATH=/usr/sbin:/usr/bin:/sbin:/bin /lib/systemd/systemd --unit=apart.target --log-target=journal --show-status=0"
+TARGET = "[Unit]\nRequires=basic.target dbus.service\nAfter=basic.target dbus.service\nAllowIsolate=yes\n"
 CLEAN = {"PATH": "/usr/local/sbin:/usr/local/bin:/usr/sbin:/usr/bin:/sbin:/bin", "HOME": "/root", "LC_ALL": "C.UTF-8", "DEBIAN_FRONTEND": "noninteractive"}
 
 
@@ -64,10 +71,10 @@ class Layer:
 
     def install(self, packages):
         print(f"apart: apt-get install {' '.join(packages)}", flush=True)
-        script = ENTER + """
+        script = "packages=$*\n" + ENTER + """
         printf '#!/bin/sh\\nexit 101\\n' >usr/sbin/policy-rc.d; chmod 755 usr/sbin/policy-rc.d
         chroot . apt-get -qq update
-        exec chroot . apt-get -qq -y -o Dpkg::Use-Pty=0 install --no-install-recommends "$@"
+        exec chroot . apt-get -qq -y -o Dpkg::Use-Pty=0 install --no-install-recommends $packages
         """
         done = subprocess.run(["unshare", "--mount", "--pid", "--fork", "--kill-child", "sh", "-c", script, "sh", *packages], stdin=subprocess.DEVNULL, capture_output=True,
                               text=True, env={**CLEAN, "BELOW": "/", "AT": self.folder}, timeout=1200)
@@ -82,21 +89,38 @@ def make_folders(folder):
 
 
 class Machine:
-    def __init__(self, layer, name, shared=()):
-        """`shared` are folders of this machine that the machine has too, at the same path."""
-        self.name = name
+    def __init__(self, layer, name, shared=(), has_systemd=False):
+        """`shared` are folders of this machine that the machine has too, at the same path, or each with another path there."""
+        self.name, self.group = name, None
         self.scratch = make_folders(tempfile.mkdtemp(prefix=f"apart-{name}-"))
-        script = ENTER + "mount -t sysfs -o ro sysfs sys\n" + "".join(f'mkdir -p ".{it}"; mount --bind "{it}" ".{it}"\n' for it in shared) + """
+        script = ENTER + "mount -t sysfs -o ro sysfs sys\n"
+        if has_systemd:
+            script += "mount -t cgroup2 cgroup2 sys/fs/cgroup; printf '%s' \"$TARGET\" >etc/systemd/system/apart.target\n"
+            # These would change the kernel of all.
+            script += "for unit in systemd-sysctl systemd-modules-load; do ln -sf /dev/null etc/systemd/system/$unit.service; done\n"
+            self.group = self.make_group()
+        pairs = [it if isinstance(it, tuple) else (it, it) for it in shared]
+        script += "".join(f'mkdir -p ".{goal}"; mount --bind "{source}" ".{goal}"\n' for source, goal in pairs) + """
         mkdir -p mnt/old; pivot_root . mnt/old; umount -l /mnt/old; cd /
-        hostname "$NAME"; printf '127.0.0.1 localhost\\n' >/etc/hosts; ip link set lo up
-        """ + FIRST
-        environment = {**CLEAN, "BELOW": layer.root, "AT": self.scratch, "NAME": name}
+        hostname "$NAME"; echo "$NAME" >/etc/hostname; printf '127.0.0.1 localhost\\n' >/etc/hosts; : >/etc/resolv.conf; ip link set lo up
+        """ + (SYSTEMD if has_systemd else FIRST)
+        environment = {**CLEAN, "BELOW": layer.root, "AT": self.scratch, "NAME": name, "TARGET": TARGET}
         with open(f"{self.scratch}/told", "w", encoding="utf-8") as told:
-            self.keeper = subprocess.Popen(["unshare", "--mount", "--uts", "--ipc", "--net", "--pid", "--fork", "--kill-child", "bash", "-c", script], env=environment,
-                                           stdin=subprocess.DEVNULL, stdout=told, stderr=told, start_new_session=True)
+            self.keeper = subprocess.Popen([*self.in_group(), "unshare", "--mount", "--uts", "--ipc", "--net", "--pid", "--cgroup", "--fork", "--kill-child", "bash", "-c", script],
+                                           env=environment, stdin=subprocess.DEVNULL, stdout=told, stderr=told, start_new_session=True)
         self.first = wait_until(f"the machine {name}", self.child)
         wait_until(f"the machine {name}", lambda: self.run(["hostname"], check=False).stdout.strip() == name and not self.run(["test", "-d", "/mnt/old/usr"], check=False).returncode == 0)
         MACHINES.append(self)
+
+    def make_group(self):
+        """A control group of its own, which a systemd needs."""
+        top = "/sys/fs/cgroup" if os.path.exists("/sys/fs/cgroup/cgroup.procs") else "/sys/fs/cgroup/unified"
+        group = f"{top}/apart-{self.name}-{os.getpid()}"
+        os.makedirs(group, exist_ok=True)
+        return group
+
+    def in_group(self):
+        return ["sh", "-c", 'echo $$ >"$0/cgroup.procs"; exec "$@"', self.group] if self.group else []
 
     def child(self):
         if self.keeper.poll() is not None:
@@ -143,6 +167,11 @@ class Machine:
                 pass
         self.keeper.wait(20)
         self.keeper = None
+        for _ in range(50 if self.group else 0):
+            subprocess.run(["find", self.group, "-depth", "-type", "d", "-exec", "rmdir", "{}", "+"], capture_output=True)
+            if not os.path.isdir(self.group):
+                break
+            time.sleep(0.1)
         shutil.rmtree(self.scratch, ignore_errors=True)
         MACHINES.remove(self)
 
