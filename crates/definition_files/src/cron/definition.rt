@@ -179,22 +179,15 @@ fn text_of(
 ) -> Result<String, LineFault> {
     let mut ink = Ink::new(alloc);
     ink.put("{\"Label\": ");
-    let label = match label {
-        Ok(label) => label.as_str(),
-        Err(_) => {
-            ink.refuse();
-            ""
-        }
-    };
-    put_json(alloc, &mut ink, label);
+    match label {
+        Ok(label) => put_json(alloc, &mut ink, label.as_str()),
+        Err(_) => ink.refuse(),
+    }
     ink.put(", \"ProgramArguments\": [");
     put_user(alloc, &mut ink, words.user, around);
-    let shell = settings.value_of("SHELL").unwrap_or(SHELL);
-    if !words.guard.is_empty() {
-        put_shell(alloc, &mut ink, SHELL, words.guard);
-        ink.put(", ");
-    }
-    put_shell(alloc, &mut ink, shell, words.command);
+    put_guard(alloc, &mut ink, words.guard);
+    put_json(alloc, &mut ink, settings.value_of("SHELL").unwrap_or(SHELL));
+    put_line(alloc, &mut ink, words.command);
     ink.put("]");
     put_surroundings(alloc, &mut ink, words.user, settings, around);
     put_logs(alloc, &mut ink, label, around);
@@ -209,18 +202,34 @@ fn text_of(
     }
 }
 
-// Adds the words of a shell that does what this text says.
-fn put_shell(alloc: Global, ink: &mut Ink, shell: &str, text: &str) {
-    put_json(alloc, ink, shell);
+// Adds the shell of the test before the command, if there is a test.
+fn put_guard(alloc: Global, ink: &mut Ink, guard: &str) {
+    if !guard.is_empty() {
+        put_json(alloc, ink, SHELL);
+        put_line(alloc, ink, guard);
+        ink.put(", ");
+    }
+}
+
+// Adds the words by which a shell does what this text says.
+fn put_line(alloc: Global, ink: &mut Ink, text: &str) {
     ink.put(", \"-c\", ");
     put_json(alloc, ink, text);
 }
 
 // Adds the file that keeps the output, if there is a folder for it.
-fn put_logs(alloc: Global, ink: &mut Ink, label: &str, around: &Surroundings) {
-    let Some(folder) = around.logs.as_deref() else {
-        return;
-    };
+fn put_logs(
+    alloc: Global,
+    ink: &mut Ink,
+    label: &Result<String, AllocError>,
+    around: &Surroundings,
+) {
+    if let (Ok(label), Some(folder)) = (label, around.logs.as_deref()) {
+        put_log(alloc, ink, label.as_str(), folder);
+    }
+}
+
+fn put_log(alloc: Global, ink: &mut Ink, label: &str, folder: &str) {
     let mut path = Ink::new(alloc);
     path.fill("$/$.log", &[Text(folder), Text(label)]);
     match path.into_text() {
@@ -294,29 +303,34 @@ fn put_surroundings(
         None => around.home.as_deref(),
     };
     let set = settings.value_of("HOME");
-    let mut before = ", \"EnvironmentVariables\": {";
+    let mut is_first = true;
     if settings.value_of("SHELL").is_none() {
-        put_variable(alloc, ink, &mut before, "SHELL", SHELL);
+        put_variable(alloc, ink, &mut is_first, "SHELL", SHELL);
     }
     if let (Some(home), None) = (own, set) {
-        put_variable(alloc, ink, &mut before, "HOME", home);
+        put_variable(alloc, ink, &mut is_first, "HOME", home);
     }
-    if let Some(name) = user.or(around.asker()) {
-        put_variable(alloc, ink, &mut before, "LOGNAME", name);
+    let name = user.or(around.asker());
+    if let Some(name) = name {
+        put_variable(alloc, ink, &mut is_first, "LOGNAME", name);
     }
     for (name, value) in settings.as_slice() {
-        put_variable(alloc, ink, &mut before, name.as_str(), value.as_str());
+        put_variable(alloc, ink, &mut is_first, name.as_str(), value.as_str());
     }
-    ink.put("}");
+    ink.put(if is_first { "" } else { "}" });
     if let Some(home) = set.or(own) {
         ink.put(", \"WorkingDirectory\": ");
         put_json(alloc, ink, home);
     }
 }
 
-fn put_variable(alloc: Global, ink: &mut Ink, before: &mut &'static str, name: &str, value: &str) {
-    ink.put(*before);
-    *before = ", ";
+fn put_variable(alloc: Global, ink: &mut Ink, is_first: &mut bool, name: &str, value: &str) {
+    ink.put(if *is_first {
+        ", \"EnvironmentVariables\": {"
+    } else {
+        ", "
+    });
+    *is_first = false;
     put_json(alloc, ink, name);
     ink.put(": ");
     put_json(alloc, ink, value);
