@@ -86,12 +86,14 @@ def no_reply_is_lost(stage):
 def a_whole_request_waits_for_a_place(stage):
     """Clients of slow jobs take all places: those of other jobs whose request is whole wait and are served in their turn, none is closed."""
     launcher = stage.serve(shell="ulimit -n 48")
-    # (48 - 32 - 3) / 4 + 1
+    # (48 - 32 - 3) / 4 + 1 are 4 places, of which three jobs that have one each leave one: none has more than what is free.
     for label in ("slow", "other", "third"):
         launcher.load(gated_job(stage, label))
     held = [begin(stage.at(label), f"{label} {number}".encode()) for number in range(3) for label in ("slow", "other", "third")]
-    wait_for(lambda: len([name for name in os.listdir(stage.at("spool")) if name.endswith(".request")]) == 4, "four are not held")
+    wait_for(lambda: len([name for name in os.listdir(stage.at("spool")) if name.endswith(".request")]) == 3, "three are not held")
     time.sleep(1)
+    held_then = len([name for name in os.listdir(stage.at("spool")) if name.endswith(".request")])
+    check(held_then == 3, f"{held_then} are held")
     check(launcher.said() == "", f"it said {launcher.said()!r}")
     make(stage.at("go"))
     got = [read_all(client) for client in held]
@@ -150,8 +152,8 @@ def a_terminal_that_nobody_reads(stage):
     launcher.load(shell_job(name, ":", ThrottleInterval=0))
     for count in range(1, 161):
         launcher.ask({"req": "start", "job": name})
-        launcher.tells(name, "last exit = code 0")
-        wait_for(lambda: runs_of(launcher, name) == count, f"run {count} does not end beside a terminal that nobody reads")
+        is_over = lambda: runs_of(launcher, name) == count and is_idle(launcher, name)
+        wait_for(is_over, f"run {count} does not end beside a terminal that nobody reads")
         launcher.answers("with a terminal that nobody reads")
     os.set_blocking(master, False)
     text = b""
