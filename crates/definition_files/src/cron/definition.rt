@@ -177,6 +177,11 @@ fn text_of(
     settings: &Settings,
     around: &Surroundings,
 ) -> Result<String, LineFault> {
+    let Words {
+        user,
+        guard,
+        command,
+    } = *words;
     let mut ink = Ink::new(alloc);
     ink.put("{\"Label\": ");
     match label {
@@ -184,12 +189,12 @@ fn text_of(
         Err(_) => ink.refuse(),
     }
     ink.put(", \"ProgramArguments\": [");
-    put_user(alloc, &mut ink, words.user, around);
-    put_guard(alloc, &mut ink, words.guard);
+    put_user(alloc, &mut ink, user, around);
+    put_guard(alloc, &mut ink, guard);
     put_json(alloc, &mut ink, settings.value_of("SHELL").unwrap_or(SHELL));
-    put_line(alloc, &mut ink, words.command);
+    put_line(alloc, &mut ink, command);
     ink.put("]");
-    put_surroundings(alloc, &mut ink, words.user, settings, around);
+    put_surroundings(alloc, &mut ink, user, settings, around);
     put_logs(alloc, &mut ink, label, around);
     let fault = put_start(alloc, &mut ink, when);
     match (fault, ink.into_text()) {
