@@ -428,7 +428,7 @@ def no_process(stage):
     for path in (stage.folder, stage.at("spool")):
         os.chown(path, user, user)
     try:
-        launcher = stage.serve(shell=f'ulimit -u 1; exec setpriv --reuid={user} --regid={user} --clear-groups -- "$@"')
+        launcher = stage.serve(shell=f'exec prlimit --nproc=1:1 -- setpriv --reuid={user} --regid={user} --clear-groups -- "$@"')
         hung.stop()
         honest = Honest(launcher)
         launcher.load(shell_job("w", "exit 0", WatchPaths=[hung.path(f"w{at}") for at in range(8)]))
