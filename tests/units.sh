@@ -329,6 +329,8 @@ machine_in systemctl stop someone
 echo "units: systemctl --user enable --now jobd: passed"
 machine_in userdel -r someone 2>/dev/null || true
 rm -rf "$tree/home/someone"
+# What useradd keeps of each file of its own.
+rm -f "$tree"/etc/sub?id-
 
 # ---- kills, by systemd's own hand
 
