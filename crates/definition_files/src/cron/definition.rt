@@ -179,14 +179,10 @@ fn text_of(
 ) -> Result<String, LineFault> {
     let mut ink = Ink::new(alloc);
     ink.put("{\"Label\": ");
-    let label = match label {
-        Ok(label) => label.as_str(),
-        Err(_) => {
-            ink.refuse();
-            ""
-        }
-    };
-    put_json(alloc, &mut ink, label);
+    match label {
+        Ok(label) => put_json(alloc, &mut ink, label.as_str()),
+        Err(_) => ink.refuse(),
+    }
     ink.put(", \"ProgramArguments\": [");
     put_user(alloc, &mut ink, words.user, around);
     let shell = settings.value_of("SHELL").unwrap_or(SHELL);
@@ -197,7 +193,9 @@ fn text_of(
     put_shell(alloc, &mut ink, shell, words.command);
     ink.put("]");
     put_surroundings(alloc, &mut ink, words.user, settings, around);
-    put_logs(alloc, &mut ink, label, around);
+    if let Ok(label) = label {
+        put_logs(alloc, &mut ink, label.as_str(), around);
+    }
     let fault = put_start(alloc, &mut ink, when);
     match (fault, ink.into_text()) {
         (None, Ok(text)) => Ok(text),
