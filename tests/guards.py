@@ -21,7 +21,7 @@ TOP = os.path.dirname(os.path.dirname(os.path.abspath(__file__)))
 PROGRAMS = os.path.abspath(sys.argv[1]) if sys.argv[1:] else f"{TOP}/build"
 ZONE = "Europe/Berlin"
 FIRST, DAYS = datetime.datetime(2026, 3, 26, tzinfo=datetime.timezone.utc), 7
-LINES = ["*/5 8-18 * * 1-5", "0,30 8-18 * * 1-5", "7,37 8-18 * * 1-5", "*/10 8-18 1-29/2 * 1", "0 3 */2 * 1-5", "3-59/7 1-4,9-17 26-31 3,4 *", "*/4 * * * 0,6,7",
+LINES = ["*/5 8-18 * * 1-5", "0,30 8-18 * * 1-5", "7,37 8-18 * * 1-5", "*/10 8-18 1-29/2 * 1", "0 3 */2 * 1-5", "50 23 */2 * 1-5", "3-59/7 1-4,9-17 26-31 3,4 *", "*/4 * * * 0,6,7",
          "59 */3 27,29 3 6-7", "* 7-20 * 1-6 *"]
 TIMERS = [("Mon..Fri 09..17:00/10", "*/10 9-17 * * 1-5"), ("Sat,Sun *-03-29..31 0/2:15", "15 */2 29-31 3 6,0")]
 RANGES = [(0, 59), (0, 23), (1, 31), (1, 12), (0, 7)]
@@ -57,8 +57,8 @@ def is_entry(entry, at):
 
 def lets(guard, moments):
     """For each moment whether the test lets the command run."""
-    form = re.fullmatch(r"""(.*)TZ=:/etc/localtime /bin/date -d '(\d+ minutes ago)'(.*)exec "\$0" "\$@\"""", guard)
-    judge = f"{form[1]}TZ=:/usr/share/zoneinfo/{ZONE} /bin/date -d \"$AT {form[2]}\"{form[3]}echo runs"
+    form = re.fullmatch(r"""(.*)TZ=:/etc/localtime /bin/date (.*)exec "\$0" "\$@\"""", guard)
+    judge = f"{form[1]}TZ=:/usr/share/zoneinfo/{ZONE} /bin/date -d \"$AT\" {form[2]}echo runs"
     shown = "\n".join(f"AT='{at:%Y-%m-%d %H:%M:%S} +0000'; r=$(set --; {judge}); echo \"${{r:-ends}}\"" for at in moments)
     return [it == "runs" for it in subprocess.run(["/bin/sh"], input=shown, capture_output=True, text=True, check=True).stdout.split()]
 

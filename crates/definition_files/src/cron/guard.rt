@@ -6,11 +6,12 @@ use crate::cron::line::When;
 use run_times::Ink;
 use std::alloc::{AllocError, Global};
 
-// The moment that is judged: that of the start, put back by the field's first minute. From the first minute of an hour that has entries up to the
-// first one of the next it has the hour of the entry that came due last, however late the start is.
-const BEFORE_MINUTE: &str = "set -- \"$(TZ=:/etc/localtime /bin/date -d '";
+// The moment that is judged: that of the start by the clock, put back by the first minute of the entries, and by their first hour if they name
+// hours. So it has the hour, or the day, of the entry that came due last, however late the start is.
+const BEFORE_MINUTES: &str =
+    "set -- \"$(/bin/date -u -d \"$(TZ=:/etc/localtime /bin/date '+%F %T UTC') ";
 
-const BEHIND_MINUTE: &str = " minutes ago' +%-m.%-d.%w%u.%-H)\" \"$@\"; ";
+const BEHIND_MINUTES: &str = " minutes ago\" +%-m.%-d.%w%u.%-H)\" \"$@\"; ";
 
 const END: &str = "shift; exec \"$0\" \"$@\"";
 
@@ -28,16 +29,24 @@ pub(crate) fn guard_in(alloc: Global, when: &mut When) -> Result<String, AllocEr
     let mut ink = Ink::new(alloc);
     if let When::Minutes(fields) = when {
         if is_both(fields) || has_many(fields) {
-            put_guard(&mut ink, fields);
+            put_guard(alloc, &mut ink, fields);
         }
     }
     ink.into_text()
 }
 
-fn put_guard(ink: &mut Ink, fields: &mut Fields) {
-    ink.put(BEFORE_MINUTE);
-    ink.put_number(first_minute(fields));
-    ink.put(BEHIND_MINUTE);
+fn put_guard(alloc: Global, ink: &mut Ink, fields: &mut Fields) {
+    let mut cases = Ink::new(alloc);
+    put_cases(&mut cases, fields);
+    let hours = first_of(&fields.hours).saturating_mul(60);
+    ink.put(BEFORE_MINUTES);
+    ink.put_number(first_of(&fields.minutes).saturating_add(hours));
+    ink.put(BEHIND_MINUTES);
+    ink.put_made(cases.into_text());
+    ink.put(END);
+}
+
+fn put_cases(ink: &mut Ink, fields: &mut Fields) {
     if is_both(fields) {
         put_case(ink, &[by_day(&fields.days)]);
         fields.days.is_every = true;
@@ -55,7 +64,6 @@ fn put_guard(ink: &mut Ink, fields: &mut Fields) {
         put_case(ink, &[by_month(&fields.months)]);
         fields.months.is_every = true;
     }
-    ink.put(END);
 }
 
 fn by_hour(field: &Field) -> Judged<'_> {
@@ -115,10 +123,11 @@ fn put_values(ink: &mut Ink, judged: &Judged<'_>, is_first: &mut bool) {
     }
 }
 
-fn first_minute(fields: &Fields) -> u64 {
-    match fields.minutes.values.as_slice().first() {
-        Some(minute) => u64::from(*minute),
-        None => 0,
+// The first value that entries name of the field; 0 if they name none.
+fn first_of(field: &Field) -> u64 {
+    match field.values.as_slice().first() {
+        Some(value) if !field.is_every => u64::from(*value),
+        _ => 0,
     }
 }
 
