@@ -556,7 +556,8 @@ def beside_a_hung_look_out(place, stop):
             place.check_told(f"left by a launcher that ended: {pid} (exe) is a look-out, and KILL does not end it")
         check("can't be ended" not in place.told(), place.told())
         print(f"jobd_run: beside {len(looks)} look-outs in state D the job runs after {spent:.1f} s")
-        check(spent < 10, f"{spent} s until the job ran again")
+        # Two seconds on a quiet machine; without it, none.
+        check(spent < 20, f"{spent} s until the job ran again")
         place.check_once()
     finally:
         hung.end()
