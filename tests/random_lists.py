@@ -144,6 +144,9 @@ STRICTER = [
     ("<?xml ..?> does not stand first", "another version of XML"),
     ("is not closed before the next element", "an element within a text"),
     ("has a text in it", "a text in <true> or <false>"),
+    ("the last <key> of a <dict> has no value", "an empty key without a value, which plistlib takes for none"),
+    ("<key> stands where a value is wanted", "an empty key without a value, which plistlib takes for none"),
+    ("is no entity of XML", "an entity that nothing defines, which plistlib passes over"),
 ]
 
 
