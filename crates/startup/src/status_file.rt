@@ -116,19 +116,19 @@ fn others_of<'a>(places: &'a Places, store: &'a str) -> [Other<'a>; 8] {
     };
     let beside = "it is a file of the store";
     [
-        other(socket, "", CONTROL_SOCKET, "it is the control socket"),
-        other(
+        place(socket, "", CONTROL_SOCKET, "it is the control socket"),
+        place(
             socket,
             ".lock",
             CONTROL_SOCKET,
             "it is the lock of the control socket",
         ),
-        other(journal, "", JOURNAL, "it is the journal"),
-        other(store, "", STORE, "it is the store"),
-        other(store, BESIDE_STORE[0], STORE, beside),
-        other(store, BESIDE_STORE[1], STORE, beside),
-        other(store, BESIDE_STORE[2], STORE, beside),
-        other(
+        place(journal, "", JOURNAL, "it is the journal"),
+        place(store, "", STORE, "it is the store"),
+        place(store, BESIDE_STORE[0], STORE, beside),
+        place(store, BESIDE_STORE[1], STORE, beside),
+        place(store, BESIDE_STORE[2], STORE, beside),
+        place(
             places.spool.as_str(),
             "/jobd.lock",
             SPOOL,
@@ -137,7 +137,7 @@ fn others_of<'a>(places: &'a Places, store: &'a str) -> [Other<'a>; 8] {
     ]
 }
 
-fn other<'a>(path: &'a str, end: &'static str, status: u8, why: &'static str) -> Other<'a> {
+fn place<'a>(path: &'a str, end: &'static str, status: u8, why: &'static str) -> Other<'a> {
     Other {
         path,
         end,
