@@ -4,7 +4,7 @@ use crate::own_process::{MARK, marked};
 use history_model::Text;
 use std::alloc::{AllocError, Global};
 use std::fs::Files;
-use std::io::{ErrorKind, Read};
+use std::io::ErrorKind;
 use std::{fs, io};
 
 /// What stands at a path.
@@ -89,7 +89,8 @@ fn list<R: Files + AllocGlobal>(rt: &R, folder: &str, names: &mut Vec<String>) -
     let front = format!(in rt.alloc(); "{folder}{end}")?;
     let mut listing = rt.open_dir(front.as_str())?;
     let mut bytes = Vec::new(rt.alloc());
-    let listed = listing.read_to_end(&mut bytes);
+    // Into room for many names: the system refuses a read into less than one takes.
+    let listed = io::copy(&mut listing, &mut bytes);
     drop(listing);
     for name in bytes.as_slice().split(|byte| *byte == 0) {
         let is_wanted = name.ends_with(b".plist") || name.ends_with(b".json");
