@@ -8,7 +8,7 @@ import re
 import threading
 import time
 
-from harness import BOUND, TOO_MANY, Deadline, begin, call, check, gated_job, in_time, make, read_all, shell_job, socket_job, wait_for
+from harness import BOUND, TOO_MANY, Deadline, begin, call, check, gated_job, in_time, make, read_all, requests_in, shell_job, socket_job, wait_for
 from limits import load_patiently
 
 # How many descriptors, how many jobs, how many clients of each at a time, and how many requests each of them makes.
@@ -86,17 +86,16 @@ def no_reply_is_lost(stage):
 def a_whole_request_waits_for_a_place(stage):
     """Clients of slow jobs take all places: those of other jobs whose request is whole wait and are served in their turn, none is closed."""
     launcher = stage.serve(shell="ulimit -n 48")
-    # (48 - 32 - 3) / 4 + 1 are 4 places, of which three jobs that have one each leave one: none has more than what is free.
+    # (48 - 32 - 3) / 4 + 1 are 4 places. If each of three jobs has one, a fourth client has to wait; if one had two before, the third job has one, too.
     for label in ("slow", "other", "third"):
         launcher.load(gated_job(stage, label))
-    held = [begin(stage.at(label), f"{label} {number}".encode()) for number in range(3) for label in ("slow", "other", "third")]
-    wait_for(lambda: len([name for name in os.listdir(stage.at("spool")) if name.endswith(".request")]) == 3, "three are not held")
+    clients = [begin(stage.at(label), f"{label} {number}".encode()) for number in range(3) for label in ("slow", "other", "third")]
+    wait_for(lambda: len(requests_in(stage)) >= 3, lambda: f"held are {requests_in(stage)}")
     time.sleep(1)
-    held_then = len([name for name in os.listdir(stage.at("spool")) if name.endswith(".request")])
-    check(held_then == 3, f"{held_then} are held")
+    check(len(requests_in(stage)) in (3, 4), f"held are {requests_in(stage)}")
     check(launcher.said() == "", f"it said {launcher.said()!r}")
     make(stage.at("go"))
-    got = [read_all(client) for client in held]
+    got = [read_all(client) for client in clients]
     asked = [f"{label} {number}".encode() for number in range(3) for label in ("slow", "other", "third")]
     check(got == asked, f"they got {got}")
     check(launcher.said() == "", f"it said {launcher.said()!r}")
