@@ -220,6 +220,22 @@ def a_folder_stands_for_its_files(stage):
     expect(stage, ["load", "@/jobs/folder.json"], replies=many, status=10, asked=load("d"), told=["too many jobs"])
 
 
+def a_folder_of_many_files(stage):
+    """A folder whose names take more than one read of the system: none is left out, by `jobctl` and by `jobscope`."""
+    os.mkdir(stage.at("many"))
+    names = [f"{number:03}{'x' * (number % 200)}" for number in range(300)]
+    for name in names:
+        make(stage.at(f"many/{name}.json"), json.dumps({"Label": name, "Program": "/bin/true", "StandardOutPath": "/dev/null", "RunAtLoad": True}))
+    launcher = stage.serve()
+    loaded = stage.jobctl(["load", stage.at("many")])
+    check(loaded.returncode == 0, f"load ended with {loaded.returncode}: {loaded.stderr[-300:]!r}")
+    listed = {line.split("\t")[2] for line in stage.jobctl(["list"]).stdout.splitlines()[1:]}
+    check(listed == set(names), f"{len(listed)} of {len(names)} are loaded")
+    checked = subprocess.run([*stage.given.jobscope, "check", stage.at("many")], capture_output=True, text=True, timeout=patience(BOUND))
+    check(checked.returncode == 0, f"check ended with {checked.returncode}: {checked.stderr[-300:]!r}")
+    launcher.shut_down()
+
+
 def a_file_may_be_faulty(stage):
     """A file's fault leaves out that file alone, and has its place among the codes. Files that make no request are those that are no UTF-8,
     too long for the journal's line or for a request, and for `unload` no definition."""
@@ -457,7 +473,7 @@ def a_terminal_is_told_what_says_where(stage):
 
 
 SCENES = [
-    each_command_makes_its_request, texts_are_printed, a_folder_stands_for_its_files, a_file_may_be_faulty, a_reply_may_not_come,
+    each_command_makes_its_request, texts_are_printed, a_folder_stands_for_its_files, a_folder_of_many_files, a_file_may_be_faulty, a_reply_may_not_come,
     what_comes_may_be_no_reply, nobody_may_listen, words_may_be_no_command, the_output_may_be_refused, the_outputs_reader_may_have_gone,
     no_answer_may_come, the_launcher_may_have_no_room, the_environment_is_read, a_word_that_is_none_is_named,
     a_request_and_its_record_have_at_most_262144_bytes, the_longest_record_fits_a_line, a_reply_has_at_most_1048576_bytes,
