@@ -65,8 +65,7 @@ def came_of(shell, typed, shown):
         if row.rstrip("\n").endswith(END):
             rest = row.rstrip("\n")[: -len(END)]
             return came + ([rest] if rest else [])
-        if is_said(row):
-            came.append(row.rstrip("\n"))
+        came.append(row.rstrip("\n"))
     return [*came, "the shell has ended"]
 
 
