@@ -78,6 +78,8 @@ def no_reply_is_lost(stage):
     wrong = []
     for limit, jobs, clients, requests in CROWDS:
         lost, made, told = lost_replies(stage, limit, jobs, clients, requests)
+        # Who waits for 5 seconds may go for a client of another job: here that is the machine's doing.
+        in_time("it waited 5 seconds for a place" not in told, f"at {limit} descriptors clients waited for 5 seconds: {told[-200:]!r}")
         if lost or told:
             wrong.append(f"at {limit} descriptors and {jobs} jobs {len(lost)} of {made} were lost, as {lost[:2]}; it said {told[-300:]!r}")
     check(not wrong, "; ".join(wrong))
