@@ -18,8 +18,11 @@ server of this script's own, mounted in the folder, that is stopped (SIGSTOP, it
     unanswered         the same of paths and logs, with a server that reads and does not answer (look-outs stay in state D)
     exchanges          another user exchanges log and FIFO without end (renameat2)
     leases             another user holds a write lease on a log
+    no_proc            without /proc that there is no look-out is told once, and the launcher goes on by itself
     a_terminal         standard error is a terminal that nobody reads
-    links              300 logs and 60 watched paths over a link to it, with a server that does not answer, beside 20 jobs that are well; then it answers
+    links              300 logs and 60 watched paths over a link to it, with a server that does not answer, beside 20 jobs that are well, under jobd-run; it
+                       is stopped and started anew; then the server answers
+    a_disk             60 logs and 60 watched paths on an overlay over it: each is a place of its own, and the whole is shut once four look-outs are left there
     leases_and_a_disk  eight logs under a write lease of another user: no other log of the disk is refused
     no_process         no process can be had for a look-out: looks and starts are refused with the system's reason, and the launcher goes on
     figures            the 99th of 100 parts of 1,000 `list` with 64 hung paths and 20 hung logs; the time of a start; memory of an idle launcher
@@ -43,12 +46,12 @@ sys.dont_write_bytecode = True
 HERE = os.path.dirname(os.path.abspath(__file__))
 sys.path.insert(0, os.path.join(HERE, "scenes"))
 from harness import (  # noqa: E402
-    Fault, Honest, Launcher, Stage, adopt_orphans, check, chosen, comes, end_children, look_outs, program_words, shell_job, text_at, wait_for,
+    Fault, Honest, Launcher, Stage, adopt_orphans, check, children_of, chosen, comes, end_children, look_outs, program_words, shell_job, text_at, wait_for,
 )
 
 LIBC = ctypes.CDLL(None, use_errno=True)
 NOBODY = 65534
-# In seconds: a `list` that is answered later was held up. One wait of half a second is allowed for a place, and no more.
+# In seconds, on a quiet machine: a `list` that is answered later was held up. One wait of half a second is allowed for a place, and no more.
 PROMPT, ONE_WAIT = 0.05, 0.9
 
 
@@ -154,12 +157,17 @@ def late(times):
     return times[int(len(times) * 0.99)], times[-1]
 
 
+def slowness():
+    """By how much the machine is too busy for its processors: 1 on a quiet one."""
+    return max(1.0, os.getloadavg()[0] / (os.cpu_count() or 1))
+
+
 def is_prompt(honest, waits=3):
     """All but some waits of half a second were prompt."""
     times = honest.end()
     part, most = late(times)
-    held = [took for took in times if took > PROMPT]
-    check(most < ONE_WAIT, f"a list took {most:.2f} s")
+    held = [took for took in times if took > PROMPT * slowness()]
+    check(most < ONE_WAIT * slowness(), f"a list took {most:.2f} s")
     check(len(held) <= waits + len(times) // 100, f"{len(held)} of {len(times)} lists took more than {PROMPT} s")
     return part
 
@@ -325,12 +333,65 @@ def root_and_cwd(stage):
 
 
 def zombies(pid):
+    """Look-outs of the launcher that have gone and were not waited for. Their name is `exe`; a job that has just ended has another."""
     found = []
     for name in os.listdir("/proc"):
         if name.isdigit():
-            words = text_at(f"/proc/{name}/stat").rpartition(")")[2].split()
-            if words[:2] == ["Z", str(pid)]:
+            head, _, rest = text_at(f"/proc/{name}/stat").rpartition(")")
+            if head.endswith("(exe") and rest.split()[:2] == ["Z", str(pid)]:
                 found.append(name)
+    return found
+
+
+class Kept:
+    """A launcher that `jobd-run` keeps, with definitions in a folder."""
+
+    def __init__(self, stage, jobs):
+        self.stage = stage
+        self.said = stage.at("kept.said")
+        for name in ("jobs", "run", "state"):
+            os.mkdir(stage.at(name))
+        for job in jobs:
+            with open(stage.at(f"jobs/{job['Label']}.json"), "w", encoding="utf-8") as out:
+                json.dump(job, out)
+        self.socket = stage.at("run/jobd.sock")
+
+    def start(self):
+        """Starts `jobd-run`, and waits until its launcher answers: how many seconds that took."""
+        places = {f"JOBD_{name.upper()}": self.stage.at(name) for name in ("jobs", "run", "state")}
+        programs = os.path.dirname(os.path.abspath(self.stage.given.jobd[0]))
+        begun = time.monotonic()
+        with open(self.said, "ab") as said:
+            self.keeper = subprocess.Popen(
+                ["/bin/sh", os.path.join(HERE, "../contrib/jobd-run")], env={**os.environ, **places, "JOBD_PROGRAMS": programs}, cwd=self.stage.folder,
+                stdin=subprocess.DEVNULL, stdout=subprocess.DEVNULL, stderr=said)
+        self.process = self.keeper
+        self.launcher = wait_for(self.answering, lambda: f"no launcher answers: {text_at(self.said)[-400:]!r}", 60)
+        return time.monotonic() - begun
+
+    def answering(self):
+        for pid in children_of(self.keeper.pid):
+            if "\0serve\0" in text_at(f"/proc/{pid}/cmdline"):
+                try:
+                    launcher = Launcher(self.keeper, self.said, self.socket)
+                    launcher.ask({"req": "list"}, 5)
+                except (Fault, OSError):
+                    return None
+                self.pid = pid
+                return launcher
+        return None
+
+    def end(self):
+        self.keeper.terminate()
+        self.keeper.wait(60)
+
+
+def orphans(before):
+    """Look-outs of launchers that are gone."""
+    found = []
+    for name in os.listdir("/proc"):
+        if name.isdigit() and text_at(f"/proc/{name}/cmdline") == "jobd-look-out\0" and int(name) in before:
+            found.append(int(name))
     return found
 
 
@@ -338,50 +399,111 @@ def links(stage):
     hung = FileSystem(stage, "hung")
     os.symlink(hung.at, stage.at("link"))
     over = lambda name: os.path.join(stage.at("link"), name)  # noqa: E731
+    marks = [stage.at(f"mark{at}") for at in range(20)]
+    jobs = [shell_job(f"good{at}", f"echo >> {mark}", StartInterval=1, ThrottleInterval=1) for at, mark in enumerate(marks)]
+    jobs.append(shell_job("good", f"echo >> {stage.at('seen')}", WatchPaths=[stage.at("watched")], ThrottleInterval=0))
+    jobs.append(shell_job("watcher", "exit 0", WatchPaths=[over(f"w{at}") for at in range(60)], ThrottleInterval=1))
+    jobs.append(shell_job("stopped", "exec sleep 600", RunAtLoad=True, ThrottleInterval=0))
+    for at in range(300):
+        jobs.append(shell_job(f"log{at}", "echo x", StandardOutPath=over(f"log{at}"), StartInterval=4, ThrottleInterval=1))
+    kept, left = Kept(stage, jobs), set()
     try:
+        for life in ("first", "second"):
+            took = kept.start()
+            if life == "second":
+                check(took < 2 * slowness(), f"jobd-run came up after {took:.1f} s")
+                check(len(orphans(left)) <= 16, f"{len(orphans(left))} look-outs of the launcher before are left")
+            wait_for(lambda: "state = running" in kept.launcher.print("stopped"), "the definitions are not loaded", 60)
+            time.sleep(2)
+            if life == "first":
+                hang(hung, True)
+                time.sleep(2)
+            left |= set(others_go_on(stage, kept, marks, life, took))
+            if life == "first":
+                kept.end()
+        hung.go_on()
+        time.sleep(5)
+        check(not zombies(kept.pid), f"zombies are left: {zombies(kept.pid)}")
+        wait_for(lambda: "last exit = code 0" in kept.launcher.print("log7"), "a log is not opened again", 40)
+        kept.end()
+    finally:
+        kept.keeper.kill()
+        hung.end()
+
+
+def others_go_on(stage, kept, marks, life, came_up):
+    """All jobs but those over the link start, end and are stopped on time, and a list is answered. The look-outs that the launcher has then."""
+    launcher = kept.launcher
+    honest, before, begun = Honest(launcher), [len(text_at(mark)) for mark in marks], time.monotonic()
+    seen = []
+    for at in range(6):
+        count, asked = len(text_at(stage.at("seen"))), time.monotonic()
+        with open(stage.at("watched"), "w", encoding="utf-8") as out:
+            out.write(str(at))
+        wait_for(lambda: len(text_at(stage.at("seen"))) > count, "a change of a path that is well is not seen", 30)
+        seen.append(time.monotonic() - asked)
+        time.sleep(2)
+    asked = time.monotonic()
+    launcher.ask({"req": "stop", "job": "stopped"})
+    wait_for(lambda: "last exit = signal 15" in launcher.print("stopped"), "a job that is well is not stopped")
+    took, passed = time.monotonic() - asked, time.monotonic() - begun
+    runs = [len(text_at(mark)) - count for mark, count in zip(marks, before)]
+    found = look_outs(kept.pid)
+    part, most = late(honest.end())
+    print(f"  {life}: up after {came_up:.1f} s; list: 99 of 100 within {part * 1000:.1f} ms, at most {most * 1000:.0f}; seen after {max(seen):.1f} s;"
+          f" stopped after {took:.1f} s; {min(runs)} runs in {passed:.0f} s; {len(found)} look-outs", flush=True)
+    check(part < PROMPT * slowness(), f"99 of 100 lists took {part * 1000:.0f} ms")
+    check(max(seen) < 1.5 * slowness(), f"a change was seen after {max(seen):.1f} s")
+    check(took < 2, f"a job was stopped after {took:.1f} s")
+    check(min(runs) >= passed * 0.8 - 2, f"a job that is due each second ran {min(runs)} times in {passed:.0f} s")
+    check(len(found) <= 16, f"{len(found)} look-outs are left")
+    return found
+
+
+def a_disk(stage):
+    """A file system of a kind that counts as a disk's, an overlay, over one that hangs: each path there is a place of its own."""
+    hung = FileSystem(stage, "hung")
+    for name in ("upper", "disk"):
+        os.mkdir(stage.at(name))
+    disk = stage.at("disk")
+    if LIBC.mount(b"upper", stage.at("upper").encode(), b"tmpfs", 0, b""):
+        raise Fault("no tmpfs here")
+    for name in ("up", "work"):
+        os.mkdir(stage.at(f"upper/{name}"))
+    options = f"lowerdir={hung.at},upperdir={stage.at('upper/up')},workdir={stage.at('upper/work')}"
+    try:
+        if LIBC.mount(b"disk", disk.encode(), b"overlay", 0, options.encode()):
+            raise Fault(f"no overlay here: {os.strerror(ctypes.get_errno())}")
         launcher = stage.serve()
-        marks = [stage.at(f"mark{at}") for at in range(20)]
-        for at, mark in enumerate(marks):
-            launcher.load(shell_job(f"good{at}", f"echo >> {mark}", StartInterval=1, ThrottleInterval=1))
         launcher.load(shell_job("good", f"echo >> {stage.at('seen')}", WatchPaths=[stage.at("watched")], ThrottleInterval=0))
-        launcher.load(shell_job("watcher", "exit 0", WatchPaths=[over(f"w{at}") for at in range(60)], ThrottleInterval=1))
-        for at in range(300):
-            launcher.load(shell_job(f"log{at}", "echo x", StandardOutPath=over(f"log{at}"), StartInterval=2, ThrottleInterval=1))
-        launcher.load(shell_job("stopped", "exec sleep 600", RunAtLoad=True))
+        launcher.load(shell_job("watcher", "exit 0", WatchPaths=[os.path.join(disk, f"w{at}") for at in range(60)], ThrottleInterval=1))
+        for at in range(60):
+            launcher.load(shell_job(f"log{at}", "echo x", StandardOutPath=os.path.join(disk, f"log{at}"), StartInterval=2, ThrottleInterval=1))
         time.sleep(2)
         hang(hung, True)
-        time.sleep(2)
-        honest, before, begun = Honest(launcher), [len(text_at(mark)) for mark in marks], time.monotonic()
-        seen = []
-        for at in range(6):
-            asked = time.monotonic()
-            with open(stage.at("watched"), "w", encoding="utf-8") as out:
-                out.write(str(at))
-            count = len(text_at(stage.at("seen")))
-            wait_for(lambda: len(text_at(stage.at("seen"))) > count, "a change of a path that is well is not seen", 30)
-            seen.append(time.monotonic() - asked)
-            time.sleep(2)
-        asked = time.monotonic()
-        launcher.ask({"req": "stop", "job": "stopped"})
-        wait_for(lambda: "last exit = signal 15" in launcher.print("stopped"), "a job that is well is not stopped")
-        took = time.monotonic() - asked
-        passed = time.monotonic() - begun
-        runs = [len(text_at(mark)) - count for mark, count in zip(marks, before)]
-        most_left = len(look_outs(launcher.pid))
+        time.sleep(15)
+        honest = Honest(launcher, 20)
+        count, asked = len(text_at(stage.at("seen"))), time.monotonic()
+        with open(stage.at("watched"), "w", encoding="utf-8") as out:
+            out.write("x")
+        wait_for(lambda: len(text_at(stage.at("seen"))) > count, "a change of a path that is well is not seen", 30)
+        seen = time.monotonic() - asked
+        goes_on(launcher, stage, "well")
+        time.sleep(10)
         part, most = late(honest.end())
-        print(f"  list: 99 of 100 within {part * 1000:.1f} ms, at most {most * 1000:.0f}; seen after {max(seen):.1f} s; stopped after {took:.1f} s;"
-              f" {min(runs)} runs in {passed:.0f} s; {most_left} look-outs", flush=True)
-        check(part < PROMPT, f"99 of 100 lists took {part * 1000:.0f} ms")
-        check(max(seen) < 3.5, f"a change was seen after {max(seen):.1f} s")
-        check(took < 2, f"a job was stopped after {took:.1f} s")
-        check(min(runs) >= passed * 0.8 - 2, f"a job that is due each second ran {min(runs)} times in {passed:.0f} s")
-        check(most_left <= 18, f"{most_left} look-outs are left")
+        found = look_outs(launcher.pid)
+        print(f"  list: 99 of 100 within {part * 1000:.1f} ms, at most {most * 1000:.0f}; seen after {seen:.1f} s; {len(found)} look-outs", flush=True)
+        check(len(found) <= 16, f"{len(found)} look-outs are left")
+        check(seen < 1.5 * slowness(), f"a change was seen after {seen:.1f} s")
+        check(part < PROMPT * slowness(), f"99 of 100 lists took {part * 1000:.0f} ms")
         hung.go_on()
         time.sleep(5)
         check(not zombies(launcher.pid), f"zombies are left: {zombies(launcher.pid)}")
-        wait_for(lambda: "last exit = code 0" in launcher.print("log7"), "a log is not opened again", 40)
         launcher.shut_down(30)
     finally:
+        hung.go_on()
+        LIBC.umount2(disk.encode(), 2)
+        LIBC.umount2(stage.at("upper").encode(), 2)
         hung.end()
 
 
@@ -444,6 +566,23 @@ def no_process(stage):
         launcher.shut_down(30)
     finally:
         hung.end()
+
+
+def no_proc(stage):
+    """A launcher in a mount namespace of its own, without /proc: it says once that there is no look-out, and looks and opens for itself."""
+    launcher = stage.serve(shell="""exec unshare -m --propagation private -- /bin/sh -c 'umount -l /proc && exec "$@"' sh "$@" """)
+    launcher.load(shell_job("w", f"echo >> {stage.at('seen')}", WatchPaths=[stage.at("watched")], ThrottleInterval=0))
+    for at in range(3):
+        launcher.load(shell_job(f"job{at}", "echo x", StandardOutPath=stage.at(f"out{at}"), RunAtLoad=True))
+    for at in range(3):
+        wait_for(lambda: text_at(stage.at(f"out{at}")) == "x\n", lambda: f"job{at} does not start: {launcher.said()[-300:]!r}")
+    told(launcher, "no look-out can be started from /proc/self/exe")
+    time.sleep(1.5)
+    with open(stage.at("watched"), "w", encoding="utf-8") as out:
+        out.write("x")
+    wait_for(lambda: text_at(stage.at("seen")), "a change is not seen")
+    check(len(launcher.lines("no look-out can be started")) == 1, f"it is told again: {launcher.lines('no look-out')}")
+    launcher.shut_down(30)
 
 
 def a_folder(stage):
@@ -598,8 +737,8 @@ def memory_of(pid):
 
 
 TRIALS = [
-    watched_paths, streams, an_input, a_program, an_interpreter, a_loader, a_search, root_and_cwd, a_folder, a_socket, unanswered, links, exchanges, leases,
-    leases_and_a_disk, no_process, a_terminal, figures,
+    watched_paths, streams, an_input, a_program, an_interpreter, a_loader, a_search, root_and_cwd, a_folder, a_socket, unanswered, links, a_disk, exchanges,
+    leases, leases_and_a_disk, no_process, no_proc, a_terminal, figures,
 ]
 
 

@@ -2,7 +2,7 @@
 use Rattle.std.specs.Prelude.{Option, Some, None, true, false}
 use Rattle.history_model.specs.declared.Obs.{Obs}
 use Rattle.look_out.specs.declared.answer.Answer.{Answer}
-use Rattle.look_out.specs.declared.answer.Answer.TheVariants.{Absent, There, Filled, Held, Refused, Fifo, Socket, Folder, Device}
+use Rattle.look_out.specs.declared.answer.Answer.TheVariants.{Absent, There, Filled, Held, Refused, Fifo, Socket, Folder, Device, Shut}
 
 -- the sight that an answer to a look is: none, if the look was refused
 abbrev pub sight_in : Answer → Option Obs
@@ -15,3 +15,4 @@ sight_in Fifo = None
 sight_in Socket = None
 sight_in Folder = None
 sight_in Device = None
+sight_in Shut = None

@@ -49,7 +49,6 @@ impl<'a> Asking<'a> {
         asks: Asks,
     ) -> Result<(), AllocError> {
         let def = start.def;
-        self.add(Part::Program, Asks::Forget, "")?;
         if let Some(folder) = def.working_directory() {
             self.add(Part::Folder, Asks::Enter, folder)?;
         }
@@ -74,7 +73,7 @@ pub(crate) fn hold<
 >(
     rt: &R,
     alloc: Global,
-    openings: &mut Openings<P>,
+    openings: &mut Openings,
     hung: &mut Hung<P>,
     start: Start<'_>,
     up: u64,
@@ -104,7 +103,7 @@ fn of_program(error: io::Error) -> Failure {
 fn ask<P: OpenProcess + Drop, R: AllocGlobal + Clock + Files + Net + Processes<Started = P>>(
     rt: &R,
     alloc: Global,
-    openings: &mut Openings<P>,
+    openings: &mut Openings,
     hung: &mut Hung<P>,
     asking: &Asking<'_>,
     up: u64,
@@ -150,7 +149,7 @@ fn held_in(id: Option<u32>, asking: &Asking<'_>, answers: &[Answer]) -> Result<H
 
 // What the answer says of the part: that it is held, or why not.
 fn take_in(held: &mut Held, part: Part, answer: Answer) -> Option<io::Error> {
-    if matches!(part, Part::Program) {
+    if matches!(part, Part::Program) && answer != Answer::Shut {
         return None;
     }
     match number_in(answer) {
@@ -173,6 +172,7 @@ fn number_in(answer: Answer) -> Option<u64> {
 fn refusal_of(answer: Answer) -> Option<io::Error> {
     let words = match answer {
         Answer::Refused { error } => return Some(error_of(error)),
+        Answer::Shut => return Some(no_answer()),
         Answer::Fifo => "is a FIFO, and no plain file",
         Answer::Socket => "is a socket, and no plain file",
         Answer::Folder => "is a folder, and no plain file",
@@ -226,7 +226,7 @@ pub(crate) fn first_silent<
 >(
     rt: &R,
     alloc: Global,
-    openings: &mut Openings<P>,
+    openings: &mut Openings,
     hung: &mut Hung<P>,
     sockets: &[Socket],
     up: u64,
@@ -250,7 +250,7 @@ pub(crate) fn silence<
 >(
     rt: &R,
     alloc: Global,
-    openings: &mut Openings<P>,
+    openings: &mut Openings,
     hung: &mut Hung<P>,
     path: &str,
     up: u64,
@@ -258,8 +258,10 @@ pub(crate) fn silence<
     let asks = Asks::Look;
     let mut answers = Vec::new(alloc);
     let asked = openings.ask(rt, hung, &[Question { asks, path }], &mut answers, up);
+    let is_shut = answers.first().copied() == Some(Answer::Shut);
     drop(answers);
     match asked {
+        Asked::Answered if is_shut => Some(no_answer()),
         Asked::Answered | Asked::Unstarted => None,
         Asked::Unasked(error) | Asked::Refused(error) => Some(error),
         _ => Some(no_answer()),

@@ -419,6 +419,16 @@ impl Notices {
         }
     }
 
+    /// There can be no look-out, so the launcher looks and opens for itself.
+    pub(crate) fn alone(&mut self) {
+        if self.has_place() {
+            let form =
+                "no look-out can be started from /proc/self/exe: a path that hangs stops the launcher";
+            let line = filled(self.alloc, form, &[]);
+            self.add(NoticeKind::Refusal, line);
+        }
+    }
+
     // Whether a line more has room. One that has none is counted.
     fn has_place(&mut self) -> bool {
         if self.dropped > 0 || self.waiting.len() >= ROOM {

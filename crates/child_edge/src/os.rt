@@ -10,7 +10,7 @@ use crate::failure::Failure;
 use crate::fault::fault_of;
 use crate::held::Held;
 use crate::notices::{Asked, Notices};
-use crate::reserve::Reserve;
+use crate::reserve::{Reserve, lacks_descriptor};
 use crate::shell::KeptShell;
 use crate::sockets::Sockets;
 use crate::start::Start;
@@ -39,12 +39,13 @@ pub struct OsEdge<R: Processes> {
     children: Children<R::Started>,
     shell: KeptShell<R::Started>,
     // One is asked what is at paths and not waited for; the other is asked what starts and binds need. What hung is remembered for both.
-    looks: Looks<R::Started>,
-    openings: Openings<R::Started>,
+    looks: Looks,
+    openings: Openings,
     hung: Hung<R::Started>,
-    // That what the look-out holds can't be opened was told.
+    // That what the look-out holds can't be opened was told, and that there can be no look-out.
     is_shut_told: bool,
-    // Let go for a start, a TERM, the first question of a round of looks, and a look of the edge's own.
+    is_alone_told: bool,
+    // Let go for a start that lacks a descriptor, a TERM, the first question of a round of looks, and a look of the edge's own.
     reserve: Reserve,
     is_first_question: bool,
     sockets: Sockets,
@@ -66,6 +67,7 @@ impl<R: Drop + Processes> Drop for OsEdge<R> {
             openings: _,
             hung: _,
             is_shut_told: _,
+            is_alone_told: _,
             reserve: _,
             is_first_question: _,
             sockets: _,
@@ -91,6 +93,7 @@ impl<R: Clock + Drop + Processes> OsEdge<R> {
         ensures { IfOk result (λ e. e ≡ 0) }
     {
         let made = Instant::now(&rt)?;
+        let hung = Hung::new(alloc)?;
         Ok(OsEdge {
             rt,
             alloc,
@@ -99,8 +102,9 @@ impl<R: Clock + Drop + Processes> OsEdge<R> {
             shell: KeptShell::new(alloc),
             looks: Looks::new(alloc),
             openings: Openings::new(alloc),
-            hung: Hung::new(alloc),
+            hung,
             is_shut_told: false,
+            is_alone_told: false,
             reserve: Reserve::new(alloc),
             is_first_question: false,
             sockets: Sockets::new(alloc),
@@ -312,8 +316,10 @@ impl<R: Clock + Files<File = File> + Processes> OsEdge<R> {
     {
         self.connections.close_all(&self.rt, &mut self.notices);
         self.shell.end();
-        self.looks.let_go();
-        self.openings.let_go();
+        let up = clock::up(&self.rt, self.made);
+        self.looks.let_go(&mut self.hung, up);
+        self.openings.let_go(&mut self.hung, up);
+        self.hung.reap();
     }
 
     // Looks without a look-out.
@@ -322,10 +328,27 @@ impl<R: Clock + Files<File = File> + Processes> OsEdge<R> {
         R: AllocGlobal + Clone + Drop,
         ensures { self.new ≡ self.old }
     {
+        self.tell_alone();
         self.reserve.let_go();
         let answer = paths::look(&self.rt, path);
         self.reserve.take(&self.rt);
         answer
+    }
+
+    // Starts the run. If that fails for want of a descriptor, those in reserve are let go, and it is tried once more.
+    fn launch_at_last(&mut self, start: Start<'_>) -> Result<u32, Failure>
+    where
+        R: AllocGlobal + Net,
+        ensures pid { IfOk result (λ pid. 0 < pid) }
+        ensures failures { self.new ≡ self.old }
+    {
+        match self.launch(start) {
+            Err(failure) if lacks_descriptor(&failure.error) => {
+                self.reserve.let_go();
+                self.launch(start)
+            }
+            answer => answer,
+        }
     }
 
     // Starts the run over what a look-out holds for it, and has that forgotten.
@@ -346,13 +369,13 @@ impl<R: Clock + Files<File = File> + Processes> OsEdge<R> {
         ) {
             Ok(held) => held,
             Err(failure) => {
-                self.openings.forget();
+                self.openings.forget(&mut self.hung, up);
                 return Err(failure);
             }
         };
         let answer = self.launch_over(start, held);
         self.tell_shut(held);
-        self.openings.forget();
+        self.openings.forget(&mut self.hung, up);
         answer
     }
 
@@ -373,10 +396,23 @@ impl<R: Clock + Files<File = File> + Processes> OsEdge<R> {
         }
     }
 
+    // At the first start or look for which there can be no look-out, that is told.
+    fn tell_alone(&mut self)
+        ensures { self.new ≡ self.old }
+    {
+        if !self.is_alone_told {
+            self.is_alone_told = true;
+            self.notices.alone();
+        }
+    }
+
     // At the first start over a look-out whose folder in /proc is closed, that is told.
     fn tell_shut(&mut self, held: Held)
         ensures { self.new ≡ self.old }
     {
+        if !held.is_asked {
+            self.tell_alone();
+        }
         if held.is_asked && !self.is_shut_told && self.openings.id().is_none() {
             self.is_shut_told = true;
             self.notices.shut();
@@ -403,8 +439,7 @@ impl<R: AllocGlobal + Clock + Files<File = File> + Net + Processes> ChildEdge fo
             def,
             conn,
         };
-        self.reserve.let_go();
-        let answer = self.launch(start);
+        let answer = self.launch_at_last(start);
         self.reserve.take(&self.rt);
         self.notices.started(start, answer);
         match answer {

@@ -2,10 +2,21 @@
 
 use std::alloc::Global;
 use std::fs::{File, Files};
+use std::io;
 
 /// As many are held back. A first start takes the most at a time: the two ends of a look-out's socket, what tells that it was started,
 /// and three streams, one of which may be opened twice.
 const MOST: usize = 8;
+
+/// ENFILE and EMFILE: the system, or this process, has no descriptor left (open(2)).
+const NONE_OF_SYSTEM: i32 = 23;
+
+const NONE_OF_PROCESS: i32 = 24;
+
+/// Whether the error says that a descriptor lacks.
+pub(crate) fn lacks_descriptor(error: &io::Error) -> bool {
+    matches!(error.raw_os_error(), Some(NONE_OF_SYSTEM | NONE_OF_PROCESS))
+}
 
 #[derive(Drop)]
 pub(crate) struct Reserve {

@@ -139,7 +139,7 @@ impl Sockets {
         &self,
         rt: &R,
         alloc: Global,
-        openings: &mut Openings<P>,
+        openings: &mut Openings,
         hung: &mut Hung<P>,
         job: JobNo,
         up: u64,

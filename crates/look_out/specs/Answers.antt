@@ -2,7 +2,7 @@
 use Rattle.std.specs.Prelude.{ℕ, List, ◌∷◌, ◌+◌, fold, nat_eq, if◌then◌else◌}
 use Rattle.std.specs.Int.{w64, to_le_bytes}
 use Rattle.look_out.specs.declared.answer.Answer.{Answer}
-use Rattle.look_out.specs.declared.answer.Answer.TheVariants.{Absent, There, Filled, Held, Refused, Fifo, Socket, Folder, Device}
+use Rattle.look_out.specs.declared.answer.Answer.TheVariants.{Absent, There, Filled, Held, Refused, Fifo, Socket, Folder, Device, Shut}
 
 -- the first byte
 abbrev pub tag_of : Answer → ℕ
@@ -15,6 +15,7 @@ tag_of Fifo = 5
 tag_of Socket = 6
 tag_of Folder = 7
 tag_of Device = 8
+tag_of Shut = 9
 
 -- the number that the other eight say
 abbrev pub number_of : Answer → ℕ
@@ -27,6 +28,7 @@ number_of Fifo = 0
 number_of Socket = 0
 number_of Folder = 0
 number_of Device = 0
+number_of Shut = 0
 
 -- the nine bytes
 abbrev pub code_of : Answer → List ℕ

@@ -27,6 +27,8 @@ pub enum Answer {
     Folder,
     /// An open: a device is there whose open may wait.
     Device,
+    /// It was not asked about: the way there leads to where nothing is asked now.
+    Shut,
 }
 
 impl Answer {
@@ -43,6 +45,7 @@ impl Answer {
             Answer::Socket => (6, 0),
             Answer::Folder => (7, 0),
             Answer::Device => (8, 0),
+            Answer::Shut => (9, 0),
         };
         let [a, b, c, d, e, f, g, h] = number.to_le_bytes();
         [tag, a, b, c, d, e, f, g, h]
@@ -64,6 +67,7 @@ impl Answer {
             6 => Some(Answer::Socket),
             7 => Some(Answer::Folder),
             8 => Some(Answer::Device),
+            9 => Some(Answer::Shut),
             _ => None,
         }
     }

@@ -7,6 +7,8 @@ use crate::answer::Answer;
 use crate::looking::{INVALID, look, refused};
 use crate::opening::{enter, open, program, search};
 use crate::question::LONGEST;
+use crate::told::Told;
+use crate::walking::may_go;
 use std::alloc::{AllocError, Global};
 use std::fs::{File, Files};
 use std::io;
@@ -18,17 +20,19 @@ use std::rt::Env;
 /// How many bytes of questions are read at a time.
 const ROOM: usize = 4_096;
 
-/// What a look-out has: what it holds open, the folder of the start that it was asked about, and the question that still comes.
+/// What a look-out has: what it holds open, the folder of the start that it was asked about, where nothing is asked now, and the question that still
+/// comes.
 #[derive(Drop)]
 struct Far {
     alloc: Global,
     held: Vec<File>,
     folder: String,
+    told: Told,
     question: Vec<u8>,
 }
 
 /// Answers the questions that come at the socket, in their order, until its end: each before the next is looked at, so that the first without
-/// an answer is the one that hangs. What a question opens stays open until the one
+/// an answer is the one that hangs; beside the answers it names where links lead. What a question opens stays open until the one
 /// that forgets it.
 pub fn serve<R: AllocGlobal + Clone + Drop + Env + Files<File = File>, S: Read + Write>(
     rt: &R,
@@ -39,6 +43,7 @@ pub fn serve<R: AllocGlobal + Clone + Drop + Env + Files<File = File>, S: Read +
         alloc,
         held: Vec::new(alloc),
         folder: String::new(alloc),
+        told: Told::new(alloc),
         question: Vec::new(alloc),
     };
     let mut answers: Vec<u8> = Vec::new(alloc);
@@ -50,7 +55,7 @@ pub fn serve<R: AllocGlobal + Clone + Drop + Env + Files<File = File>, S: Read +
         }
         for byte in &room[..count] {
             answers.clear();
-            take_in(rt, &mut far, &[*byte], &mut answers)?;
+            take_in(rt, &mut far, socket, &[*byte], &mut answers)?;
             if !answers.is_empty() {
                 socket.write_all(answers.as_slice())?;
             }
@@ -60,24 +65,26 @@ pub fn serve<R: AllocGlobal + Clone + Drop + Env + Files<File = File>, S: Read +
 }
 
 // Answers each question that ends within the bytes.
-fn take_in<R: AllocGlobal + Clone + Drop + Env + Files<File = File>>(
+fn take_in<R: AllocGlobal + Clone + Drop + Env + Files<File = File>, S: Write>(
     rt: &R,
     far: &mut Far,
+    socket: &mut S,
     bytes: &[u8],
     answers: &mut Vec<u8>,
 ) -> Result<(), AllocError>
     ensures { OnOk result (length answers.new.items ≡ length answers.old.items + 9 * asked_in bytes.now) }
 {
     for byte in bytes {
-        take_byte(rt, far, *byte, answers)?;
+        take_byte(rt, far, socket, *byte, answers)?;
     }
     Ok(())
 }
 
 // One byte more. It ends a question if it is a NUL; of a question that is too long the rest is left out.
-fn take_byte<R: AllocGlobal + Clone + Drop + Env + Files<File = File>>(
+fn take_byte<R: AllocGlobal + Clone + Drop + Env + Files<File = File>, S: Write>(
     rt: &R,
     far: &mut Far,
+    socket: &mut S,
     byte: u8,
     answers: &mut Vec<u8>,
 ) -> Result<(), AllocError>
@@ -85,7 +92,7 @@ fn take_byte<R: AllocGlobal + Clone + Drop + Env + Files<File = File>>(
     ensures within { (byte ≡ 0 → ⊥) → OnOk result (answers.new.items ≡ answers.old.items) }
 {
     if byte == 0 {
-        let answer = answer_to(rt, far);
+        let answer = answer_to(rt, far, socket);
         far.question.clear();
         answers.extend_from_slice(&answer.to_bytes())
     } else if far.question.len() <= LONGEST {
@@ -95,9 +102,10 @@ fn take_byte<R: AllocGlobal + Clone + Drop + Env + Files<File = File>>(
     }
 }
 
-fn answer_to<R: AllocGlobal + Clone + Drop + Env + Files<File = File>>(
+fn answer_to<R: AllocGlobal + Clone + Drop + Env + Files<File = File>, S: Write>(
     rt: &R,
     far: &mut Far,
+    socket: &mut S,
 ) -> Answer {
     let none = Answer::Refused { error: INVALID };
     if far.question.len() > LONGEST {
@@ -106,25 +114,58 @@ fn answer_to<R: AllocGlobal + Clone + Drop + Env + Files<File = File>>(
     let Ok(text) = std::str::from_utf8(far.question.as_slice()) else {
         return none;
     };
-    match text.split_once(' ') {
-        Some(("l", path)) => look(rt, path),
-        Some(("r", path)) => open(rt, path, true, &mut far.held),
-        Some(("a", path)) => open(rt, path, false, &mut far.held),
-        Some(("d", path)) => {
-            far.folder.clear();
-            match far.folder.push_str(path) {
-                Ok(()) => enter(rt, far.alloc, path, &mut far.held),
-                Err(error) => refused(&io::Error::from(error)),
+    let Some((letter, path)) = text.split_once(' ') else {
+        return none;
+    };
+    match letter {
+        "s" => search(rt, &far.told, socket, far.folder.as_str(), path),
+        "l" | "r" | "a" | "d" | "p" => {
+            match may_go(rt, far.alloc, &far.told, socket, path, true) {
+                Ok(true) => {}
+                Ok(false) => return Answer::Shut,
+                Err(error) => return refused(&error),
+            }
+            match letter {
+                "l" => look(rt, path),
+                "r" => open(rt, path, true, &mut far.held),
+                "a" => open(rt, path, false, &mut far.held),
+                "d" => {
+                    far.folder.clear();
+                    match far.folder.push_str(path) {
+                        Ok(()) => enter(rt, far.alloc, path, &mut far.held),
+                        Err(error) => refused(&io::Error::from(error)),
+                    }
+                }
+                _ => program(rt, &far.told, socket, far.folder.as_str(), path),
             }
         }
-        Some(("p", path)) => program(rt, far.alloc, far.folder.as_str(), path),
-        Some(("s", text)) => search(rt, far.folder.as_str(), text),
-        Some(("f", _)) => {
+        "f" => {
             far.held.clear();
             far.folder.clear();
             Answer::Absent
         }
-        _ => none,
+        _ => take_told(&mut far.told, letter, path),
+    }
+}
+
+// What it is told of where nothing is asked.
+fn take_told(told: &mut Told, letter: &str, path: &str) -> Answer {
+    let is_taken = match letter {
+        "x" => {
+            told.clear();
+            Ok(())
+        }
+        "k" => {
+            told.close();
+            Ok(())
+        }
+        "m" => told.add_mount(path),
+        "o" => told.add_path(path),
+        _ => return Answer::Refused { error: INVALID },
+    };
+    match is_taken {
+        Ok(()) => Answer::Absent,
+        Err(error) => refused(&io::Error::from(error)),
     }
 }
 

@@ -7,7 +7,7 @@ use std::net::Net;
 use std::os::fd::OwnedFd;
 use std::os::unix::net::UnixStream;
 use std::os::unix::process::CommandExt;
-use std::process::{Child, Command, OpenProcess, Processes, Stdio};
+use std::process::{Child, Command, Processes, Stdio};
 use std::time::Duration;
 use std::{fs, io};
 
@@ -20,10 +20,14 @@ const OWN_FILE: &str = "/proc/self/exe";
 /// How many milliseconds a question may take to be taken.
 const PATIENCE: u64 = 500;
 
+/// A look-out that is asked, by its number among those that there are, and its process id.
 #[derive(Drop)]
-pub(crate) struct Helper<P: OpenProcess + Drop> {
-    pub(crate) child: Child<P>,
+pub(crate) struct Helper {
+    pub(crate) number: u64,
+    pub(crate) id: u32,
     pub(crate) socket: UnixStream,
+    // For how many milliseconds a read of the socket waits, if that was said.
+    pub(crate) waits: u64,
 }
 
 /// Whether this program's own file is not there to be started, as without `/proc`.
@@ -44,7 +48,7 @@ pub(crate) fn start<R: Net + Processes>(
     rt: &R,
     alloc: Global,
     is_waited_for: bool,
-) -> io::Result<Helper<R::Started>> {
+) -> io::Result<(Child<R::Started>, UnixStream)> {
     let (socket, far) = match UnixStream::pair(rt) {
         Ok(pair) => pair,
         Err(error) => return Err(error),
@@ -57,7 +61,7 @@ pub(crate) fn start<R: Net + Processes>(
         }
     };
     match answer {
-        Ok(child) => Ok(Helper { child, socket }),
+        Ok(child) => Ok((child, socket)),
         Err(error) => {
             drop(socket);
             Err(error)

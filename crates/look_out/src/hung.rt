@@ -1,220 +1,379 @@
-//! What hung, by its place, and the helpers that were given up there and have not gone yet: one that waits for its file system in the
-//! kernel stays until that answers. As long as it is left, nothing there is asked about; and then one question each ten seconds.
+//! What hung, by its place, and the look-outs that there are: one that waits for its file system in the kernel stays until that answers. As long as
+//! it is left, nothing at its place is asked about; and then one question each ten seconds. A disk is shut as a whole only while four are left on it that a KILL
+//! did not end: one at a lease or a FIFO ends at once. To looks, which no lease and no FIFO holds, it is shut once four of them hung there.
 
-use crate::mounts::{Place, may_hang, place_of};
-use std::alloc::Global;
+ghost use Rattle.std.specs.Prelude.{◌≡◌, ◌≤◌, ◌+◌, IfOk, OnOk, OnErr};
+
+use crate::helper::{Helper, start};
+use crate::left::{LookOuts, MOST};
+use crate::mounts::mount_of;
+use crate::question::Asks;
+use crate::shut::HungPlace;
+use crate::spare::{LEAST, PATIENCE};
+use std::alloc::{AllocError, Global};
 use std::fs::Files;
-use std::process::{Child, OpenProcess};
+use std::io;
+use std::io::ErrorKind;
+use std::marker::Model;
+use std::net::Net;
+use std::process::{OpenProcess, Processes};
 
-/// How many helpers are left at most, each at another place.
-pub const MOST: usize = 16;
+/// How many look-outs are left at most before nothing more is asked on file systems of a kind that may hang: the others have room then.
+const LEFT: usize = 10;
 
-/// How many places are remembered at most.
+/// How many hung on a disk before it is shut as a whole.
+const ON_DISK: usize = 4;
+
+/// How many places are remembered at most, and of how many a look-out is told.
 const PLACES: usize = 256;
 
-/// For how many milliseconds a place is left in peace that hung.
+const TOLD: usize = 64;
+
+/// For how many milliseconds a place is left in peace that hung, and after how many more it is forgotten.
 const PEACE: u64 = 10_000;
 
-/// How many milliseconds an answer may take, and how many at least.
-pub(crate) const PATIENCE: u64 = 500;
+const MEMORY: u64 = 60_000;
 
-const LEAST: u64 = 8;
-
-/// How many milliseconds questions may wait altogether for answers that don't come. Half of the time that passes is given back.
-const SPARE: u64 = 1_000;
-
-/// A place that hung.
-#[derive(Drop)]
-struct HungPlace<P: OpenProcess + Drop> {
-    place: Place,
-    // The helper that was given up there, if it may not have gone yet.
-    child: Option<Child<P>>,
-    // From this moment on it is asked again.
-    again: u64,
-    // How many milliseconds the next start there waits.
-    patience: u64,
-}
-
-impl<P: OpenProcess + Drop> HungPlace<P> {
-    // Whether its helper is there still. It is not waited for.
-    fn is_left(&mut self) -> bool {
-        let is_left = match &mut self.child {
-            Some(child) => matches!(child.try_wait(), Ok(None)),
-            None => return false,
-        };
-        if !is_left {
-            drop(self.child.take());
-        }
-        is_left
-    }
-}
-
-/// The places that hung and have not answered since.
+/// The places that hung and have not answered since. To a contract, how many look-outs there are.
 #[derive(Drop)]
 pub struct Hung<P: OpenProcess + Drop> {
     alloc: Global,
-    places: Vec<HungPlace<P>>,
-    // What is left of the time for answers that don't come, at that moment.
-    spare: u64,
-    counted: u64,
+    look_outs: LookOuts<P>,
+    places: Vec<HungPlace>,
+}
+
+impl<P: OpenProcess + Drop> Model for Hung<P> {
+    ghost use Rattle.std.specs.Prelude.{ℕ};
+
+    ghost Value = { ℕ };
+
+    ghost view = { λ h. h.look_outs };
 }
 
 impl<P: OpenProcess + Drop> Hung<P> {
-    pub fn new(alloc: Global) -> Hung<P> {
-        Hung {
+    /// Nothing hung yet.
+    pub fn new(alloc: Global) -> Result<Hung<P>, AllocError>
+        ensures { IfOk result (λ h. h ≡ 0) }
+    {
+        let look_outs = LookOuts::new(alloc)?;
+        Ok(Hung {
             alloc,
+            look_outs,
             places: Vec::new(alloc),
-            spare: SPARE,
-            counted: 0,
+        })
+    }
+
+    /// Waits for the look-outs that were ended and have gone since, so that none of them stays a zombie. It waits for none that has not gone. There are 16
+    /// at most: the two that are asked, and those that were ended and not waited for yet.
+    pub fn reap(&mut self)
+        ensures fewer { self.new ≤ self.old }
+        ensures few { self.new ≤ 16 }
+    {
+        self.look_outs.reap();
+    }
+
+    // Starts a look-out, if there is room for one.
+    pub(crate) fn start<R: Net + Processes<Started = P>>(
+        &mut self,
+        rt: &R,
+        is_waited_for: bool,
+    ) -> io::Result<Helper>
+        ensures success { OnOk result (self.new ≡ self.old + 1) }
+        ensures refusal { OnErr result (self.new ≡ self.old) }
+    {
+        if self.look_outs.len() >= MOST {
+            return Err(full());
+        }
+        match start(rt, self.alloc, is_waited_for) {
+            Ok((child, socket)) => {
+                let id = child.id();
+                let number = self.look_outs.hold(child);
+                let waits = 0;
+                Ok(Helper {
+                    number,
+                    id,
+                    socket,
+                    waits,
+                })
+            }
+            Err(error) => Err(error),
         }
     }
 
-    /// Waits for the helpers that were left and have gone since, so that none of them stays a zombie. It waits for none that has not gone.
-    pub fn reap(&mut self) {
-        for one in self.places.iter_mut() {
-            let _ = one.is_left();
-        }
+    /// Ends the look-out, also one that was stopped. It is waited for later.
+    pub(crate) fn end(&mut self, helper: Helper, up: u64)
+        ensures { self.new ≡ self.old }
+    {
+        let Helper {
+            number,
+            id: _,
+            socket,
+            waits: _,
+        } = helper;
+        self.look_outs.end(number, up);
+        drop(socket);
     }
 
-    /// Gives back half of the time that has passed until this moment of `up`.
-    pub(crate) fn go_on(&mut self, up: u64) {
-        let gained = up.saturating_sub(self.counted) / 2;
-        self.counted = self.counted.saturating_add(gained.saturating_mul(2));
-        self.spare = self.spare.saturating_add(gained).min(SPARE);
+    // Whether nothing is asked at the place now.
+    fn is_place_shut(&self, place: &HungPlace, up: u64) -> bool {
+        up < place.again || self.look_outs.is_there(place.number)
     }
 
-    /// So many milliseconds were waited for an answer that did not come.
-    pub(crate) fn spend(&mut self, waited: u64) {
-        self.spare = self.spare.saturating_sub(waited);
-    }
-
-    /// Whether no time is left to wait for an answer that may not come.
-    pub(crate) fn is_spent(&self) -> bool {
-        self.spare < LEAST
-    }
-
-    /// Whether the path is not to be asked about at this moment of `up`: it hung, and its helper is left or it is left in peace; or as many
-    /// are left as may be, and it may hang.
-    pub(crate) fn is_shut<R: AllocGlobal + Files>(&mut self, rt: &R, path: &str, up: u64) -> bool {
-        if self.places.is_empty() {
-            return false;
-        }
-        let mut left = 0usize;
-        let mut is_shut = false;
-        for one in self.places.iter_mut() {
-            let is_left = one.is_left();
-            left = left.saturating_add(usize::from(is_left));
-            if one.place.covers(path) {
-                is_shut = is_shut | is_left | (up < one.again);
+    /// Whether the path is not to be asked about at this moment of `up`: it hung, and its look-out is left or it is left in peace; or it lies on a disk
+    /// that is shut; or it may hang, and ten are left.
+    pub(crate) fn is_shut<R: AllocGlobal + Files>(
+        &self,
+        rt: &R,
+        path: &str,
+        up: u64,
+        is_look: bool,
+    ) -> bool {
+        for place in self.places.iter() {
+            if place.holds(path) && self.is_place_shut(place, up) {
+                return true;
             }
         }
-        is_shut || (left >= MOST && may_hang(rt, self.alloc, path))
+        let is_closed = self.is_closed();
+        let on_disks = self.count_on_disks(up, is_look);
+        if !is_closed && on_disks < ON_DISK {
+            return false;
+        }
+        match mount_of(rt, self.alloc, path) {
+            Ok(mount) => {
+                let is_shut = if mount.may_hang {
+                    is_closed
+                } else {
+                    self.count_on(mount.text.as_str(), up, is_look) >= ON_DISK
+                };
+                drop(mount);
+                is_shut
+            }
+            Err(_) => true,
+        }
     }
 
-    /// How many milliseconds are waited for an answer about the path: less if others hung just before.
-    pub(crate) fn patience(&self, path: &str) -> u64 {
-        self.own_patience(path)
-            .min(self.spare.saturating_sub(PATIENCE).max(LEAST))
+    // Whether as many are left as may be before nothing more is asked on file systems of a kind that may hang.
+    fn is_closed(&self) -> bool {
+        self.look_outs.left() >= LEFT
     }
 
-    // The patience by what came of the path itself.
-    fn own_patience(&self, path: &str) -> u64 {
+    // Whether the place counts for its disk: it is a path alone, and its look-out was not ended by its KILL, or to looks, one hung there.
+    fn counts(&self, place: &HungPlace, up: u64, is_look: bool) -> bool {
+        if place.mount.may_hang {
+            return false;
+        }
+        let has_hung = is_look && place.is_look && up < place.again;
+        has_hung || self.look_outs.is_stubborn(place.number, up)
+    }
+
+    // How many count on all disks.
+    fn count_on_disks(&self, up: u64, is_look: bool) -> usize {
+        let mut count = 0usize;
+        for place in self.places.iter() {
+            if self.counts(place, up, is_look) {
+                count = count.saturating_add(1);
+            }
+        }
+        count
+    }
+
+    // How many count on this one.
+    fn count_on(&self, disk: &str, up: u64, is_look: bool) -> usize {
+        let mut count = 0usize;
+        for place in self.places.iter() {
+            if place.mount.text.as_str() == disk && self.counts(place, up, is_look) {
+                count = count.saturating_add(1);
+            }
+        }
+        count
+    }
+
+    /// Whether nothing hung, so that a look-out has to be told nothing.
+    pub(crate) fn is_quiet(&self) -> bool {
+        self.places.is_empty()
+    }
+
+    /// The text that tells a look-out where nothing is asked at this moment, and how many questions it is.
+    pub(crate) fn put_told(
+        &self,
+        text: &mut Vec<u8>,
+        up: u64,
+        is_look: bool,
+    ) -> Result<usize, AllocError> {
+        let mut count = 1usize;
+        put(text, Asks::Open, "")?;
+        if self.is_closed() {
+            put(text, Asks::Close, "")?;
+            count = 2;
+        }
+        for place in self.places.iter() {
+            if count >= TOLD {
+                break;
+            }
+            if self.is_place_shut(place, up) {
+                count = count.saturating_add(1);
+                if place.mount.may_hang {
+                    put(text, Asks::ShutMount, place.mount.text.as_str())?;
+                } else if self.count_on(place.mount.text.as_str(), up, is_look) >= ON_DISK {
+                    put(text, Asks::ShutMount, place.mount.text.as_str())?;
+                } else {
+                    put(text, Asks::ShutPath, place.path.as_str())?;
+                }
+            }
+        }
+        Ok(count)
+    }
+
+    /// Whether the path hung before, and has not answered since.
+    pub(crate) fn hung_before(&self, path: &str) -> bool {
+        for place in self.places.iter() {
+            if place.covers(path) {
+                return true;
+            }
+        }
+        false
+    }
+
+    /// How many milliseconds are waited for an answer about the path by what came of the path itself.
+    pub(crate) fn own_patience(&self, path: &str) -> u64 {
         let mut patience = PATIENCE;
-        for one in self.places.iter() {
-            if one.place.covers(path) {
-                patience = patience.min(one.patience);
+        for place in self.places.iter() {
+            if place.covers(path) {
+                patience = patience.min(place.patience);
             }
         }
         patience
     }
 
-    /// An answer came about the path: what hung there is open again.
-    pub(crate) fn answered(&mut self, path: &str) {
-        if self.places.is_empty() {
-            return;
-        }
+    /// An answer came about the path: what hung there is open again, once its look-out is gone.
+    pub(crate) fn answered(&mut self, path: &str)
+        ensures { self.new ≡ self.old }
+    {
         let mut at = 0usize;
         for _ in 0..self.places.len() {
-            let is_over = match self.places.get_mut(at) {
-                Some(one) => one.place.covers(path) && !one.is_left(),
+            let is_over = match self.places.get(at) {
+                Some(place) => place.covers(path) && !self.look_outs.is_there(place.number),
                 None => return,
             };
             if is_over {
-                drop(self.places.swap_remove(at));
+                self.forget(at);
             } else {
                 at = at.saturating_add(1);
             }
         }
     }
 
-    /// No answer came about the path in so many milliseconds, and the helper is ended and left. From now on its place is left in peace, and
-    /// a start there waits half as long, unless this wait was cut short by others. Without memory, or past as many places as there is room
-    /// for, it is forgotten.
+    // Only what is remembered of the place goes: its look-out stays until it was waited for.
+    fn forget(&mut self, at: usize)
+        ensures { self.new ≡ self.old }
+    {
+        if at < self.places.len() {
+            drop(self.places.swap_remove(at));
+        }
+    }
+
+    /// No answer came about what was asked in so many milliseconds: its way had led to the path. The look-out is ended and left. From now on its place is
+    /// left in peace, and a start there waits half as long, unless this wait was cut short by others. Without memory the place is not remembered.
     pub(crate) fn hangs<R: AllocGlobal + Files>(
         &mut self,
         rt: &R,
+        asked: &str,
         path: &str,
-        child: Child<P>,
+        helper: Helper,
         up: u64,
         waited: u64,
-    ) {
-        let own = self.own_patience(path);
+        is_look: bool,
+    )
+        ensures { self.new ≡ self.old }
+    {
+        let number = helper.number;
+        self.end(helper, up);
+        let own = self.own_patience(asked).min(self.own_patience(path));
         let patience = if waited < own {
             own
         } else {
             (own / 2).max(LEAST)
         };
-        let place = match place_of(rt, self.alloc, path) {
-            Ok(place) => place,
-            Err(_) => {
-                drop(child);
-                return;
-            }
+        let Ok(place) = self.place_of(rt, asked, path, up) else {
+            return;
         };
-        self.leave(&place);
+        let mut place = place;
+        place.number = number;
+        place.is_look = is_look;
+        place.patience = patience;
+        self.make_room(&place, up);
+        drop(self.places.push(place));
+    }
+
+    fn place_of<R: AllocGlobal + Files>(
+        &self,
+        rt: &R,
+        asked: &str,
+        path: &str,
+        up: u64,
+    ) -> Result<HungPlace, AllocError> {
+        let asked = String::from_str(self.alloc, asked)?;
+        let text = String::from_str(self.alloc, path)?;
+        let mount = mount_of(rt, self.alloc, path)?;
+        Ok(HungPlace {
+            mount,
+            path: text,
+            asked,
+            number: 0,
+            is_look: false,
+            again: up.saturating_add(PEACE),
+            patience: PATIENCE,
+        })
+    }
+
+    // Forgets what was remembered of the place, and what was left in peace for long; or else, without room, the place that is asked again first. One
+    // whose look-out was not waited for yet is not forgotten.
+    fn make_room(&mut self, place: &HungPlace, up: u64)
+        ensures { self.new ≡ self.old }
+    {
+        let mut at = 0usize;
+        for _ in 0..self.places.len() {
+            let is_over = match self.places.get(at) {
+                Some(one) => {
+                    !self.look_outs.is_there(one.number)
+                        && (one.is_same(place) || up >= one.again.saturating_add(MEMORY))
+                }
+                None => break,
+            };
+            if is_over {
+                self.forget(at);
+            } else {
+                at = at.saturating_add(1);
+            }
+        }
         if self.places.len() >= PLACES {
             self.forget_oldest();
         }
-        let one = HungPlace {
-            place,
-            child: Some(child),
-            again: up.saturating_add(PEACE),
-            patience,
-        };
-        drop(self.places.push(one));
     }
 
-    // What was remembered of the place.
-    fn leave(&mut self, place: &Place) {
-        for at in 0..self.places.len() {
-            let is_same = match self.places.get(at) {
-                Some(one) => {
-                    one.place.is_mount == place.is_mount
-                        && one.place.text.as_str() == place.text.as_str()
-                }
-                None => false,
-            };
-            if is_same {
-                drop(self.places.swap_remove(at));
-                return;
-            }
-        }
-    }
-
-    // The place that is asked again first.
-    fn forget_oldest(&mut self) {
-        let mut oldest = 0usize;
+    fn forget_oldest(&mut self)
+        ensures { self.new ≡ self.old }
+    {
+        let mut oldest = usize::MAX;
         let mut least = u64::MAX;
         let mut at = 0usize;
-        for one in self.places.iter() {
-            if one.again < least {
-                least = one.again;
+        for place in self.places.iter() {
+            if place.again < least && !self.look_outs.is_there(place.number) {
+                least = place.again;
                 oldest = at;
             }
             at = at.saturating_add(1);
         }
-        if oldest < self.places.len() {
-            drop(self.places.swap_remove(oldest));
-        }
+        self.forget(oldest);
     }
+}
+
+fn put(text: &mut Vec<u8>, asks: Asks, path: &str) -> Result<(), AllocError> {
+    text.extend_from_slice(asks.letter().as_bytes())?;
+    text.extend_from_slice(path.as_bytes())?;
+    text.push(0).map_err(AllocError::from)
+}
+
+fn full() -> io::Error {
+    io::Error::new(ErrorKind::TimedOut, "16 look-outs have not gone yet")
 }

@@ -1,16 +1,19 @@
 //! Looks that nobody waits for: paths are asked about, and the answers taken as they come.
 
-use crate::answer::{Answer, LENGTH};
+use crate::answer::Answer;
 use crate::batch::{Batch, MOST, Seen};
-use crate::helper::{Helper, is_end, is_missing, start};
-use crate::hung::{Hung, PATIENCE};
+use crate::helper::{Helper, is_end, is_missing};
+use crate::hung::Hung;
+use crate::inbox::Inbox;
 use crate::question::{Asks, can_be_asked};
+use crate::spare::{LEAST_OF_NEW, Spare};
+use crate::telling::Telling;
 use std::alloc::{AllocError, Global};
 use std::fs::Files;
+use std::io;
 use std::io::{ErrorKind, Read, Write};
 use std::net::Net;
 use std::process::{OpenProcess, Processes};
-use std::{io, mem};
 
 /// How many bytes of questions are on their way at most.
 const ON_THE_WAY: usize = 32_768;
@@ -23,32 +26,38 @@ const LOSSES: u32 = 2;
 
 /// The questions about paths, and the look-out that is asked: none before the first question.
 #[derive(Drop)]
-pub struct Looks<P: OpenProcess + Drop> {
+pub struct Looks {
     alloc: Global,
-    helper: Option<Helper<P>>,
+    helper: Option<Helper>,
+    telling: Telling,
+    // How many of the next answers are to what it was told, and none to a question about a path.
+    owed: usize,
     batch: Batch,
     // The text of the questions, and how much of it was sent.
     text: Vec<u8>,
     sent: usize,
-    // What came of an answer.
-    part: Vec<u8>,
-    // The moment of `up` at which the last answer came, or the first question that waits was asked.
+    inbox: Inbox,
+    // The moment of `up` at which the last answer came, or the first question that waits was asked; and what may be waited for answers that don't come.
     since: u64,
+    spare: Spare,
     losses: u32,
     // One has answered.
     is_known: bool,
 }
 
-impl<P: OpenProcess + Drop> Looks<P> {
-    pub fn new(alloc: Global) -> Looks<P> {
+impl Looks {
+    pub fn new(alloc: Global) -> Looks {
         Looks {
             alloc,
             helper: None,
+            telling: Telling::new(alloc),
+            owed: 0,
             batch: Batch::new(alloc),
             text: Vec::new(alloc),
             sent: 0,
-            part: Vec::new(alloc),
+            inbox: Inbox::new(alloc),
             since: 0,
+            spare: Spare::new(),
             losses: 0,
             is_known: false,
         }
@@ -62,7 +71,7 @@ impl<P: OpenProcess + Drop> Looks<P> {
 
     /// Asks what is at the path, if that was not asked in this round yet. False: there is no room for a further question before those that
     /// were asked are taken.
-    pub fn ask<R: AllocGlobal + Files>(
+    pub fn ask<P: OpenProcess + Drop, R: AllocGlobal + Files>(
         &mut self,
         rt: &R,
         hung: &mut Hung<P>,
@@ -85,44 +94,63 @@ impl<P: OpenProcess + Drop> Looks<P> {
         true
     }
 
-    // Once all are decided and taken, they make room.
+    // Once all are decided and taken, they make room. What was not sent of the text stays.
     fn make_room(&mut self) {
         if self.batch.is_decided() && self.batch.taken >= self.batch.entries.len() {
             self.batch.clear();
-            self.text.clear();
-            self.sent = 0;
+            if self.sent >= self.text.len() {
+                self.text.clear();
+                self.sent = 0;
+            }
         }
     }
 
-    fn add<R: AllocGlobal + Files>(&mut self, rt: &R, hung: &mut Hung<P>, path: &str, up: u64) {
+    fn add<P: OpenProcess + Drop, R: AllocGlobal + Files>(
+        &mut self,
+        rt: &R,
+        hung: &mut Hung<P>,
+        path: &str,
+        up: u64,
+    ) {
         let seen = if !can_be_asked(path) {
             Seen::Failed(io::Error::from(ErrorKind::InvalidInput))
-        } else if hung.is_shut(rt, path, up) {
+        } else if hung.is_shut(rt, path, up, true) {
             Seen::Silent
         } else {
             Seen::Waits
         };
+        if !matches!(seen, Seen::Waits) {
+            drop(self.batch.add(path, seen));
+            return;
+        }
         if self.batch.is_decided() {
             self.since = up;
+            if self.tell(hung, up).is_err() {
+                self.ask_anew(hung, up);
+            }
         }
-        let is_asked = matches!(seen, Seen::Waits);
-        if self.batch.add(path, seen).is_ok() && is_asked {
-            self.put(path);
+        if self.batch.add(path, seen).is_ok() && put_question(&mut self.text, path).is_err() {
+            self.ask_anew(hung, up);
         }
     }
 
-    // Without memory for its text, no answer comes: the helper is ended, and the questions are asked anew.
-    fn put(&mut self, path: &str) {
-        if put_question(&mut self.text, path).is_err() {
-            self.text.clear();
-            self.sent = 0;
-            self.let_go();
-        }
+    // Without memory for the text, no answer comes: the look-out is ended, and the questions are asked anew.
+    fn ask_anew<P: OpenProcess + Drop>(&mut self, hung: &mut Hung<P>, up: u64) {
+        self.text.clear();
+        self.sent = 0;
+        self.let_go(hung, up);
+    }
+
+    // What is new of where nothing is asked goes before the next question, once none waits.
+    fn tell<P: OpenProcess + Drop>(&mut self, hung: &Hung<P>, up: u64) -> Result<(), AllocError> {
+        let count = self.telling.make(hung, up, true)?;
+        self.owed = self.owed.saturating_add(count);
+        self.text.extend_from_slice(self.telling.news())
     }
 
     /// Whether it is known what became of the question about the path. It does not wait for that. A path that was not asked about is asked
     /// about.
-    pub fn is_seen<R: AllocGlobal + Files + Net + Processes<Started = P>>(
+    pub fn is_seen<P: OpenProcess + Drop, R: AllocGlobal + Files + Net + Processes<Started = P>>(
         &mut self,
         rt: &R,
         hung: &mut Hung<P>,
@@ -160,7 +188,7 @@ impl<P: OpenProcess + Drop> Looks<P> {
     }
 
     /// Sends what is not sent yet, and takes in the answers that came. One that does not come for half a second will not come.
-    pub fn go_on<R: AllocGlobal + Files + Net + Processes<Started = P>>(
+    pub fn go_on<P: OpenProcess + Drop, R: AllocGlobal + Files + Net + Processes<Started = P>>(
         &mut self,
         rt: &R,
         hung: &mut Hung<P>,
@@ -169,7 +197,8 @@ impl<P: OpenProcess + Drop> Looks<P> {
         if self.batch.is_decided() {
             return;
         }
-        match self.begin(rt) {
+        self.spare.go_on(up);
+        match self.begin(rt, hung, up) {
             Ok(()) => {}
             Err(_) if is_missing(rt) => {
                 self.give_in(Seen::Unstarted);
@@ -187,26 +216,41 @@ impl<P: OpenProcess + Drop> Looks<P> {
                 self.is_known = true;
             }
             Ok(false) => {
-                if up.saturating_sub(self.since) >= PATIENCE {
-                    self.give_up(rt, hung, up);
+                let patience = self.patience(hung);
+                if up.saturating_sub(self.since) >= patience {
+                    self.give_up(rt, hung, up, patience);
                 }
             }
-            Err(error) => self.lose(error, up),
+            Err(error) => self.lose(hung, error, up),
+        }
+    }
+
+    // How many milliseconds the question that waits may take: less once others hung, or if this path did.
+    fn patience<P: OpenProcess + Drop>(&self, hung: &Hung<P>) -> u64 {
+        let patience = self.spare.patience(false);
+        match self.batch.waiting() {
+            Some(path) => patience.min(hung.own_patience(path)).max(LEAST_OF_NEW),
+            None => patience,
         }
     }
 
     // Starts a look-out, if there is none. It is asked all that waits.
-    fn begin<R: Net + Processes<Started = P>>(&mut self, rt: &R) -> io::Result<()> {
+    fn begin<P: OpenProcess + Drop, R: Net + Processes<Started = P>>(
+        &mut self,
+        rt: &R,
+        hung: &mut Hung<P>,
+        up: u64,
+    ) -> io::Result<()> {
         if self.helper.is_some() {
             return Ok(());
         }
-        match self.put_all() {
+        match self.put_all(hung, up) {
             Ok(()) => {}
             Err(error) => return Err(io::Error::from(error)),
         }
-        match start(rt, self.alloc, false) {
+        match hung.start(rt, false) {
             Ok(helper) => {
-                drop(mem::replace(&mut self.helper, Some(helper)));
+                self.helper = Some(helper);
                 Ok(())
             }
             Err(error) => Err(error),
@@ -223,11 +267,18 @@ impl<P: OpenProcess + Drop> Looks<P> {
         self.batch.pass();
     }
 
-    // The text of all questions that wait.
-    fn put_all(&mut self) -> Result<(), AllocError> {
+    // The text of all questions that wait, and before them of what a new look-out is told.
+    fn put_all<P: OpenProcess + Drop>(
+        &mut self,
+        hung: &Hung<P>,
+        up: u64,
+    ) -> Result<(), AllocError> {
         self.text.clear();
-        self.part.clear();
         self.sent = 0;
+        self.inbox.clear();
+        self.owed = 0;
+        self.telling.begin();
+        self.tell(hung, up)?;
         for entry in self.batch.entries.iter() {
             if matches!(entry.seen, Seen::Waits) {
                 put_question(&mut self.text, entry.path.as_str())?;
@@ -237,7 +288,7 @@ impl<P: OpenProcess + Drop> Looks<P> {
     }
 
     // Whether an answer came.
-    fn exchange(&mut self, hung: &mut Hung<P>) -> io::Result<bool> {
+    fn exchange<P: OpenProcess + Drop>(&mut self, hung: &mut Hung<P>) -> io::Result<bool> {
         let Some(helper) = &mut self.helper else {
             return Ok(false);
         };
@@ -255,45 +306,56 @@ impl<P: OpenProcess + Drop> Looks<P> {
             Err(error) if is_later(&error) => return Ok(false),
             Err(error) => return Err(error),
         };
-        self.take_in(hung, &room[..count])
+        match self.inbox.put(&room[..count]) {
+            Ok(()) => self.take_in(hung),
+            Err(error) => Err(io::Error::from(error)),
+        }
     }
 
-    // Each nine bytes are the answer to the first question that waits.
-    fn take_in(&mut self, hung: &mut Hung<P>, bytes: &[u8]) -> io::Result<bool> {
+    // Each answer is that to the first question that waits, behind those that are owed.
+    fn take_in<P: OpenProcess + Drop>(&mut self, hung: &mut Hung<P>) -> io::Result<bool> {
         let mut has_come = false;
-        for byte in bytes {
-            match self.part.push(*byte) {
-                Ok(()) => {}
-                Err(error) => {
-                    drop(error);
-                    return Err(io::Error::from(ErrorKind::OutOfMemory));
-                }
-            }
-            if let Ok(whole) = <[u8; LENGTH]>::try_from(self.part.as_slice()) {
-                self.part.clear();
-                if let Some(path) = self.batch.waiting() {
-                    hung.answered(path);
-                }
-                let is_taken = match Answer::from_bytes(whole) {
-                    Some(answer) => self.batch.take_in(answer),
-                    None => false,
-                };
-                if !is_taken {
-                    return Err(io::Error::from(ErrorKind::InvalidData));
-                }
-                has_come = true;
+        for _ in 0..u64::MAX {
+            let answer = match self.inbox.next() {
+                Ok(Some(answer)) => answer,
+                Ok(None) => break,
+                Err(error) => return Err(error),
+            };
+            has_come = true;
+            if self.owed > 0 {
+                self.owed -= 1;
+            } else if !self.take_answer(hung, answer) {
+                return Err(io::Error::from(ErrorKind::InvalidData));
             }
         }
         Ok(has_come)
     }
 
+    // False: no question waits for it.
+    fn take_answer<P: OpenProcess + Drop>(&mut self, hung: &mut Hung<P>, answer: Answer) -> bool {
+        if answer == Answer::Shut {
+            let is_asked = self.batch.decide(Seen::Silent);
+            self.batch.pass();
+            return is_asked;
+        }
+        if let Some(path) = self.batch.waiting() {
+            hung.answered(path);
+        }
+        self.batch.take_in(answer)
+    }
+
     // The first question that waits hangs. The others are asked of another look-out, but for those at the same place.
-    fn give_up<R: AllocGlobal + Files>(&mut self, rt: &R, hung: &mut Hung<P>, up: u64) {
-        if let (Some(helper), Some(path)) = (self.helper.take(), self.batch.waiting()) {
-            let Helper { mut child, socket } = helper;
-            let _ = child.kill();
-            drop(socket);
-            hung.hangs(rt, path, child, up, PATIENCE);
+    fn give_up<P: OpenProcess + Drop, R: AllocGlobal + Files>(
+        &mut self,
+        rt: &R,
+        hung: &mut Hung<P>,
+        up: u64,
+        waited: u64,
+    ) {
+        self.spare.spend(waited);
+        if let (Some(helper), Some(asked)) = (self.helper.take(), self.batch.waiting()) {
+            let path = self.inbox.place_of(asked);
+            hung.hangs(rt, asked, path, helper, up, waited, true);
         }
         self.decide(Seen::Silent);
         for at in self.batch.next..self.batch.entries.len() {
@@ -304,10 +366,16 @@ impl<P: OpenProcess + Drop> Looks<P> {
     }
 
     // A question that waits is not asked again if its place is shut by now.
-    fn shut<R: AllocGlobal + Files>(&mut self, rt: &R, hung: &mut Hung<P>, at: usize, up: u64) {
+    fn shut<P: OpenProcess + Drop, R: AllocGlobal + Files>(
+        &mut self,
+        rt: &R,
+        hung: &Hung<P>,
+        at: usize,
+        up: u64,
+    ) {
         if let Some(entry) = self.batch.entries.get_mut(at) {
             let waits = matches!(entry.seen, Seen::Waits);
-            if waits && hung.is_shut(rt, entry.path.as_str(), up) {
+            if waits && hung.is_shut(rt, entry.path.as_str(), up, true) {
                 entry.seen = Seen::Silent;
             }
         }
@@ -319,8 +387,8 @@ impl<P: OpenProcess + Drop> Looks<P> {
     }
 
     // The look-out ended. What waits is asked once more, and the first question then no more; nothing, if none has ever answered.
-    fn lose(&mut self, error: io::Error, up: u64) {
-        self.let_go();
+    fn lose<P: OpenProcess + Drop>(&mut self, hung: &mut Hung<P>, error: io::Error, up: u64) {
+        self.let_go(hung, up);
         self.losses = self.losses.saturating_add(1);
         if self.losses >= LOSSES {
             self.losses = 0;
@@ -333,14 +401,10 @@ impl<P: OpenProcess + Drop> Looks<P> {
         self.since = up;
     }
 
-    /// Ends the look-out, if there is one: also one that was stopped.
-    pub fn let_go(&mut self) {
+    /// Ends the look-out, if there is one: also one that was stopped. It is waited for later.
+    pub fn let_go<P: OpenProcess + Drop>(&mut self, hung: &mut Hung<P>, up: u64) {
         if let Some(helper) = self.helper.take() {
-            let Helper { mut child, socket } = helper;
-            let _ = child.kill();
-            drop(socket);
-            let _ = child.try_wait();
-            drop(child);
+            hung.end(helper, up);
         }
     }
 }

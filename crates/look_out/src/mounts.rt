@@ -1,5 +1,5 @@
-//! The place of a path: where its file system is mounted, if that is of a kind which may hang, and else the path itself. The system tells
-//! all mounts in a text, and asks no file system for it. A link, or a path that is not told plainly, may cheat: that costs one wait more.
+//! Where a path's file system is mounted, and whether it is of a kind that may hang. The system tells all mounts in a text, and asks no file
+//! system for it. A link in the path may cheat.
 
 use std::alloc::{AllocError, Global};
 use std::fs;
@@ -45,72 +45,44 @@ const STEADY: &[&str] = &[
     "zfs",
 ];
 
-/// A place: all that is mounted at the text, or the path that the text is alone.
+/// Where a path's file system is mounted, and whether it is of a kind that may hang.
 #[derive(Drop)]
-pub(crate) struct Place {
+pub(crate) struct Mount {
     pub(crate) text: String,
-    pub(crate) is_mount: bool,
-}
-
-impl Place {
-    /// Whether the path is there.
-    pub(crate) fn covers(&self, path: &str) -> bool {
-        if self.is_mount {
-            is_below(path, self.text.as_str())
-        } else {
-            path == self.text.as_str()
-        }
-    }
+    pub(crate) may_hang: bool,
 }
 
 /// Whether the path is this folder, or in it or below it.
-fn is_below(path: &str, folder: &str) -> bool {
+pub(crate) fn is_below(path: &str, folder: &str) -> bool {
     match path.strip_prefix(folder) {
         Some(rest) => rest.is_empty() || rest.starts_with('/') || folder.ends_with('/'),
         None => false,
     }
 }
 
-/// The place of the path. An error without memory; the path alone if the system tells no mounts.
-pub(crate) fn place_of<R: AllocGlobal + Files>(
+/// The mount of the path. An error without memory; one without a name if the system tells no mounts, or the path does not begin with a slash.
+pub(crate) fn mount_of<R: AllocGlobal + Files>(
     rt: &R,
     alloc: Global,
     path: &str,
-) -> Result<Place, AllocError> {
+) -> Result<Mount, AllocError> {
     match fs::read_to_string(rt, MOUNTS) {
         Ok(mounts) => {
-            let place = place_in(alloc, mounts.as_str(), path);
+            let mount = mount_among(alloc, mounts.as_str(), path);
             drop(mounts);
-            place
+            mount
         }
-        Err(_) => alone(alloc, path),
+        Err(_) => Ok(Mount {
+            text: String::new(alloc),
+            may_hang: false,
+        }),
     }
-}
-
-/// Whether the path lies on a file system that may hang.
-pub(crate) fn may_hang<R: AllocGlobal + Files>(rt: &R, alloc: Global, path: &str) -> bool {
-    match place_of(rt, alloc, path) {
-        Ok(place) => {
-            let may_hang = place.is_mount;
-            drop(place);
-            may_hang
-        }
-        Err(_) => true,
-    }
-}
-
-fn alone(alloc: Global, path: &str) -> Result<Place, AllocError> {
-    let text = String::from_str(alloc, path)?;
-    Ok(Place {
-        text,
-        is_mount: false,
-    })
 }
 
 // The longest mount point that begins the path counts, and of equal ones the last.
-fn place_in(alloc: Global, mounts: &str, path: &str) -> Result<Place, AllocError> {
+fn mount_among(alloc: Global, mounts: &str, path: &str) -> Result<Mount, AllocError> {
     let mut best = String::new(alloc);
-    let mut is_steady = true;
+    let mut may_hang = false;
     let mut point = String::new(alloc);
     for line in mounts.lines() {
         if let Some((told, kind)) = mount_in(line) {
@@ -119,16 +91,13 @@ fn place_in(alloc: Global, mounts: &str, path: &str) -> Result<Place, AllocError
             if is_below(path, point.as_str()) && point.len() >= best.len() {
                 best.clear();
                 best.push_str(point.as_str())?;
-                is_steady = STEADY.contains(&kind);
+                may_hang = !STEADY.contains(&kind);
             }
         }
     }
-    if is_steady {
-        return alone(alloc, path);
-    }
-    Ok(Place {
+    Ok(Mount {
         text: best,
-        is_mount: true,
+        may_hang,
     })
 }
 

@@ -1,11 +1,14 @@
 //! What the system opens beside a program's own file before it is started (execve(2)): the interpreter that a script names in its first line, and
 //! the loader that an ELF file names (elf(5), `PT_INTERP`). What such an interpreter needs is opened too.
 
+use crate::told::Told;
+use crate::walking::may_go;
 use std::alloc::{AllocError, Global};
-use std::fs;
 use std::fs::{File, Files};
-use std::io::Read;
+use std::io::{Read, Write};
 use std::os::unix::fs::FileExt;
+use std::rt::Env;
+use std::{fs, io};
 
 /// How many bytes of a program the system reads to see what kind it is.
 const HEAD: usize = 256;
@@ -20,13 +23,15 @@ const LONGEST: usize = 4_096;
 const NAMES_LOADER: u64 = 3;
 
 /// Reads the first bytes of the program, of its interpreter, and so on: what hangs there has hung here. A path that does not begin with a slash is
-/// taken from the folder. What may not be read is looked at alone.
-pub(crate) fn follow<R: Files<File = File>>(
+/// taken from the folder. What may not be read is looked at alone. False: one of them leads to where nothing is asked now.
+pub(crate) fn follow<R: AllocGlobal + Env + Files<File = File>, S: Write>(
     rt: &R,
-    alloc: Global,
+    told: &Told,
+    socket: &mut S,
     folder: &str,
     program: &str,
-) -> Result<(), AllocError> {
+) -> io::Result<bool> {
+    let alloc = rt.alloc();
     let mut path = String::from_str(alloc, program)?;
     for _ in 0..=LEVELS {
         let found = needed_by(rt, alloc, path.as_str())?;
@@ -39,9 +44,13 @@ pub(crate) fn follow<R: Files<File = File>>(
                 is_put?;
             }
         }
+        if !may_go(rt, alloc, told, socket, path.as_str(), false)? {
+            drop(path);
+            return Ok(false);
+        }
     }
     drop(path);
-    Ok(())
+    Ok(true)
 }
 
 /// The path as it is from the folder; from this process's own if that has no name.

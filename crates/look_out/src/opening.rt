@@ -8,9 +8,11 @@ use crate::answer::Answer;
 use crate::looking::{INVALID, refused};
 use crate::needed::{follow, put_below};
 use crate::own::{has_any, has_number};
+use crate::told::Told;
+use crate::walking::may_go;
 use std::alloc::{AllocError, Global};
 use std::fs::{File, Files, Metadata, OpenOptions};
-use std::io::ErrorKind;
+use std::io::{ErrorKind, Write};
 use std::os::fd::AsRawFd;
 use std::os::unix::fs::{FileTypeExt, MetadataExt};
 use std::rt::Env;
@@ -117,29 +119,32 @@ pub(crate) fn enter<R: Files<File = File>>(
 
 /// Whether the program is there. What the system opens to start it is read if it may be, since what is remembered of a file says nothing of who
 /// keeps it.
-pub(crate) fn program<R: Files<File = File>>(
+pub(crate) fn program<R: AllocGlobal + Env + Files<File = File>, S: Write>(
     rt: &R,
-    alloc: Global,
+    told: &Told,
+    socket: &mut S,
     folder: &str,
     path: &str,
 ) -> Answer {
     match fs::metadata(rt, path) {
-        Ok(data) => read_needed(rt, alloc, folder, path, &data),
+        Ok(data) => read_needed(rt, told, socket, folder, path, &data),
         Err(error) => refused(&error),
     }
 }
 
-fn read_needed<R: Files<File = File>>(
+fn read_needed<R: AllocGlobal + Env + Files<File = File>, S: Write>(
     rt: &R,
-    alloc: Global,
+    told: &Told,
+    socket: &mut S,
     folder: &str,
     path: &str,
     data: &Metadata,
 ) -> Answer {
     if data.is_file() {
-        match follow(rt, alloc, folder, path) {
-            Ok(()) => {}
-            Err(error) => return refused(&io::Error::from(error)),
+        match follow(rt, told, socket, folder, path) {
+            Ok(true) => {}
+            Ok(false) => return Answer::Shut,
+            Err(error) => return refused(&error),
         }
     }
     Answer::There { stamp: 0 }
@@ -147,32 +152,35 @@ fn read_needed<R: Files<File = File>>(
 
 /// Looks for the name in these folders, or in those of this process's own search path, up to the first that has it as a file that may be run. What
 /// does not begin with a slash is taken from the folder.
-pub(crate) fn search<R: AllocGlobal + Env + Files<File = File>>(
+pub(crate) fn search<R: AllocGlobal + Env + Files<File = File>, S: Write>(
     rt: &R,
+    told: &Told,
+    socket: &mut S,
     folder: &str,
     text: &str,
 ) -> Answer {
     match text.split_once('/') {
-        Some((name, folders)) => search_in(rt, rt.alloc(), folder, name, folders),
+        Some((name, folders)) => search_in(rt, told, socket, folder, name, folders),
         None => match env::var(rt, "PATH") {
             Ok(folders) => {
-                let answer = search_in(rt, rt.alloc(), folder, text, folders.as_str());
+                let answer = search_in(rt, told, socket, folder, text, folders.as_str());
                 drop(folders);
                 answer
             }
-            Err(_) => search_in(rt, rt.alloc(), folder, text, "/bin:/usr/bin"),
+            Err(_) => search_in(rt, told, socket, folder, text, "/bin:/usr/bin"),
         },
     }
 }
 
-fn search_in<R: AllocGlobal + Files<File = File>>(
+fn search_in<R: AllocGlobal + Env + Files<File = File>, S: Write>(
     rt: &R,
-    alloc: Global,
+    told: &Told,
+    socket: &mut S,
     folder: &str,
     name: &str,
     folders: &str,
 ) -> Answer {
-    let mut path = String::new(alloc);
+    let mut path = String::new(rt.alloc());
     let mut answer = Answer::Absent;
     for at in folders.split(':') {
         path.clear();
@@ -183,7 +191,7 @@ fn search_in<R: AllocGlobal + Files<File = File>>(
                 break;
             }
         }
-        answer = runnable(rt, alloc, folder, path.as_str());
+        answer = runnable(rt, told, socket, folder, path.as_str());
         if answer != Answer::Absent {
             break;
         }
@@ -202,15 +210,21 @@ fn put_name(path: &mut String, folder: &str, at: &str, name: &str) -> Result<(),
 }
 
 // `Absent`: the search goes on behind it.
-fn runnable<R: AllocGlobal + Files<File = File>>(
+fn runnable<R: AllocGlobal + Env + Files<File = File>, S: Write>(
     rt: &R,
-    alloc: Global,
+    told: &Told,
+    socket: &mut S,
     folder: &str,
     path: &str,
 ) -> Answer {
+    match may_go(rt, rt.alloc(), told, socket, path, false) {
+        Ok(true) => {}
+        Ok(false) => return Answer::Shut,
+        Err(error) => return refused(&error),
+    }
     match fs::metadata(rt, path) {
-        Ok(data) if data.is_file() && may_be_run(rt, alloc, &data) => {
-            read_needed(rt, alloc, folder, path, &data)
+        Ok(data) if data.is_file() && may_be_run(rt, rt.alloc(), &data) => {
+            read_needed(rt, told, socket, folder, path, &data)
         }
         _ => Answer::Absent,
     }

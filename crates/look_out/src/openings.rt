@@ -1,11 +1,14 @@
 //! Questions that are asked at once and waited for, half a second at most: what a start or a bind needs.
 
-ghost use Rattle.std.specs.Prelude.{◌≡◌, ℕ, None, true, false, [], length, OnOk};
+ghost use Rattle.std.specs.Prelude.{◌≡◌, ℕ, None, Err, true, false, [], length, OnOk, OnErr};
 
-use crate::answer::{Answer, LENGTH};
-use crate::helper::{Helper, is_end, is_missing, start};
-use crate::hung::{Hung, PATIENCE};
+use crate::answer::Answer;
+use crate::helper::{Helper, is_end, is_missing};
+use crate::hung::Hung;
+use crate::inbox::Inbox;
 use crate::question::{Asks, Question, can_be_asked};
+use crate::spare::{PATIENCE, Spare};
+use crate::telling::Telling;
 use std::alloc::Global;
 use std::fs::Files;
 use std::io::{ErrorKind, Read, Write};
@@ -15,7 +18,10 @@ use std::os::unix::net::UnixStream;
 use std::process::{OpenProcess, Processes};
 use std::rt::Clock;
 use std::time::{Duration, Instant};
-use std::{fs, io, mem};
+use std::{fs, io};
+
+/// How many bytes of answers are read at a time.
+const ROOM: usize = 512;
 
 /// What became of questions.
 #[derive(Clone, Copy)]
@@ -57,18 +63,22 @@ enum Lack {
 
 /// The look-out that is asked: none before the first questions.
 #[derive(Drop)]
-pub struct Openings<P: OpenProcess + Drop> {
+pub struct Openings {
     alloc: Global,
-    helper: Option<Helper<P>>,
+    helper: Option<Helper>,
+    telling: Telling,
+    inbox: Inbox,
     // How many answers are still to come that nobody waits for.
     owed: usize,
+    // What may be waited altogether for answers that don't come.
+    spare: Spare,
     // What it holds can be opened.
     is_open: bool,
     // One has answered.
     is_known: bool,
 }
 
-impl<P: OpenProcess + Drop> Model for Openings<P> {
+impl Model for Openings {
     ghost use Rattle.std.specs.Prelude.{Bool, is_some};
 
     // whether one is kept
@@ -77,23 +87,29 @@ impl<P: OpenProcess + Drop> Model for Openings<P> {
     ghost view = { λ k. is_some k.helper };
 }
 
-impl<P: OpenProcess + Drop> Openings<P> {
-    pub fn new(alloc: Global) -> Openings<P>
+impl Openings {
+    pub fn new(alloc: Global) -> Openings
         ensures { result ≡ false }
     {
         Openings {
             alloc,
             helper: None,
+            telling: Telling::new(alloc),
+            inbox: Inbox::new(alloc),
             owed: 0,
+            spare: Spare::new(),
             is_open: false,
             is_known: false,
         }
     }
 
     /// Asks all questions at this moment of `up`, and waits half a second at most, or less where one hung before. All waits that end without
-    /// an answer take a second at most, and half of the time after that; then none is asked. The answers take the place of what stood
+    /// an answer take two seconds at most, one of them at paths that hung before, and half of the time after that; then none is asked. The answers take the place of what stood
     /// there. Who gave no answer in time is kept no longer: what it says late is nobody's answer, and what it held is held no longer.
-    pub fn ask<R: AllocGlobal + Clock + Files + Net + Processes<Started = P>>(
+    pub fn ask<
+        P: OpenProcess + Drop,
+        R: AllocGlobal + Clock + Files + Net + Processes<Started = P>,
+    >(
         &mut self,
         rt: &R,
         hung: &mut Hung<P>,
@@ -106,32 +122,39 @@ impl<P: OpenProcess + Drop> Openings<P> {
         ensures held { result ≡ Asked.Answered → (self.new ≡ true) × (length answers.new.items ≡ length questions.now) }
     {
         answers.clear();
-        hung.go_on(up);
-        if let Some(at) = first_shut(rt, hung, questions, up) {
+        hung.reap();
+        self.spare.go_on(up);
+        let spare = self.spare;
+        if let Some(at) = first_shut(rt, hung, spare, questions, up) {
             return Asked::StillHangs(at);
         }
         let text = match text_of(self.alloc, questions) {
             Ok(text) => text,
             Err(error) => return Asked::Unasked(error),
         };
-        let patience = patience_for(hung, questions);
-        let first = self.ask_once(rt, text.as_slice(), questions.len(), answers, patience);
+        let asking = Asking {
+            text: text.as_slice(),
+            count: questions.len(),
+            patience: patience_for(hung, spare, questions),
+            up,
+        };
+        let begun = Instant::now(rt);
+        let first = self.ask_once(rt, hung, &asking, answers);
         let last = match first {
-            Err(Lack::Lost(_)) => {
-                self.ask_once(rt, text.as_slice(), questions.len(), answers, patience)
-            }
+            Err(Lack::Lost(_)) => self.ask_once(rt, hung, &asking, answers),
             answer => answer,
         };
+        let patience = asking.patience;
         drop(text);
         match last {
             Ok(()) => {
                 self.is_known = true;
-                open_all(hung, questions);
+                open_all(hung, questions, answers.as_slice());
                 Asked::Answered
             }
             Err(Lack::Late) => {
                 let at = answers.len();
-                hung.spend(patience);
+                self.spare.spend(spent_since(rt, begun).max(patience));
                 self.give_up(rt, hung, path_at(questions, at), up, patience);
                 Asked::Hangs(at)
             }
@@ -143,46 +166,62 @@ impl<P: OpenProcess + Drop> Openings<P> {
     }
 
     // An error in time says nothing of the paths; the look-out is then kept no longer.
-    fn ask_once<R: Clock + Files + Net + Processes<Started = P>>(
+    fn ask_once<P: OpenProcess + Drop, R: Clock + Files + Net + Processes<Started = P>>(
         &mut self,
         rt: &R,
-        text: &[u8],
-        count: usize,
+        hung: &mut Hung<P>,
+        asking: &Asking<'_>,
         answers: &mut Vec<Answer>,
-        patience: u64,
     ) -> Result<(), Lack>
-        ensures { OnOk result ((self.new ≡ true) × (length answers.new.items ≡ count)) }
+        ensures answered { OnOk result ((self.new ≡ true) × (length answers.new.items ≡ asking.now.count)) }
+        ensures late { result ≡ Err Lack.Late → self.new ≡ true }
     {
         answers.clear();
-        match self.begin(rt) {
+        match self.begin(rt, hung) {
             Ok(()) => {}
             Err(error) => return Err(Lack::Refused(error)),
         }
+        let told = match self.telling.make(hung, asking.up, false) {
+            Ok(count) => count,
+            Err(error) => return Err(Lack::Lost(io::Error::from(error))),
+        };
+        self.owed = self.owed.saturating_add(told);
         let owed = self.owed;
         let answer = match &mut self.helper {
-            Some(helper) => exchange(rt, &mut helper.socket, text, owed, count, answers, patience),
+            Some(helper) => {
+                let news = self.telling.news();
+                let inbox = &mut self.inbox;
+                exchange(rt, helper, inbox, news, asking, owed, answers)
+            }
             None => Err(Lack::Lost(io::Error::from(ErrorKind::NotFound))),
         };
         match answer {
             Ok(()) => self.owed = 0,
             Err(Lack::Late) => {}
-            Err(_) => self.let_go(),
+            Err(_) => self.let_go(hung, asking.up),
         }
         answer
     }
 
     // Starts a look-out, if there is none.
-    fn begin<R: Files + Net + Processes<Started = P>>(&mut self, rt: &R) -> io::Result<()>
-        ensures { OnOk result (self.new ≡ true) }
+    fn begin<P: OpenProcess + Drop, R: Files + Net + Processes<Started = P>>(
+        &mut self,
+        rt: &R,
+        hung: &mut Hung<P>,
+    ) -> io::Result<()>
+        ensures kept { OnOk result (self.new ≡ true) }
+        ensures none { OnErr result (self.new ≡ false) }
     {
         if self.helper.is_some() {
             return Ok(());
         }
-        match start(rt, self.alloc, true) {
+        match hung.start(rt, true) {
             Ok(helper) => {
                 self.owed = 0;
-                self.is_open = reaches(rt, self.alloc, helper.child.id());
-                drop(mem::replace(&mut self.helper, Some(helper)));
+                self.telling.begin();
+                self.inbox.clear();
+                self.is_open = reaches(rt, self.alloc, helper.id);
+                self.helper = Some(helper);
                 Ok(())
             }
             Err(error) => Err(error),
@@ -195,13 +234,13 @@ impl<P: OpenProcess + Drop> Openings<P> {
         ensures { self.now ≡ false → result ≡ None }
     {
         match &self.helper {
-            Some(helper) if self.is_open => Some(helper.child.id()),
+            Some(helper) if self.is_open => Some(helper.id),
             _ => None,
         }
     }
 
     /// What was opened is held no longer. It does not wait for that.
-    pub fn forget(&mut self) {
+    pub fn forget<P: OpenProcess + Drop>(&mut self, hung: &mut Hung<P>, up: u64) {
         let is_asked = match &mut self.helper {
             Some(helper) => helper.socket.write_all(b"f \0".as_slice()).is_ok(),
             None => return,
@@ -209,41 +248,45 @@ impl<P: OpenProcess + Drop> Openings<P> {
         if is_asked {
             self.owed = self.owed.saturating_add(1);
         } else {
-            self.let_go();
+            self.let_go(hung, up);
         }
     }
 
-    // Ends the look-out, which hangs at the path, and does not wait for that.
-    fn give_up<R: AllocGlobal + Files>(
+    // Ends the look-out, which hangs where what was asked led, and does not wait for that.
+    fn give_up<P: OpenProcess + Drop, R: AllocGlobal + Files>(
         &mut self,
         rt: &R,
         hung: &mut Hung<P>,
-        path: &str,
+        asked: &str,
         up: u64,
         waited: u64,
     )
+        requires { self.old ≡ true }
         ensures { self.new ≡ false }
     {
         if let Some(helper) = self.helper.take() {
-            let Helper { mut child, socket } = helper;
-            let _ = child.kill();
-            drop(socket);
-            hung.hangs(rt, path, child, up, waited);
+            let path = self.inbox.place_of(asked);
+            hung.hangs(rt, asked, path, helper, up, waited, false);
         }
     }
 
-    /// Ends the look-out that is kept, if there is one: also one that was stopped.
-    pub fn let_go(&mut self)
+    /// Ends the look-out that is kept, if there is one: also one that was stopped. It is waited for later.
+    pub fn let_go<P: OpenProcess + Drop>(&mut self, hung: &mut Hung<P>, up: u64)
         ensures { self.new ≡ false }
     {
         if let Some(helper) = self.helper.take() {
-            let Helper { mut child, socket } = helper;
-            let _ = child.kill();
-            drop(socket);
-            let _ = child.try_wait();
-            drop(child);
+            hung.end(helper, up);
         }
     }
+}
+
+/// Questions that are sent: their text and number, how many milliseconds their answers may take, and the moment.
+#[derive(Clone, Copy)]
+struct Asking<'a> {
+    text: &'a [u8],
+    count: usize,
+    patience: u64,
+    up: u64,
 }
 
 // What a read or a write of the socket says: it ends at its time.
@@ -267,39 +310,59 @@ fn reaches<R: Files>(rt: &R, alloc: Global, id: u32) -> bool {
     }
 }
 
-// Sends the text, and takes in as many answers as are owed and as were asked for.
+// How many milliseconds have passed since then; a look-out's start takes its time too.
+fn spent_since<R: Clock>(rt: &R, begun: io::Result<Instant>) -> u64 {
+    let Ok(begun) = begun else {
+        return 0;
+    };
+    match begun.elapsed(rt) {
+        Ok(passed) => u64::try_from(passed.as_millis()).unwrap_or(u64::MAX),
+        Err(_) => 0,
+    }
+}
+
+// Sends the news and the questions, and takes in as many answers as are owed and as were asked for.
 fn exchange<R: Clock>(
     rt: &R,
-    socket: &mut UnixStream,
-    text: &[u8],
+    helper: &mut Helper,
+    inbox: &mut Inbox,
+    news: &[u8],
+    asking: &Asking<'_>,
     owed: usize,
-    count: usize,
     answers: &mut Vec<Answer>,
-    patience: u64,
 ) -> Result<(), Lack>
     requires { answers.old.items ≡ [] }
-    ensures { OnOk result (length answers.new.items ≡ count) }
+    ensures { OnOk result (length answers.new.items ≡ asking.now.count) }
 {
     let since = match Instant::now(rt) {
         Ok(since) => since,
         Err(error) => return Err(Lack::Lost(error)),
     };
-    match socket.write_all(text) {
+    match send(&mut helper.socket, news, asking.text) {
         Ok(()) => {}
         Err(error) => return Err(lack_of(error)),
     }
+    let patience = asking.patience;
     for _ in 0..owed {
-        match next_answer(rt, socket, since, patience) {
+        match next_answer(rt, helper, inbox, since, patience) {
             Ok(_) => {}
             Err(lack) => return Err(lack),
         }
     }
-    take_answers(rt, socket, count, answers, since, patience)
+    take_answers(rt, helper, inbox, asking.count, answers, since, patience)
+}
+
+fn send(socket: &mut UnixStream, news: &[u8], text: &[u8]) -> io::Result<()> {
+    if !news.is_empty() {
+        socket.write_all(news)?;
+    }
+    socket.write_all(text)
 }
 
 fn take_answers<R: Clock>(
     rt: &R,
-    socket: &mut UnixStream,
+    helper: &mut Helper,
+    inbox: &mut Inbox,
     count: usize,
     answers: &mut Vec<Answer>,
     since: Instant,
@@ -309,7 +372,7 @@ fn take_answers<R: Clock>(
     ensures { OnOk result (length answers.new.items ≡ count) }
 {
     for _ in 0..count {
-        match next_answer(rt, socket, since, patience) {
+        match next_answer(rt, helper, inbox, since, patience) {
             Ok(answer) => {
                 if answers.push(answer).is_err() {
                     return Err(Lack::Lost(io::Error::from(ErrorKind::OutOfMemory)));
@@ -321,44 +384,81 @@ fn take_answers<R: Clock>(
     Ok(())
 }
 
+// The next answer: it may have come already.
 fn next_answer<R: Clock>(
     rt: &R,
-    socket: &mut UnixStream,
+    helper: &mut Helper,
+    inbox: &mut Inbox,
     since: Instant,
     patience: u64,
 ) -> Result<Answer, Lack> {
+    for _ in 0..u64::MAX {
+        match inbox.next() {
+            Ok(Some(answer)) => return Ok(answer),
+            Ok(None) => {}
+            Err(error) => return Err(Lack::Lost(error)),
+        }
+        match read_more(rt, helper, inbox, since, patience) {
+            Ok(()) => {}
+            Err(lack) => return Err(lack),
+        }
+    }
+    Err(Lack::Late)
+}
+
+fn read_more<R: Clock>(
+    rt: &R,
+    helper: &mut Helper,
+    inbox: &mut Inbox,
+    since: Instant,
+    patience: u64,
+) -> Result<(), Lack> {
     let passed = match since.elapsed(rt) {
-        Ok(passed) => passed,
+        Ok(passed) => u64::try_from(passed.as_millis()).unwrap_or(u64::MAX),
         Err(error) => return Err(Lack::Lost(error)),
     };
-    let left = Duration::from_millis(patience).saturating_sub(passed);
-    if left.is_zero() {
+    let left = patience.saturating_sub(passed);
+    if left == 0 {
         return Err(Lack::Late);
     }
-    match socket.set_read_timeout(Some(left)) {
+    match wait_at_most(helper, left) {
         Ok(()) => {}
         Err(error) => return Err(Lack::Lost(error)),
     }
-    let mut bytes = [0u8; LENGTH];
-    match socket.read_exact(&mut bytes) {
-        Ok(()) => match Answer::from_bytes(bytes) {
-            Some(answer) => Ok(answer),
-            None => Err(Lack::Lost(io::Error::from(ErrorKind::InvalidData))),
+    let mut room = [0u8; ROOM];
+    match helper.socket.read(&mut room) {
+        Ok(0) => Err(Lack::Lost(io::Error::from(ErrorKind::UnexpectedEof))),
+        Ok(count) => match inbox.put(&room[..count]) {
+            Ok(()) => Ok(()),
+            Err(error) => Err(Lack::Lost(io::Error::from(error))),
         },
         Err(error) => Err(lack_of(error)),
     }
 }
 
+// A read of its socket ends after so many milliseconds. What was said last is not said again.
+fn wait_at_most(helper: &mut Helper, left: u64) -> io::Result<()> {
+    if helper.waits == left {
+        return Ok(());
+    }
+    helper.waits = left;
+    helper
+        .socket
+        .set_read_timeout(Some(Duration::from_millis(left)))
+}
+
 fn first_shut<P: OpenProcess + Drop, R: AllocGlobal + Files>(
     rt: &R,
-    hung: &mut Hung<P>,
+    hung: &Hung<P>,
+    spare: Spare,
     questions: &[Question<'_>],
     up: u64,
 ) -> Option<usize> {
     let mut at = 0usize;
     for question in questions {
+        let path = question.path;
         if question.asks != Asks::Forget
-            && (hung.is_spent() || hung.is_shut(rt, question.path, up))
+            && (spare.is_spent(hung.hung_before(path)) || hung.is_shut(rt, path, up, false))
         {
             return Some(at);
         }
@@ -367,19 +467,35 @@ fn first_shut<P: OpenProcess + Drop, R: AllocGlobal + Files>(
     None
 }
 
-fn patience_for<P: OpenProcess + Drop>(hung: &Hung<P>, questions: &[Question<'_>]) -> u64 {
+fn patience_for<P: OpenProcess + Drop>(
+    hung: &Hung<P>,
+    spare: Spare,
+    questions: &[Question<'_>],
+) -> u64 {
     let mut patience = PATIENCE;
     for question in questions {
         if question.asks != Asks::Forget {
-            patience = patience.min(hung.patience(question.path));
+            let path = question.path;
+            patience = patience
+                .min(spare.patience(hung.hung_before(path)))
+                .min(hung.own_patience(path));
         }
     }
     patience
 }
 
-fn open_all<P: OpenProcess + Drop>(hung: &mut Hung<P>, questions: &[Question<'_>]) {
+// What was asked about is open, but where a way led to what is shut.
+fn open_all<P: OpenProcess + Drop>(
+    hung: &mut Hung<P>,
+    questions: &[Question<'_>],
+    answers: &[Answer],
+) {
+    let mut at = 0usize;
     for question in questions {
-        hung.answered(question.path);
+        if answers.get(at).copied() != Some(Answer::Shut) {
+            hung.answered(question.path);
+        }
+        at = at.saturating_add(1);
     }
 }
 

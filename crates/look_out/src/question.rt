@@ -22,6 +22,14 @@ pub enum Asks {
     Search,
     /// What was opened is closed. No path belongs to it.
     Forget,
+    /// What was said before of where nothing is to be asked holds no longer.
+    Open,
+    /// Nothing is to be asked on file systems of a kind that may hang.
+    Close,
+    /// Nothing is to be asked of what is mounted at the path, as the system tells it.
+    ShutMount,
+    /// Nothing is to be asked about the path, in which no link is.
+    ShutPath,
 }
 
 #[derive(Clone, Copy)]
@@ -40,6 +48,10 @@ impl Asks {
             Asks::Program => "p ",
             Asks::Search => "s ",
             Asks::Forget => "f ",
+            Asks::Open => "x ",
+            Asks::Close => "k ",
+            Asks::ShutMount => "m ",
+            Asks::ShutPath => "o ",
         }
     }
 }

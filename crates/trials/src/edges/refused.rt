@@ -100,6 +100,7 @@ pub const A_LOST_CHILD: &Refused = &Refused {
     ],
     failures: 4,
     told: Some(&[
+        "no look-out can be started from /proc/self/exe: a path that hangs stops the launcher",
         "a: run 1: cannot wait for its end: permission denied",
         "a: run 1: cannot TERM: it can't be waited for, so its number may be another's",
         "a: run 1: cannot KILL: permission denied",

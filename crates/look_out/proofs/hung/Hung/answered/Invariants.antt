@@ -1,0 +1,7 @@
+-- The invariant of the loop of `hung::Hung::answered`.
+use Rattle.std.proofs.Common.{◌≡◌}
+use Rattle.look_out.proofs.hung.Hung.answered.Given as goal
+
+-- there are as many look-outs
+abbrev pub invariant-loop : goal.invariant-loop
+invariant-loop g l = l.self ≡ l.fn.self
