@@ -1,1 +1,3 @@
 pub mod ShownLemmas
+pub mod WrittenLemmas
+pub mod MomentExamples

@@ -1,3 +1,5 @@
 pub mod Shown
 pub mod Meant
 pub mod Read
+pub mod Written
+pub mod Dates

@@ -7,6 +7,7 @@ use Rattle.moment_words.specs.declared.meaning.TheConstants.{REACH}
 use Rattle.moment_words.specs.declared.meaning.Time.{Time}
 use Rattle.moment_words.specs.declared.meaning.Moment.{Moment}
 use Rattle.moment_words.specs.declared.meaning.Moment.TheVariants.{Second, Ago, OfToday, OfYesterday, OfDate}
+use Rattle.moment_words.specs.Dates.{midnight_by_utc}
 use Rattle.moment_words.specs.Shown.{IsFirstShown}
 
 -- the date of the one, and the time
@@ -37,4 +38,4 @@ Means zone now (OfYesterday time) r =
     (midnight : Option ℕ) × IsMidnight zone (zone now) now midnight
     × IsOfDayBefore zone time midnight r
 Means zone now (OfDate date time) r =
-    (about : ℕ) × IsFirstOf zone (with_time date time) time.second about r
+    IsFirstOf zone (with_time date time) time.second (midnight_by_utc date) r

@@ -4,6 +4,7 @@ ghost use Rattle.std.specs.Prelude.{◌≡◌, ◌↔◌, ◌≤◌, ◌+◌, �
 ghost use Rattle.history_model.specs.declared.TheConstants.{MAX_WALL};
 ghost use Rattle.calendar_due.specs.ZoneRules.{minute_at};
 ghost use Rattle.moment_words.specs.Shown.{IsOn, IsFirstShown};
+ghost use Rattle.moment_words.specs.Dates.{leap_years_to, last_leap, days_before, midnight_by_utc};
 ghost use Rattle.moment_words.specs.Meant.{IsFirstOf, IsOfDayBefore, Means, with_time};
 
 use calendar_due::Zone;
@@ -49,7 +50,7 @@ pub fn second_of(moment: Moment, zone: &Zone, now: u64) -> Option<u64>
             let midnight = first_of(zone, zone.civil_minute(now), MIDNIGHT, now);
             of_day_before(zone, time, midnight)
         }
-        Moment::OfDate(date, time) => first_of(zone, date, time, about(&date)),
+        Moment::OfDate(date, time) => first_of(zone, date, time, utc_midnight(&date)),
     }
 }
 
@@ -116,17 +117,55 @@ fn minutes(at: &CivilMinute) -> u64
     60 * u64::from(at.hour) + u64::from(at.minute)
 }
 
-// A second of Unix time that is less than three days from the date's day by any clock, if it is not before 1970 nor after 9891.
-fn about(date: &CivilMinute) -> u64
-    ensures { result ≤ MAX_WALL }
+// The first second of the date by UTC, if it is not before 1970; at the latest that which a clock may show last. No clock is three days from it.
+fn utc_midnight(date: &CivilMinute) -> u64
+    ensures value { result ≡ midnight_by_utc date.now }
+    ensures most { result ≤ MAX_WALL }
 {
     let year = u64::from(date.year.unsigned_abs());
     let years = year.saturating_sub(1970);
-    let leap = (year / 4 - year / 100 + year / 400).saturating_sub(477);
-    let month = usize::from(date.month.saturating_sub(1) % 12);
-    let days = years * 365 + leap + DAYS_BEFORE[month] + u64::from(date.day);
+    let leap = leap_years(last_leap(year, date.month)).saturating_sub(477);
+    let days = years * 365 + leap + days_before(date.month) + u64::from(date.day);
     (days.saturating_sub(1) * 86_400).min(MAX_WALL)
 }
 
-/// How many days of a common year are before each month.
-const DAYS_BEFORE: [u64; 12] = [0, 31, 59, 90, 120, 151, 181, 212, 243, 273, 304, 334];
+// How many of the years up to this one are leap years.
+fn leap_years(year: u64) -> u64
+    ensures value { result ≡ leap_years_to year }
+    ensures most { result ≤ year }
+{
+    year / 4 - year / 100 + year / 400
+}
+
+// The last year whose leap day may be before the month.
+fn last_leap(year: u64, month: u8) -> u64
+    ensures value { result ≡ last_leap year month }
+    ensures most { result ≤ year }
+{
+    if month <= 2 {
+        year.saturating_sub(1)
+    } else {
+        year
+    }
+}
+
+// How many days of a common year are before the month.
+fn days_before(month: u8) -> u64
+    ensures value { result ≡ days_before month }
+    ensures most { result ≤ 334 }
+{
+    match month {
+        2 => 31,
+        3 => 59,
+        4 => 90,
+        5 => 120,
+        6 => 151,
+        7 => 181,
+        8 => 212,
+        9 => 243,
+        10 => 273,
+        11 => 304,
+        12 => 334,
+        _ => 0,
+    }
+}
