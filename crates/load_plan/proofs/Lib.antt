@@ -1,0 +1,6 @@
+pub mod PlanLemmas
+pub mod LawLemmas
+pub mod AfterLemmas
+pub mod StepsLemmas
+pub mod MoveLemmas
+pub mod OrderLemmas
