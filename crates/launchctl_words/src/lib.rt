@@ -1,10 +1,12 @@
 //! What the words of the three programs mean: launchctl's for the control program, the daemon's own, and those of `jobscope`.
 #![tactic(auto)]
 
+mod foreign;
 mod reading;
 
 pub use command_words::{
     Command, DaemonCommand, Explanation, Meaning, MomentWords, Paths, ScopeCommand, Task,
-    WordFault, Words, ZoneWords, explain, explain_daemon, explain_scope, read_scope_words,
+    WordFault, Words, ZoneWords, explain_daemon, read_scope_words,
 };
+pub use foreign::{explain, explain_scope};
 pub use reading::{read_daemon_words, read_words, read_words_beside};

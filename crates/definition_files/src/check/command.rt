@@ -1,16 +1,19 @@
 //! What may be wrong with the program and its arguments.
 
+use crate::check::finding::Grade;
 use crate::check::foreground::add_leaving;
 use crate::check::place::Step;
+use crate::check::program::{Line, Run, base_of, program_of};
 use crate::check::remarks::Remarks;
 use history_model::KeyName;
 use job_defs::Def;
 use json_kinds::key_name;
 use run_times::Ink;
 use run_times::Piece::Number;
+use std::alloc::{AllocError, Global};
 
 /// Adds the warnings on what is run: a command line in one text, a program that is no whole path, signs of a shell where none reads
-/// them, and a program that leaves the foreground.
+/// them, lines of shells, and a program that leaves the foreground.
 pub(crate) fn add_command(def: &Def, remarks: &mut Remarks<'_>) {
     let program = def.program();
     let is_whole = program.starts_with('/');
@@ -20,14 +23,107 @@ pub(crate) fn add_command(def: &Def, remarks: &mut Remarks<'_>) {
     }
     let told = if program.starts_with('~') {
         "the program begins with ~, which nothing expands here; write the whole path"
-    } else if program.contains('/') {
-        "the program is a relative path, which goes from the job's folder (WorkingDirectory); write the whole path"
     } else {
-        "the program is looked for in the job's PATH, since it has no /; write the whole path"
+        "the program is a relative path, which goes from the job's folder (WorkingDirectory); write the whole path"
     };
-    remarks.add_if(!is_whole, KeyName::Program, told);
+    let is_relative = !is_whole && (program.starts_with('~') || program.contains('/'));
+    remarks.add_if(is_relative, KeyName::Program, told);
     add_signs(def, remarks);
-    add_leaving(name_of(program), def.arguments(), remarks);
+    match program_of(remarks.alloc, program, def.arguments()) {
+        Ok(run) => {
+            add_run(def, &run, remarks);
+            drop(run);
+        }
+        Err(_) => remarks.refuse(),
+    }
+}
+
+fn add_run(def: &Def, run: &Run<'_>, remarks: &mut Remarks<'_>) {
+    for line in &run.lines {
+        add_shell_line(def, line, remarks);
+    }
+    for started in &run.programs {
+        if base_of(started.path) == "nohup" {
+            let told =
+                "nohup: no HUP comes to a job, and the program stays in the foreground; leave it out";
+            remarks.add(Grade::Note, KeyName::Program, told, &[]);
+        }
+    }
+    if run.is_whole {
+        add_leaving(run.words.as_slice(), remarks);
+    }
+}
+
+// Adds the warnings on the line of a shell.
+fn add_shell_line(def: &Def, line: &Line<'_>, remarks: &mut Remarks<'_>) {
+    let is_kept = def.keep_alive() || def.successful_exit().is_some() || def.crashed().is_some();
+    let is_plain_shell = matches!(base_of(line.shell), "sh" | "dash" | "ash");
+    let is_cut = line.behind > 0 && !line.text.contains('$');
+    remarks.add_if(
+        is_cut && (line.behind > 1 || !line.text.trim().contains(' ')),
+        KeyName::Program,
+        "the shell takes the one word behind -c for the whole line, and those behind it for its arguments; write the line as one member",
+    );
+    remarks.add_if(
+        line.is_left,
+        KeyName::Program,
+        "the line ends with &, so its run ends at once and the program goes on without the launcher; leave out the &, and write exec before the program",
+    );
+    remarks.add_if(
+        is_kept && is_plain_shell && !line.is_replaced && !line.is_left && !is_cut,
+        KeyName::Program,
+        "the shell waits for the last command of its line: TERM ends the shell alone, and the program goes on; write exec before it",
+    );
+    let is_given = match gives_below(remarks.alloc, line.text) {
+        Ok(is_given) => is_given,
+        Err(_) => {
+            remarks.refuse();
+            false
+        }
+    };
+    remarks.add_if(
+        is_given,
+        KeyName::Program,
+        "root's install -o gives a folder below one that its user owns and may exchange for a link; convert the unit anew with from-systemd, or have the user make it (setpriv)",
+    );
+}
+
+// Whether a command of the line gives a user a folder below one that it gave to a user before.
+fn gives_below(alloc: Global, line: &str) -> Result<bool, AllocError> {
+    let mut given: Vec<&str> = Vec::new(alloc);
+    let mut is_install = false;
+    let mut is_owner = false;
+    let mut is_given = false;
+    for word in line.split_whitespace() {
+        let word = word.trim_end_matches(';');
+        let is_begun = word == "install" || word.ends_with("/install");
+        if is_begun || matches!(word, "" | "&&" | "||" | "|" | "exec" | "}") {
+            is_install = is_begun;
+            is_given = false;
+        } else if is_owner {
+            is_owner = false;
+            is_given = word != "root" && word != "0";
+        } else if word == "-o" {
+            is_owner = is_install;
+        } else if is_install && is_given && word.starts_with('/') {
+            if is_below(word, given.as_slice()) {
+                return Ok(true);
+            }
+            given.push(word)?;
+        }
+    }
+    Ok(false)
+}
+
+fn is_below(path: &str, folders: &[&str]) -> bool {
+    for folder in folders {
+        if let Some(rest) = path.strip_prefix(*folder) {
+            if rest.starts_with('/') {
+                return true;
+            }
+        }
+    }
+    false
 }
 
 // Behind a blank comes an option or a path.
@@ -66,34 +162,100 @@ static READERS: &[&str] = &[
     "test", "[", "find", "script", "flock", "watch", "jq", "make",
 ];
 
-fn is_reader(word: &str) -> bool {
-    let name = name_of(word);
-    for reader in READERS {
-        if *reader == name {
-            return true;
-        }
-    }
-    false
+// The program of this path or name is one of these.
+fn is_one(names: &[&str], word: &str) -> bool {
+    names.contains(&name_of(word))
 }
 
-// Adds a warning for the first argument that is a sign of a shell, if neither the program nor an argument is one that reads it.
+// Adds a warning for the first argument that no program reads as it is written, if neither the program nor an argument is one that may; an option and its value in one none reads.
 fn add_signs(def: &Def, remarks: &mut Remarks<'_>) {
     let mut found = None;
-    let mut is_read = is_reader(def.program());
+    let mut is_read = is_one(READERS, def.program());
+    for argument in def.arguments() {
+        is_read = is_read || is_one(READERS, argument.as_str());
+    }
+    let mut expands = is_one(OF_FILES, def.program());
+    let mut before = "";
     for (index, argument) in def.arguments().iter().enumerate() {
         let word = argument.as_str();
-        is_read = is_read || is_reader(word);
-        if found.is_none() && is_sign(word) {
-            found = Some(index);
+        expands = expands || (is_one(OF_FILES, word) && before != "--exclude");
+        let told = if is_joined(word) && before != "-c" {
+            ", an option and its value in one; each is a member of its own"
+        } else if is_read {
+            ""
+        } else {
+            oddity_of(word, before, expands)
+        };
+        if found.is_none() && !told.is_empty() {
+            found = Some((index, told));
         }
+        before = word;
     }
-    match found {
-        Some(index) if !is_read => add_sign(index.saturating_add(1), def, remarks),
-        _ => {}
+    if let Some((index, told)) = found {
+        add_sign(index.saturating_add(1), told, def, remarks);
     }
 }
 
-fn add_sign(member: usize, def: &Def, remarks: &mut Remarks<'_>) {
+// Why no program reads the word as it is written; empty, if one may.
+fn oddity_of(word: &str, before: &str, expands: bool) -> &'static str {
+    if is_sign(word) {
+        ", and no shell reads it; for a line of a shell run /bin/sh with -c and the line"
+    } else if is_quoted(word) {
+        ", with its quotes: no shell takes them off; leave them out"
+    } else if expands
+        && word.contains('*')
+        && !before.starts_with("--")
+        && !word.starts_with('-')
+        && !word.contains(':')
+    {
+        ", and no shell expands it; for a line of a shell run /bin/sh with -c and the line"
+    } else {
+        ""
+    }
+}
+
+// Quotes around the whole word, or around what stands behind its one =.
+fn is_quoted(word: &str) -> bool {
+    let part = match word.split_once('=') {
+        Some((name, value)) if name.starts_with('-') && !value.contains('=') => value,
+        _ => word,
+    };
+    is_within(part, "'") || is_within(part, "\"")
+}
+
+// Whether the text begins and ends with the quote, and has none within.
+fn is_within(part: &str, quote: &str) -> bool {
+    let Some(rest) = part.strip_prefix(quote) else {
+        return false;
+    };
+    match rest.strip_suffix(quote) {
+        Some(inner) => !inner.contains(quote),
+        None => false,
+    }
+}
+
+// An option of one letter, or of words behind two -, and then a blank and something that is no sentence.
+fn is_joined(word: &str) -> bool {
+    let Some((option, value)) = word.split_once(' ') else {
+        return false;
+    };
+    let is_long = option.starts_with("--") && option.len() > 3;
+    let is_short = option.starts_with('-') && option.len() == 2 && option != "--";
+    let mut is_name = is_long || is_short;
+    for byte in option.as_bytes() {
+        is_name = is_name && (byte.is_ascii_alphanumeric() || *byte == b'-');
+    }
+    is_name && !value.is_empty() && !value.contains(' ')
+}
+
+// Programs for whose files a shell expands a pattern.
+static OF_FILES: &[&str] = &[
+    "rm", "cp", "mv", "ls", "cat", "gzip", "gunzip", "bzip2", "xz", "zstd", "chmod", "chown",
+    "chgrp", "tail", "head", "wc", "sort", "touch", "ln", "du", "rsync", "scp", "tar", "zip",
+    "shred", "stat", "install",
+];
+
+fn add_sign(member: usize, told: &str, def: &Def, remarks: &mut Remarks<'_>) {
     let key = key_name(KeyName::ProgramArguments);
     let word = match def.arguments().get(member.saturating_sub(1)) {
         Some(argument) => argument.as_str(),
@@ -105,7 +267,7 @@ fn add_sign(member: usize, def: &Def, remarks: &mut Remarks<'_>) {
         &[Number(member.saturating_add(1) as u64)],
     );
     ink.put_quoted(word);
-    ink.put(", and no shell reads it; for a line of a shell run /bin/sh with -c and the line");
+    ink.put(told);
     remarks.push_at(&[Step::Key(key), Step::Member(member)], ink.into_text());
 }
 

@@ -2,7 +2,7 @@
 
 use crate::check::changes::Change;
 use crate::check::command::add_command;
-use crate::check::entries::{add_each_minute, add_either_day, add_entries};
+use crate::check::entries::{add_entries, add_made_by};
 use crate::check::finding::{Grade, Remark};
 use crate::check::mistakes::Mistake;
 use crate::check::names::add_ignored;
@@ -44,22 +44,32 @@ pub(crate) fn remarks_on(
 
 // Adds what is said of a mistake: one remark, or one for each entry of the calendar that makes it.
 fn add_mistake(def: &Def, mistake: Mistake, remarks: &mut Remarks<'_>) {
-    match mistake {
-        Mistake::EachMinute => return add_each_minute(def.calendar(), remarks),
-        Mistake::EitherDay => return add_either_day(def.calendar(), remarks),
-        _ => {}
-    }
     let (grade, key, form) = words_for(mistake);
-    let interval = u64::from(def.start_interval().unwrap_or(0));
-    let throttle = u64::from(def.throttle_interval());
-    remarks.add(grade, key, form, &[Number(interval), Number(throttle)]);
+    if form.is_empty() {
+        return add_made_by(mistake, def.calendar(), remarks);
+    }
+    let key = match mistake {
+        Mistake::LostOutput if def.keep_alive() => key,
+        Mistake::LostOutput if def.start_interval().is_some() => KeyName::StartInterval,
+        Mistake::LostOutput => KeyName::StartCalendarInterval,
+        _ => key,
+    };
+    let number = match mistake {
+        Mistake::LongEnding => def.exit_time_out(),
+        _ => def.start_interval().unwrap_or(0),
+    };
+    let pieces = [
+        Number(u64::from(number)),
+        Number(u64::from(def.throttle_interval())),
+    ];
+    remarks.add(grade, key, form, &pieces);
 }
 
-// How grave a mistake is, which key makes it, and its text, in which the first number is the interval and the second the throttle.
+// How grave a mistake is, which key makes it, and its text, in which the first number is the key's and the second the throttle. The text is empty, if each entry of the calendar that makes it has its own.
 fn words_for(mistake: Mistake) -> (Grade, KeyName, &'static str) {
     match mistake {
         Mistake::NothingStarts => (
-            Grade::Warning,
+            Grade::Note,
             KeyName::Label,
             "nothing starts this job but jobctl start or kickstart",
         ),
@@ -67,6 +77,11 @@ fn words_for(mistake: Mistake) -> (Grade, KeyName, &'static str) {
             Grade::Warning,
             KeyName::KeepAlive,
             "KeepAlive: one of its conditions suffices to keep the job running; they need not hold together",
+        ),
+        Mistake::AnyFailure => (
+            Grade::Note,
+            KeyName::KeepAlive,
+            "KeepAlive: one of its conditions suffices, so the job is started anew after any failure; Crashed adds nothing to \"SuccessfulExit\": false",
         ),
         Mistake::ShortInterval => (
             Grade::Warning,
@@ -83,6 +98,36 @@ fn words_for(mistake: Mistake) -> (Grade, KeyName, &'static str) {
             KeyName::KeepAlive,
             "KeepAlive is true: the job is started anew whenever it ends, and never waits for StartCalendarInterval or StartInterval; leave KeepAlive out if the clock is to start it",
         ),
+        Mistake::NeverQueued => (
+            Grade::Warning,
+            KeyName::QueueDirectories,
+            "QueueDirectories: KeepAlive is true, so the job runs whatever they hold; leave KeepAlive out if files are to start it",
+        ),
+        Mistake::LongInterval => (
+            Grade::Warning,
+            KeyName::StartInterval,
+            "StartInterval is $ seconds; are milliseconds meant? write whole seconds",
+        ),
+        Mistake::CrashAlone => (
+            Grade::Note,
+            KeyName::KeepAlive,
+            "KeepAlive: Crashed is of an end by a signal; after an exit with a failing code nothing starts the job: that is \"SuccessfulExit\": false",
+        ),
+        Mistake::OnceKept => (
+            Grade::Warning,
+            KeyName::LaunchOnlyOnce,
+            "LaunchOnlyOnce: the job is started once in each load, and KeepAlive starts it no more; leave one of them out",
+        ),
+        Mistake::NeverKilled => (
+            Grade::Note,
+            KeyName::ExitTimeOut,
+            "ExitTimeOut is 0: a job that stays after TERM is never killed, and holds up whatever waits for its end",
+        ),
+        Mistake::LongEnding => (
+            Grade::Note,
+            KeyName::ExitTimeOut,
+            "ExitTimeOut is $, more than 120: a supervisor that can't be asked for more time, as Docker, has to wait as long (JOBD_STOP_WAIT)",
+        ),
         Mistake::HastyQueue => (
             Grade::Warning,
             KeyName::ThrottleInterval,
@@ -98,11 +143,11 @@ fn words_for(mistake: Mistake) -> (Grade, KeyName, &'static str) {
             KeyName::KeepAlive,
             "what the job writes is lost: neither StandardOutPath nor StandardErrorPath stands",
         ),
-        Mistake::EachMinute | Mistake::EitherDay => (
-            Grade::Warning,
-            KeyName::StartCalendarInterval,
-            "",
-        ),
+        Mistake::NeverMatches
+        | Mistake::EachMinute
+        | Mistake::EachHour
+        | Mistake::ShortMonth
+        | Mistake::EitherDay => (Grade::Warning, KeyName::StartCalendarInterval, ""),
     }
 }
 

@@ -1,11 +1,14 @@
 //! What may be wrong with the entries of a calendar.
 
 use crate::check::changes::Change;
-use crate::check::place::Step;
+use crate::check::finding::Grade;
+use crate::check::mistakes::{Mistake, made_by};
+use crate::check::place::{Step, place_by};
 use crate::check::remarks::Remarks;
 use calendar_due::Calendar;
 use history_model::{CivilMinute, Entry, KeyName};
 use json_kinds::key_name;
+use run_times::Ink;
 use run_times::Piece::{Number, Text, TwoDigits};
 
 const MONTHS: &[&str] = &[
@@ -30,18 +33,11 @@ fn month_name(month: u8) -> &'static str {
     }
 }
 
-/// Adds the remarks on entries that never match, and on those of an hour that the clock skips at a change, or shows twice.
+/// Adds the remarks on entries of an hour that the clock skips at a change, or shows twice.
 pub(crate) fn add_entries(entries: &[Entry], changes: &[Change], remarks: &mut Remarks<'_>) {
     for (index, entry) in entries.iter().enumerate() {
-        let way = way_to(index);
-        match day_that_never_comes(entry) {
-            Some((month, day)) => remarks.add_at(
-                &way,
-                "StartCalendarInterval: $ has no day $, so this entry never matches",
-                &[Text(month_name(month)), Number(u64::from(day))],
-            ),
-            None if entry.hour.is_some() => add_changed(&way, entry, changes, remarks),
-            None => {}
+        if entry.hour.is_some() && !made_by(Mistake::NeverMatches, entry) {
+            add_changed(&way_to(index), entry, changes, remarks);
         }
     }
 }
@@ -51,14 +47,48 @@ fn way_to(index: usize) -> [Step<'static>; 2] {
     [Step::Key(key), Step::Member(index)]
 }
 
-/// Adds a warning for each entry without a minute.
-pub(crate) fn add_each_minute(entries: &[Entry], remarks: &mut Remarks<'_>) {
+/// Adds a remark for each entry that makes this mistake.
+pub(crate) fn add_made_by(mistake: Mistake, entries: &[Entry], remarks: &mut Remarks<'_>) {
     for (index, entry) in entries.iter().enumerate() {
-        if entry.minute.is_none() {
-            let hour = entry.hour.unwrap_or(0);
-            let form = each_minute_form(entry);
-            remarks.add_at(&way_to(index), form, &[Number(u64::from(hour))]);
+        if made_by(mistake, entry) {
+            let (grade, form) = form_for(mistake, entry);
+            // The month alone is named before the number.
+            let (number, first) = match mistake {
+                Mistake::NeverMatches => (entry.day, 0),
+                Mistake::EachMinute => (entry.hour, 1),
+                Mistake::EachHour => (entry.minute, 1),
+                _ => (entry.day, 1),
+            };
+            let month = month_name(entry.month.unwrap_or(0));
+            let pieces = [Text(month), Number(u64::from(number.unwrap_or(0)))];
+            let mut ink = Ink::new(remarks.alloc);
+            ink.fill(form, pieces.get(first..).unwrap_or(&[]));
+            let place = place_by(remarks.text, remarks.marks, &way_to(index), false);
+            remarks.push(place, grade, ink.into_text());
         }
+    }
+}
+
+// How grave it is, and the form: its hole is for the hour, the minute or the day that is named; of an entry that never matches the month stands before it.
+fn form_for(mistake: Mistake, entry: &Entry) -> (Grade, &'static str) {
+    match mistake {
+        Mistake::NeverMatches => (
+            Grade::Warning,
+            "StartCalendarInterval: $ has no day $, so this entry never matches",
+        ),
+        Mistake::EachHour => (
+            Grade::Note,
+            "StartCalendarInterval: Hour is absent: it starts in each of the 24 hours of the day, at minute $; is \"Hour\": 0 meant?",
+        ),
+        Mistake::ShortMonth => (
+            Grade::Note,
+            "StartCalendarInterval: months without a day $ are left out",
+        ),
+        Mistake::EitherDay => (
+            Grade::Warning,
+            "StartCalendarInterval: of Day and Weekday either suffices, so it starts on each such day and on each such weekday",
+        ),
+        _ => (Grade::Warning, each_minute_form(entry)),
     }
 }
 
@@ -70,36 +100,6 @@ fn each_minute_form(entry: &Entry) -> &'static str {
         "StartCalendarInterval: Minute and Hour are absent: it starts in each of the 1440 minutes of the day; are \"Hour\": 0 and \"Minute\": 0 meant?"
     } else {
         "StartCalendarInterval: Minute and Hour are absent: it starts in each minute of each day; are \"Hour\": 0 and \"Minute\": 0 meant?"
-    }
-}
-
-/// Adds a warning for each entry with a day and a weekday.
-pub(crate) fn add_either_day(entries: &[Entry], remarks: &mut Remarks<'_>) {
-    for (index, entry) in entries.iter().enumerate() {
-        if entry.day.is_some() && entry.weekday.is_some() {
-            remarks.add_at(
-                &way_to(index),
-                "StartCalendarInterval: of Day and Weekday either suffices, so it starts on each such day and on each such weekday",
-                &[],
-            );
-        }
-    }
-}
-
-/// The days of a month, 29 for February.
-fn days_in(month: u8) -> u8 {
-    match month {
-        2 => 29,
-        4 | 6 | 9 | 11 => 30,
-        _ => 31,
-    }
-}
-
-// The month and its day, which it does not have, that the entry waits for.
-fn day_that_never_comes(entry: &Entry) -> Option<(u8, u8)> {
-    match (entry.month, entry.day, entry.weekday) {
-        (Some(month), Some(day), None) if day > days_in(month) => Some((month, day)),
-        _ => None,
     }
 }
 

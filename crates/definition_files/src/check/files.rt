@@ -6,6 +6,7 @@ ghost use Rattle.definition_files.specs.Reads.{AreVerdicts, IsCheckStatus, Reads
 
 use crate::check::lines::{Lines, lines_of};
 use crate::check::outline::outline_of;
+use crate::check::private::add_private;
 use crate::check::remarks::Remarks;
 use crate::check::sockets::add_sockets;
 use crate::check::there::add_missing;
@@ -337,6 +338,7 @@ fn add_definition(
     let mut outside = Remarks::new(alloc, lines.text, lines.marks());
     add_missing(host, def, &mut outside);
     add_sockets(host, def, &mut outside);
+    add_private(host, path, def, &mut outside);
     add_label(alloc, path, def, findings, &mut outside);
     let told = match outside.into_list() {
         Ok(outside) => {

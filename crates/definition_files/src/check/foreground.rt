@@ -1,82 +1,85 @@
 //! Programs that leave the foreground: their first process ends at once, and with it the run.
 
+use crate::check::command::name_of;
+use crate::check::leaving::{FIFTH, FIRST, FOURTH, Row, SECOND, THIRD};
+use crate::check::program::{base_of, is_joined};
 use crate::check::remarks::Remarks;
-use history_model::{KeyName, Text as Argument};
+use history_model::KeyName;
 use run_times::Ink;
 use run_times::Piece::Text;
 
-// Programs that leave the foreground unless they are given one of these words, of which the first is told. By their manual pages.
-static LEAVERS: &[(&str, &[&str])] = &[
-    ("acpid", &["-f", "--foreground"]),
-    ("apache2", &["-DFOREGROUND", "FOREGROUND", "-X"]),
-    ("atd", &["-f"]),
-    ("bluetoothd", &["-n", "--nodetach"]),
-    ("chronyd", &["-n", "-d", "-q", "-Q"]),
-    ("collectd", &["-f"]),
-    ("cron", &["-f"]),
-    ("crond", &["-n", "-f", "-d"]),
-    ("dhcpd", &["-f", "-d"]),
-    (
-        "dnsmasq",
-        &["-k", "-d", "--keep-in-foreground", "--no-daemon"],
-    ),
-    ("dovecot", &["-F"]),
-    ("fail2ban-server", &["-f", "--foreground"]),
-    ("haveged", &["-F", "--Foreground"]),
-    ("httpd", &["-DFOREGROUND", "FOREGROUND", "-X", "-f"]),
-    ("inetd", &["-i", "-d"]),
-    ("irqbalance", &["--foreground", "-f"]),
-    ("keepalived", &["-n", "--dont-fork"]),
-    ("lighttpd", &["-D"]),
-    ("named", &["-f", "-g"]),
-    ("nginx", &["-g \"daemon off;\"", "daemon off;"]),
-    ("nmbd", &["--foreground", "-F", "-i"]),
-    ("nsd", &["-d"]),
-    ("ntpd", &["-n", "-d", "--nofork"]),
-    ("php-fpm", &["--nodaemonize", "-F"]),
-    ("privoxy", &["--no-daemon"]),
-    ("proftpd", &["--nodaemon", "-n"]),
-    ("rpcbind", &["-f", "-d"]),
-    ("rsyslogd", &["-n"]),
-    ("slapd", &["-d"]),
-    ("smartd", &["-n", "--no-fork", "-d", "-q"]),
-    ("smbd", &["--foreground", "-F", "-i"]),
-    ("snmpd", &["-f"]),
-    ("squid", &["--foreground", "-N"]),
-    ("sshd", &["-D", "-d", "-i"]),
-    ("supervisord", &["-n", "--nodaemon"]),
-    ("syslog-ng", &["-F", "--foreground"]),
-    ("unbound", &["-d"]),
-    ("winbindd", &["--foreground", "-F", "-i"]),
-    ("xinetd", &["-dontfork", "-d"]),
-    ("zabbix_agentd", &["-f", "--foreground"]),
-];
+/// What the arguments say of the foreground.
+#[derive(Clone, Copy)]
+struct Said {
+    stays: bool,
+    /// The argument that leads it away; empty, if none does.
+    leaves: &'static str,
+}
 
-// Programs that leave the foreground if they are given this word.
-static SWITCHED: &[(&str, &str)] = &[
-    ("gunicorn", "--daemon"),
-    ("haproxy", "-D"),
-    ("memcached", "-d"),
-    ("mosquitto", "-d"),
-    ("openvpn", "--daemon"),
-    ("redis-server", "--daemonize"),
-    ("ssh", "-f"),
-    ("uwsgi", "--daemonize"),
-    ("wpa_supplicant", "-B"),
-];
+/// Adds a warning if the program leaves the foreground when it is given these words, of which the first is its name.
+pub(crate) fn add_leaving(words: &[&str], remarks: &mut Remarks<'_>) {
+    let Some(path) = words.first() else {
+        return;
+    };
+    let path: &str = *path;
+    let rest = words.get(1..).unwrap_or(&[]);
+    if let Some((advice, word)) = advice_for(base_of(path), rest) {
+        add_told(name_of(path), advice, word, remarks);
+    }
+}
 
-/// Adds a warning if the program of this name leaves the foreground when it is given these arguments.
-pub(crate) fn add_leaving(name: &str, arguments: &[Argument], remarks: &mut Remarks<'_>) {
-    for (leaver, stays) in LEAVERS {
-        if *leaver == name && !has_one(arguments, stays) {
-            let word = stays.first().unwrap_or(&"");
-            add_told(name, "; give it ", word, remarks);
+// What keeps the program of this name in the foreground, if it leaves it when it is given these arguments: a word of advice, and the argument. A table of all rows is more
+// than the check of one function takes.
+fn advice_for(name: &str, arguments: &[&str]) -> Option<(&'static str, &'static str)> {
+    in_first(name, arguments)
+        .or(in_second(name, arguments))
+        .or(in_third(name, arguments))
+        .or(in_fourth(name, arguments))
+        .or(in_fifth(name, arguments))
+}
+
+fn in_first(name: &str, arguments: &[&str]) -> Option<(&'static str, &'static str)> {
+    advice_in(FIRST, name, arguments)
+}
+
+fn in_second(name: &str, arguments: &[&str]) -> Option<(&'static str, &'static str)> {
+    advice_in(SECOND, name, arguments)
+}
+
+fn in_third(name: &str, arguments: &[&str]) -> Option<(&'static str, &'static str)> {
+    advice_in(THIRD, name, arguments)
+}
+
+fn in_fourth(name: &str, arguments: &[&str]) -> Option<(&'static str, &'static str)> {
+    advice_in(FOURTH, name, arguments)
+}
+
+fn in_fifth(name: &str, arguments: &[&str]) -> Option<(&'static str, &'static str)> {
+    advice_in(FIFTH, name, arguments)
+}
+
+// The same by these rows alone.
+fn advice_in(rows: &[Row], name: &str, arguments: &[&str]) -> Option<(&'static str, &'static str)> {
+    for row in rows {
+        if row.name == name {
+            let advice = advice_of(row, arguments);
+            if advice.is_some() {
+                return advice;
+            }
         }
     }
-    for (switched, leaves) in SWITCHED {
-        if *switched == name && has_word(arguments, leaves) {
-            add_told(name, "; leave out ", leaves, remarks);
-        }
+    None
+}
+
+fn advice_of(row: &Row, arguments: &[&str]) -> Option<(&'static str, &'static str)> {
+    let said = said_by(row, arguments);
+    let is_led = row.leaves.is_empty() || !said.leaves.is_empty();
+    if !is_led || said.stays {
+        None
+    } else if row.word.is_empty() {
+        Some(("; leave out ", said.leaves))
+    } else {
+        Some(("; give it ", row.word))
     }
 }
 
@@ -89,30 +92,87 @@ fn add_told(name: &str, advice: &str, word: &str, remarks: &mut Remarks<'_>) {
     remarks.add_made(KeyName::Program, ink.into_text());
 }
 
-fn has_one(arguments: &[Argument], words: &[&str]) -> bool {
-    for word in words {
-        if has_word(arguments, word) {
-            return true;
+// Each argument is read as getopt(3) reads it: letters behind one -, up to one that takes a value; the value of an option is no option.
+fn said_by(row: &Row, arguments: &[&str]) -> Said {
+    let mut said = Said {
+        stays: false,
+        leaves: "",
+    };
+    let mut is_value = false;
+    for index in 0..arguments.len() {
+        let given = arguments.get(index).unwrap_or(&"");
+        let next = arguments.get(index.saturating_add(1)).unwrap_or(&"");
+        if is_value {
+            is_value = false;
+        } else if is_known(row, given, next, &mut said) {
+            is_value = row.takes.contains(given);
+        } else if row.takes.contains(given) {
+            is_value = true;
+        } else {
+            is_value = read_letters(row, given, &mut said);
+        }
+    }
+    said
+}
+
+// Whether the argument, with the one behind it, is one that a row names as a whole.
+fn is_known(row: &Row, given: &str, next: &str, said: &mut Said) -> bool {
+    let stays = named_in(row.stays, given, next);
+    let leaves = named_in(row.leaves, given, next);
+    said.stays = said.stays || stays.is_some();
+    if let Some(word) = leaves {
+        said.leaves = word;
+    }
+    stays.is_some() || leaves.is_some()
+}
+
+// The one of the forms that this argument is, or is with its value.
+fn named_in(forms: &[&'static str], given: &str, next: &str) -> Option<&'static str> {
+    for form in forms {
+        let form: &'static str = *form;
+        let is_it = match form.split_once(' ') {
+            Some((option, part)) => {
+                (given == option && next.contains(part))
+                    || (is_joined(given, option) && given.contains(part))
+            }
+            None => given == form || (form.starts_with("--") && is_joined(given, form)),
+        };
+        if is_it {
+            return Some(form);
+        }
+    }
+    None
+}
+
+// Letters behind one -; answers whether the last of them takes the next argument.
+fn read_letters(row: &Row, given: &str, said: &mut Said) -> bool {
+    let letters = given.as_bytes();
+    if letters.first() != Some(&b'-') || letters.get(1) == Some(&b'-') {
+        return false;
+    }
+    let count = letters.len();
+    for index in 1..count {
+        let letter = match letters.get(index) {
+            Some(letter) => *letter,
+            None => 0,
+        };
+        if has_letter(row.takes, letter).is_some() {
+            return index.saturating_add(1) == count;
+        }
+        said.stays = said.stays || has_letter(row.stays, letter).is_some();
+        if let Some(word) = has_letter(row.leaves, letter) {
+            said.leaves = word;
         }
     }
     false
 }
 
-// An argument is the word, or has its letter beside other letters behind one -.
-fn has_word(arguments: &[Argument], word: &str) -> bool {
-    for argument in arguments {
-        let given = argument.as_str();
-        if given == word || has_letter(given, word) {
-            return true;
+// The one of the forms that is - and this letter.
+fn has_letter(forms: &[&'static str], letter: u8) -> Option<&'static str> {
+    for form in forms {
+        if form.len() == 2 && form.as_bytes().get(1) == Some(&letter) && letter != b'-' {
+            return Some(*form);
         }
     }
-    false
-}
-
-fn has_letter(given: &str, word: &str) -> bool {
-    let bytes = given.as_bytes();
-    match (bytes.first(), bytes.get(1), word.as_bytes()) {
-        (Some(b'-'), Some(second), [b'-', letter]) => *second != b'-' && bytes.contains(letter),
-        _ => false,
-    }
+    None
 }

@@ -16,36 +16,69 @@ pub enum Mistake {
     NothingStarts,
     /// `KeepAlive` has several conditions, of which one suffices.
     SeveralConditions,
+    /// `KeepAlive` is after any failure, by two conditions of which one adds nothing.
+    AnyFailure,
     /// `StartInterval` is below `ThrottleInterval`.
     ShortInterval,
     /// A load leaves the job out.
     LeftOut,
+    /// An entry of the calendar never matches: its month lacks its day.
+    NeverMatches,
     /// An entry of the calendar has no minute, so it matches each minute of its hours.
     EachMinute,
+    /// An entry of the calendar names days and a minute and no hour, so it matches in each hour of its days.
+    EachHour,
+    /// An entry of the calendar has a day that some months lack.
+    ShortMonth,
     /// An entry of the calendar has a day and a weekday, of which either suffices.
     EitherDay,
     /// `KeepAlive` is true, so the job waits neither for its calendar nor for its interval.
     NeverWaited,
+    /// `KeepAlive` is true, so no queue starts the job.
+    NeverQueued,
     /// `ThrottleInterval` is 0 beside a queue.
     HastyQueue,
     /// `ThrottleInterval` is 0 beside `KeepAlive`.
     HastyEnd,
-    /// The job is kept alive, and what it writes goes to the null device.
+    /// `StartInterval` is more than a day, whole thousands and no whole days: perhaps milliseconds.
+    LongInterval,
+    /// `Crashed` alone keeps the job: an exit with a failing code is no crash.
+    CrashAlone,
+    /// `LaunchOnlyOnce` stands beside `KeepAlive`, which then starts nothing anew.
+    OnceKept,
+    /// `ExitTimeOut` is 0: a job that is being stopped is never killed.
+    NeverKilled,
+    /// `ExitTimeOut` is more than what most supervisors wait.
+    LongEnding,
+    /// The job is kept alive or started by the clock, and what it writes goes to the null device.
     LostOutput,
 }
 
-const MISTAKES: [Mistake; 10] = [
+const MISTAKES: [Mistake; 20] = [
     Mistake::NothingStarts,
     Mistake::SeveralConditions,
+    Mistake::AnyFailure,
     Mistake::ShortInterval,
     Mistake::LeftOut,
+    Mistake::NeverMatches,
     Mistake::EachMinute,
+    Mistake::EachHour,
+    Mistake::ShortMonth,
     Mistake::EitherDay,
     Mistake::NeverWaited,
+    Mistake::NeverQueued,
     Mistake::HastyQueue,
     Mistake::HastyEnd,
+    Mistake::LongInterval,
+    Mistake::CrashAlone,
+    Mistake::OnceKept,
+    Mistake::NeverKilled,
+    Mistake::LongEnding,
     Mistake::LostOutput,
 ];
+
+/// The most that jobd-run gives to what a killed launcher left, in seconds.
+const LONGEST_ENDING: u32 = 120;
 
 /// The mistakes of the definition: exactly those that it has, each once and in the order in which they are told.
 pub fn mistakes_in(alloc: Global, def: &Def) -> Result<Vec<Mistake>, AllocError>
@@ -75,17 +108,29 @@ pub fn is_made(mistake: Mistake, def: &Def) -> bool
     match mistake {
         Mistake::NothingStarts => !is_started(def),
         Mistake::SeveralConditions => has_several_conditions(def),
+        Mistake::AnyFailure => is_any_failure(def.successful_exit(), def.crashed()),
         Mistake::ShortInterval => is_short(def.start_interval(), def.throttle_interval()),
         Mistake::LeftOut => def.disabled(),
-        Mistake::EachMinute => has_each_minute(def.calendar()),
-        Mistake::EitherDay => has_either_day(def.calendar()),
+        Mistake::NeverMatches
+        | Mistake::EachMinute
+        | Mistake::EachHour
+        | Mistake::ShortMonth
+        | Mistake::EitherDay => some_make(mistake, def.calendar()),
         Mistake::NeverWaited => def.keep_alive() && is_timed(def),
+        Mistake::NeverQueued => def.keep_alive() && !def.queue_directories().is_empty(),
         Mistake::HastyQueue => {
             def.throttle_interval() == 0 && !def.queue_directories().is_empty()
         }
         Mistake::HastyEnd => {
             def.throttle_interval() == 0 && (is_kept(def) || def.crashed().is_some())
         }
+        Mistake::LongInterval => is_long(def.start_interval()),
+        Mistake::CrashAlone => {
+            is_true(def.crashed()) && def.successful_exit().is_none() && !def.keep_alive()
+        }
+        Mistake::OnceKept => def.launch_only_once() && (is_kept(def) || def.crashed().is_some()),
+        Mistake::NeverKilled => def.exit_time_out() == 0,
+        Mistake::LongEnding => def.exit_time_out() > LONGEST_ENDING,
         Mistake::LostOutput => loses_output(def),
     }
 }
@@ -115,7 +160,26 @@ fn has_several_conditions(def: &Def) -> bool
     let paths = def.path_state().len();
     let has_exit = def.successful_exit().is_some();
     let has_crash = def.crashed().is_some();
-    paths > 1 || (has_exit && has_crash) || (paths > 0 && (has_exit || has_crash))
+    let is_failure = is_any_failure(def.successful_exit(), def.crashed());
+    paths > 1 || (has_exit && has_crash && !is_failure) || (paths > 0 && (has_exit || has_crash))
+}
+
+fn is_true(value: Option<bool>) -> bool
+    ensures { result ≡ spec.is_true value }
+{
+    match value {
+        Some(value) => value,
+        None => false,
+    }
+}
+
+fn is_any_failure(successful: Option<bool>, crashed: Option<bool>) -> bool
+    ensures { result ≡ spec.is_any_failure successful crashed }
+{
+    match (successful, crashed) {
+        (Some(successful), Some(crashed)) => !successful && crashed,
+        _ => false,
+    }
 }
 
 fn is_short(interval: Option<u32>, throttle: u32) -> bool
@@ -127,23 +191,75 @@ fn is_short(interval: Option<u32>, throttle: u32) -> bool
     }
 }
 
-fn has_each_minute(entries: &[Entry]) -> bool
-    ensures { result ≡ list_any spec.lacks_minute entries.now }
+fn is_long(interval: Option<u32>) -> bool
+    ensures { result ≡ spec.is_long interval }
 {
-    entries.iter().any(|entry| entry.minute.is_none())
+    match interval {
+        Some(seconds) => seconds > 86_400 && seconds % 1_000 == 0 && seconds % 86_400 != 0,
+        None => false,
+    }
 }
 
-fn has_either_day(entries: &[Entry]) -> bool
-    ensures { result ≡ list_any spec.names_both_days entries.now }
+/// The days of a month, 29 for February.
+pub(crate) fn days_of_month(month: u8) -> u8
+    ensures { result ≡ spec.days_of_month month }
 {
-    entries
-        .iter()
-        .any(|entry| entry.day.is_some() && entry.weekday.is_some())
+    if month == 2 {
+        29
+    } else if month == 4 || month == 6 || month == 9 || month == 11 {
+        30
+    } else {
+        31
+    }
+}
+
+// Whether the entry never matches: its month lacks its day, and no weekday suffices instead.
+fn never_matches(entry: &Entry) -> bool
+    ensures { result ≡ spec.never_matches entry.now }
+{
+    match (entry.month, entry.day) {
+        (Some(month), Some(day)) => entry.weekday.is_none() && day > days_of_month(month),
+        _ => false,
+    }
+}
+
+/// Whether the entry makes this mistake.
+pub(crate) fn made_by(mistake: Mistake, entry: &Entry) -> bool
+    ensures { result ≡ spec.made_by mistake entry.now }
+{
+    let has_days = entry.day.is_some() || entry.weekday.is_some() || entry.month.is_some();
+    match mistake {
+        Mistake::NeverMatches => never_matches(entry),
+        Mistake::EachMinute => entry.minute.is_none() && !never_matches(entry),
+        Mistake::EachHour => {
+            (entry.minute.is_some() && entry.hour.is_none()) && has_days && !never_matches(entry)
+        }
+        Mistake::ShortMonth => {
+            is_late(entry.day) && entry.month.is_none() && entry.weekday.is_none()
+        }
+        Mistake::EitherDay => entry.day.is_some() && entry.weekday.is_some(),
+        _ => false,
+    }
+}
+
+fn is_late(day: Option<u8>) -> bool
+    ensures { result ≡ spec.is_late_day day }
+{
+    match day {
+        Some(day) => day > 28,
+        None => false,
+    }
+}
+
+fn some_make(mistake: Mistake, entries: &[Entry]) -> bool
+    ensures { result ≡ list_any (spec.made_by mistake) entries.now }
+{
+    entries.iter().any(|entry| made_by(mistake, entry))
 }
 
 fn loses_output(def: &Def) -> bool
     ensures { result ≡ spec.loses_output def.now }
 {
     let is_silent = def.standard_out_path().is_none() && def.standard_error_path().is_none();
-    def.keep_alive() && !def.has_sockets() && is_silent
+    (def.keep_alive() || is_timed(def)) && !def.has_sockets() && is_silent
 }

@@ -1,6 +1,7 @@
 //! Keys that nothing acts on, and the key that is meant.
 
 use crate::check::finding::{Grade, Place};
+use crate::check::foreign::{IDLE, KEYS};
 use crate::check::place::{Step, place_at, place_by, reached_by};
 use crate::check::remarks::Remarks;
 use json_kinds::key_name;
@@ -32,17 +33,39 @@ const INNER: &[&str] = &[
     WAIT,
 ];
 
-/// Adds the remark on a key that nothing acts on; the name of an inner one is behind those of the dictionaries around it.
+/// Adds the remark on a key that nothing acts on; the name of an inner one is behind those of the dictionaries around it. What to write in
+/// place of a key of another launcher stands in its table; of any other key the nearest is named.
 pub(crate) fn add_ignored(remarks: &mut Remarks<'_>, name: &str) {
-    let nearest = nearest_to(remarks.alloc, name);
     let mut ink = Ink::new(remarks.alloc);
     ink.fill("$: nothing acts on this key", &[Text(name)]);
-    if !name.as_bytes().ends_with(nearest.key.as_bytes()) {
-        ink.fill("; is $ meant?", &[Text(nearest.key)]);
+    let hint = hint_for(name);
+    if hint.is_empty() {
+        let nearest = nearest_to(remarks.alloc, name);
+        if !name.as_bytes().ends_with(nearest.key.as_bytes()) {
+            ink.fill("; is $ meant?", &[Text(nearest.key)]);
+        }
+        ink.is_refused = ink.is_refused || nearest.is_refused;
+    } else {
+        ink.fill("; here: $", &[Text(hint)]);
     }
-    ink.is_refused = ink.is_refused || nearest.is_refused;
     let place = key_place(remarks, name);
-    remarks.push(place, Grade::Warning, ink.into_text());
+    let grade = if IDLE.contains(&name) {
+        Grade::Note
+    } else {
+        Grade::Warning
+    };
+    remarks.push(place, grade, ink.into_text());
+}
+
+// What to write in place of a key of another launcher; empty, if none is known. Within KeepAlive the name stands behind a dot.
+fn hint_for(name: &str) -> &'static str {
+    let name = name.strip_prefix("KeepAlive.").unwrap_or(name);
+    for key in KEYS {
+        if key.name == name {
+            return key.hint;
+        }
+    }
+    ""
 }
 
 /// A calendar has at most so many entries; sockets are fewer.

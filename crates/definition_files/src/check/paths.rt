@@ -8,7 +8,7 @@ use json_kinds::key_name;
 use run_times::Ink;
 use run_times::Piece::Text;
 
-/// Adds a note for each path that is not from the root, and a warning for one that begins with ~.
+/// Adds a note for each path that is not from the root, and a warning for one that begins with ~, has a *, or holds the job's own output as a queue.
 pub(crate) fn add_paths(def: &Def, remarks: &mut Remarks<'_>) {
     add_if_relative(KeyName::WorkingDirectory, def.working_directory(), remarks);
     add_if_relative(KeyName::StandardInPath, def.standard_in_path(), remarks);
@@ -20,12 +20,17 @@ pub(crate) fn add_paths(def: &Def, remarks: &mut Remarks<'_>) {
     );
     for path in def.watch_paths() {
         add_if_relative(KeyName::WatchPaths, Some(path.as_str()), remarks);
+        add_if_pattern(KeyName::WatchPaths, path.as_str(), remarks);
     }
     for path in def.queue_directories() {
         add_if_relative(KeyName::QueueDirectories, Some(path.as_str()), remarks);
+        add_if_pattern(KeyName::QueueDirectories, path.as_str(), remarks);
+        add_own_log(path.as_str(), def.standard_out_path(), remarks);
+        add_own_log(path.as_str(), def.standard_error_path(), remarks);
     }
     for state in def.path_state() {
         add_if_relative(KeyName::KeepAlive, Some(state.path.as_str()), remarks);
+        add_if_pattern(KeyName::KeepAlive, state.path.as_str(), remarks);
     }
     for socket in def.sockets() {
         if let Address::Unix(path) = &socket.address {
@@ -56,4 +61,26 @@ fn add_if_relative(key: KeyName, path: Option<&str>, remarks: &mut Remarks<'_>) 
     ink.put(behind);
     let place = remarks.place_of(key);
     remarks.push(place, grade, ink.into_text());
+}
+
+// Adds a warning for a path with a *: no path is a pattern.
+fn add_if_pattern(key: KeyName, path: &str, remarks: &mut Remarks<'_>) {
+    if path.contains('*') {
+        let told = "$: $ has a *, which nothing expands here; name the folder itself";
+        let pieces = [Text(key_name(key)), Text(path)];
+        remarks.add(Grade::Warning, key, told, &pieces);
+    }
+}
+
+// Adds a warning if the output goes into the queue: the job is then never without a file there.
+fn add_own_log(folder: &str, output: Option<&str>, remarks: &mut Remarks<'_>) {
+    let rest = output
+        .unwrap_or("")
+        .strip_prefix(folder.trim_end_matches('/'));
+    if rest.unwrap_or("").starts_with('/') {
+        let told =
+            "QueueDirectories: the job's own output goes into $, so that is never empty and the job starts again and again";
+        let pieces = [Text(folder)];
+        remarks.add(Grade::Warning, KeyName::QueueDirectories, told, &pieces);
+    }
 }

@@ -1,8 +1,9 @@
 //! What may be wrong with where sockets wait.
 
 use crate::check::finding::Grade;
-use crate::check::in_use::{is_path_in_use, is_port_in_use};
+use crate::check::in_use::{has_address, is_path_in_use, is_port_barred, is_port_in_use};
 use crate::check::remarks::Remarks;
+use crate::check::there::{Found, found_at};
 use history_model::KeyName;
 use job_defs::{Address, Def, Socket};
 use run_times::Piece::{Number, Text};
@@ -69,9 +70,18 @@ fn add_in_use(host: &HostRuntime, address: &Address, remarks: &mut Remarks<'_>) 
                     &[Text(path.as_str())],
                 );
             }
+            add_other(host, path.as_str(), remarks);
         }
-        Address::Inet { port, .. } => {
-            if is_port_in_use(host, remarks.alloc, *port) {
+        Address::Inet { host: own, port } => {
+            let told = "Sockets: this machine has not this address; a load here is refused";
+            let has = has_address(host, remarks.alloc, own);
+            remarks.add_if(!has, KeyName::Sockets, told);
+            if is_port_barred(host, remarks.alloc, *port) {
+                let told = "Sockets: port $ is one of root's; a load by this user is refused";
+                let pieces = [Number(u64::from(*port))];
+                remarks.add(Grade::Warning, KeyName::Sockets, told, &pieces);
+            }
+            if is_port_in_use(host, remarks.alloc, own, *port) {
                 remarks.add(
                     Grade::Note,
                     KeyName::Sockets,
@@ -81,4 +91,13 @@ fn add_in_use(host: &HostRuntime, address: &Address, remarks: &mut Remarks<'_>) 
             }
         }
     }
+}
+
+// Adds a warning if what is at the path is no socket: a bind there is refused.
+fn add_other(host: &HostRuntime, path: &str, remarks: &mut Remarks<'_>) {
+    let told = match found_at(host, path) {
+        Ok(Found::Nothing | Found::Socket) | Err(_) => return,
+        Ok(_) => "Sockets: $ is there and is no socket; a load is refused",
+    };
+    remarks.add(Grade::Warning, KeyName::Sockets, told, &[Text(path)]);
 }

@@ -1,5 +1,7 @@
 //! Whether what a definition names is there.
 
+use crate::check::finding::Grade;
+use crate::check::program::{Run, program_of};
 use crate::check::remarks::Remarks;
 use crate::check::script::add_script;
 use history_model::KeyName;
@@ -8,7 +10,7 @@ use json_kinds::key_name;
 use run_times::Ink;
 use run_times::Piece::Text;
 use run_times::telling::put_made;
-use std::alloc::Global;
+use std::alloc::{AllocError, Global};
 use std::fs::metadata;
 use std::io;
 use std::io::ErrorKind;
@@ -19,6 +21,8 @@ use std::os::unix::fs::{FileTypeExt, PermissionsExt};
 enum Wanted {
     /// A plain file that can be executed; of a script the interpreter too.
     Program,
+    /// A file that a program reads as its script.
+    Script,
     /// A folder.
     Folder,
     /// A file that can be read from its beginning.
@@ -44,12 +48,16 @@ pub(crate) enum Found {
 }
 
 /// A key, the path that it names, and what is to stand there.
-type Named<'a> = (KeyName, Option<&'a str>, Wanted);
+type Named = (KeyName, String, Wanted);
 
-// What a start needs, in the order in which it is looked for.
-fn needed(def: &Def) -> [Named<'_>; 5] {
-    [
-        (KeyName::Program, Some(def.program()), Wanted::Program),
+// What a start needs, in the order in which it is looked for: what is run first, and then the paths of keys.
+fn needed(alloc: Global, def: &Def) -> Result<Vec<Named>, AllocError> {
+    let mut all = Vec::new(alloc);
+    let run = program_of(alloc, def.program(), def.arguments())?;
+    let added = add_programs(alloc, def, &run, &mut all);
+    drop(run);
+    added?;
+    let keys = [
         (
             KeyName::WorkingDirectory,
             def.working_directory(),
@@ -70,18 +78,88 @@ fn needed(def: &Def) -> [Named<'_>; 5] {
             def.standard_error_path(),
             Wanted::Output,
         ),
-    ]
+    ];
+    for (key, path, wanted) in keys.iter() {
+        let path = String::from_str(alloc, path.unwrap_or(""))?;
+        all.push((*key, path, *wanted))?;
+    }
+    Ok(all)
+}
+
+// Adds each program on the way, and the folder into which it is started first.
+fn add_programs(
+    alloc: Global,
+    def: &Def,
+    run: &Run<'_>,
+    all: &mut Vec<Named>,
+) -> Result<(), AllocError> {
+    let mut folder = "";
+    for started in &run.programs {
+        if started.folder != folder {
+            folder = started.folder;
+            let path = rooted(alloc, started.root, "", folder)?;
+            all.push((KeyName::Program, path, Wanted::Folder))?;
+        }
+        let own = if folder.is_empty() {
+            def.working_directory().unwrap_or("")
+        } else {
+            folder
+        };
+        let wanted = if started.is_script {
+            Wanted::Script
+        } else {
+            Wanted::Program
+        };
+        let is_path = started.is_script || started.path.contains('/');
+        let path = if is_path { started.path } else { "" };
+        let path = rooted(alloc, started.root, own, path)?;
+        all.push((KeyName::Program, path, wanted))?;
+    }
+    Ok(())
+}
+
+// The path as it is looked for, from a root and a folder. Empty, if the path is, or if it goes from what is not known.
+fn rooted(alloc: Global, root: &str, folder: &str, path: &str) -> Result<String, AllocError> {
+    let root = root.trim_end_matches('/');
+    let is_known = root.is_empty() || root.starts_with('/');
+    let (folder, between) = if path.starts_with('/') {
+        ("", "")
+    } else {
+        (folder, "/")
+    };
+    let is_from_root = path.starts_with('/') || folder.starts_with('/');
+    if path.is_empty() || !is_known || !is_from_root {
+        return Ok(String::new(alloc));
+    }
+    let path = path.strip_prefix("./").unwrap_or(path);
+    format!(in alloc; "{root}{folder}{between}{path}")
 }
 
 /// Writes a line for each path from the root that a start of the definition needs, and that is not there now or is not what it has to be; one
 /// line that says so if there is none. Each line is written before the next path is looked at, so that one on a file system that hangs
 /// silences no other. An error is of the standard output, or of memory.
 pub fn put_seen(host: &HostRuntime, alloc: Global, def: &Def) -> io::Result<()> {
+    let Ok(keys) = needed(alloc, def) else {
+        return Err(io::Error::from(ErrorKind::OutOfMemory));
+    };
+    let seen = put_each(host, alloc, keys.as_slice());
+    drop(keys);
+    if seen? {
+        return put_line(
+            host,
+            alloc,
+            "each path from the root that its start needs is there",
+        );
+    }
+    Ok(())
+}
+
+// Writes what is wrong with each of the paths; answers whether nothing is.
+fn put_each(host: &HostRuntime, alloc: Global, keys: &[Named]) -> io::Result<bool> {
     let mut is_well = true;
-    let keys = needed(def);
-    for (_, path, wanted) in keys.iter() {
+    for (_, path, wanted) in keys {
         let mut ink = Ink::new(alloc);
-        add_wrong(host, alloc, path.unwrap_or(""), *wanted, &mut ink);
+        add_wrong(host, alloc, path.as_str(), *wanted, &mut ink);
         match ink.into_text() {
             Ok(told) => {
                 let written = put_line(host, alloc, told.as_str());
@@ -92,14 +170,7 @@ pub fn put_seen(host: &HostRuntime, alloc: Global, def: &Def) -> io::Result<()> 
             Err(_) => return Err(io::Error::from(ErrorKind::OutOfMemory)),
         }
     }
-    if is_well {
-        return put_line(
-            host,
-            alloc,
-            "each path from the root that its start needs is there",
-        );
-    }
-    Ok(())
+    Ok(is_well)
 }
 
 // Writes the line that tells what is seen now; none if there is nothing to tell.
@@ -115,10 +186,16 @@ fn put_line(host: &HostRuntime, alloc: Global, told: &str) -> io::Result<()> {
 /// Adds a warning for each file or folder that the definition names by a path from the root, and that is not there, or is not what it
 /// has to be.
 pub(crate) fn add_missing(host: &HostRuntime, def: &Def, remarks: &mut Remarks<'_>) {
-    let keys = needed(def);
-    for (key, path, wanted) in keys.iter() {
-        add_of(host, *key, path.unwrap_or(""), *wanted, remarks);
+    match needed(remarks.alloc, def) {
+        Ok(keys) => {
+            for (key, path, wanted) in &keys {
+                add_of(host, *key, path.as_str(), *wanted, remarks);
+            }
+            drop(keys);
+        }
+        Err(_) => remarks.refuse(),
     }
+    add_names(host, def, remarks);
     for path in def.queue_directories() {
         add_of(
             host,
@@ -127,6 +204,7 @@ pub(crate) fn add_missing(host: &HostRuntime, def: &Def, remarks: &mut Remarks<'
             Wanted::Folder,
             remarks,
         );
+        add_kept(host, path.as_str(), remarks);
     }
     for socket in def.sockets() {
         if let Address::Unix(path) = &socket.address {
@@ -141,6 +219,27 @@ pub(crate) fn add_missing(host: &HostRuntime, def: &Def, remarks: &mut Remarks<'
     }
 }
 
+// Files that keep a folder in a repository.
+static KEEPERS: &[&str] = &[".gitkeep", ".keep", ".gitignore", ".placeholder"];
+
+// Adds a warning if such a file is in the queue: it is then never empty.
+fn add_kept(host: &HostRuntime, folder: &str, remarks: &mut Remarks<'_>) {
+    for name in KEEPERS {
+        match format!(in remarks.alloc; "{folder}/{name}") {
+            Ok(path) => {
+                if let Ok(Found::File | Found::Program) = found_at(host, path.as_str()) {
+                    let told =
+                        "QueueDirectories: $ is a file too, so the queue is never empty and the job starts again and again";
+                    let pieces = [Text(path.as_str())];
+                    remarks.add(Grade::Warning, KeyName::QueueDirectories, told, &pieces);
+                }
+                drop(path);
+            }
+            Err(_) => remarks.refuse(),
+        }
+    }
+}
+
 // Adds a warning of what is wrong with the path of the key, if something is.
 fn add_of(host: &HostRuntime, key: KeyName, path: &str, wanted: Wanted, remarks: &mut Remarks<'_>) {
     let mut ink = Ink::new(remarks.alloc);
@@ -148,7 +247,7 @@ fn add_of(host: &HostRuntime, key: KeyName, path: &str, wanted: Wanted, remarks:
     match ink.into_text() {
         Ok(told) => {
             if !told.is_empty() {
-                add_told(key, told.as_str(), remarks);
+                add_told(key, wanted, told.as_str(), remarks);
             }
             drop(told);
         }
@@ -156,10 +255,12 @@ fn add_of(host: &HostRuntime, key: KeyName, path: &str, wanted: Wanted, remarks:
     }
 }
 
-fn add_told(key: KeyName, told: &str, remarks: &mut Remarks<'_>) {
-    let (name, behind) = match key {
-        KeyName::Program => ("the program", " "),
-        key => (key_name(key), ": "),
+fn add_told(key: KeyName, wanted: Wanted, told: &str, remarks: &mut Remarks<'_>) {
+    let (name, behind) = match (key, wanted) {
+        (KeyName::Program, Wanted::Script) => ("the script", " "),
+        (KeyName::Program, Wanted::Folder) => ("the folder", " "),
+        (KeyName::Program, _) => ("the program", " "),
+        (key, _) => (key_name(key), ": "),
     };
     let mut ink = Ink::new(remarks.alloc);
     ink.put_all(&[Text(name), Text(behind), Text(told)]);
@@ -176,6 +277,66 @@ fn add_wrong(host: &HostRuntime, alloc: Global, path: &str, wanted: Wanted, ink:
         (Wanted::Output, Ok(Found::Nothing) | Err(_)) => add_folder(host, alloc, path, ink),
         (Wanted::Socket, _) => add_folder(host, alloc, path, ink),
         (wanted, found) => add_found(alloc, path, wanted, found, ink),
+    }
+}
+
+// Adds what is said of each program that has no /: a warning if no folder of PATH has it, and of the first one a note if one has.
+fn add_names(host: &HostRuntime, def: &Def, remarks: &mut Remarks<'_>) {
+    match program_of(remarks.alloc, def.program(), def.arguments()) {
+        Ok(run) => {
+            for (index, started) in run.programs.iter().enumerate() {
+                let is_name = !started.path.contains('/') && !started.path.contains(' ');
+                let is_sought = !started.is_script
+                    && !started.is_in_line
+                    && started.root.is_empty();
+                if is_name && is_sought && !started.path.starts_with('~') {
+                    add_name(host, started.path, index == 0, path_of(def), remarks);
+                }
+            }
+            drop(run);
+        }
+        Err(_) => remarks.refuse(),
+    }
+}
+
+/// Where programs are looked for, if the definition does not say it: the folders that systemd gives its services.
+const PATH: &str = "/usr/local/sbin:/usr/local/bin:/usr/sbin:/usr/bin:/sbin:/bin";
+
+fn path_of(def: &Def) -> &str {
+    for variable in def.environment() {
+        if variable.name.as_str() == "PATH" {
+            return variable.value.as_str();
+        }
+    }
+    PATH
+}
+
+fn add_name(
+    host: &HostRuntime,
+    name: &str,
+    is_first: bool,
+    folders: &str,
+    remarks: &mut Remarks<'_>,
+) {
+    let mut is_there = false;
+    for folder in folders.split(':') {
+        match format!(in remarks.alloc; "{folder}/{name}") {
+            Ok(path) => {
+                if let Ok(Found::Program) = found_at(host, path.as_str()) {
+                    is_there = true;
+                }
+                drop(path);
+            }
+            Err(_) => remarks.refuse(),
+        }
+    }
+    if !is_there {
+        let told = "the program $ is in no folder of the job's PATH; write the whole path";
+        remarks.add(Grade::Warning, KeyName::Program, told, &[Text(name)]);
+    } else if is_first {
+        let told =
+            "the program is looked for in the job's PATH, since it has no /; write the whole path";
+        remarks.add(Grade::Note, KeyName::Program, told, &[]);
     }
 }
 
