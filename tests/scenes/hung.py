@@ -75,7 +75,7 @@ def paths_and_logs_without_an_answer(stage):
         times = honest.end()
     for line in launcher.lines("log0: run 1: ") + launcher.lines("cannot look at "):
         check(line.endswith("no answer"), f"of what got no answer it tells {line!r}")
-    # A start waits half a second for its log at most, all starts a second, and meanwhile a list waits too: each log of a disk is asked about by itself.
+    # A start waits half a second for its log at most, all starts two seconds, and meanwhile a list waits too: each log of a disk is asked about by itself.
     in_time(times[-1] < BOUND / 2, f"a list took {times[-1]:.2f} s")
     wait_for(lambda: text_at(stage.at("seen")), "the path's change is not seen once there are answers", 2 * BOUND)
     for at in range(20):

@@ -22,6 +22,11 @@ IN_USE = "address in use"
 LOCKED = "another launcher holds its lock"
 TOO_LONG = "File name too long (os error 36)"
 
+# A serial line, whose open waits for its carrier; a machine may have none.
+SERIAL = "/dev/ttyS0"
+MAY_WAIT = "is a device whose open may wait, and no plain file"
+STREAMS = [("StandardInPath", "input"), ("StandardOutPath", "output"), ("StandardErrorPath", "errors")]
+
 # A name of 1,023 bytes, which no file can have: a path of 1,024 may stand in a definition.
 NO_NAME = "/" + "n" * 1023
 
@@ -193,7 +198,7 @@ def words_and_surroundings(stage):
 
 def refused_starts(stage):
     """A start that the system refuses names its part and the system's reason, leaves no descriptor, and the job runs once it can.
-    A stream at a FIFO, a folder or a socket is refused and not waited for."""
+    A stream at a FIFO, a folder, a socket or a serial line is refused and not waited for."""
     launcher = stage.serve()
     at = stage.at
     os.mkfifo(at("fifo"))
@@ -217,6 +222,7 @@ def refused_starts(stage):
         ({"StandardOutPath": at("link")}, f"cannot open {at('link')} for its output: is a FIFO, and no plain file"),
         ({"StandardErrorPath": at("fifo")}, f"cannot open {at('fifo')} for its errors: is a FIFO, and no plain file"),
         ({"StandardInPath": at("folder")}, f"cannot open {at('folder')} for its input: is a folder, and no plain file"),
+        *[({key: SERIAL}, f"cannot open {SERIAL} for its {what}: {MAY_WAIT}") for key, what in STREAMS if os.path.exists(SERIAL)],
         ({"StandardOutPath": at("folder")}, f"cannot open {at('folder')} for its output: is a folder, and no plain file"),
         ({"StandardErrorPath": at("other")}, f"cannot open {at('other')} for its errors: is a socket, and no plain file"),
     ]
@@ -856,9 +862,31 @@ def files_that_were_put_there(stage):
     check(launcher.ends() == 0 and set(launcher.said().splitlines()) <= told, f"without its files it ended so: {launcher.said()!r}")
 
 
+def a_look_that_is_refused(stage):
+    """A file gives way to a link to itself: the system refuses the look, so nothing is known of it, and what was seen last stands. The job that
+    starts while the file is absent is not started, and the other one is started again. Once the link is gone, the first starts."""
+    launcher, path = stage.serve(), make(stage.at("flag"))
+    launcher.load(shell_job("gone", "exec sleep 600", KeepAlive={"PathState": {path: False}}))
+    launcher.load(shell_job("there", "exec sleep 600", ThrottleInterval=1, KeepAlive={"PathState": {path: True}}))
+    launcher.tells("there", "state = running")
+    os.symlink("flag", stage.at("link"))
+    os.rename(stage.at("link"), path)
+    comes_to_say(launcher, f"cannot look at {path}: Too many levels of symbolic links (os error 40)")
+    reply = launcher.ask({"req": "kickstart", "job": "there", "k": True})
+    check(reply["code"] == 0, f"kickstart got {reply}")
+    wait_for(lambda: runs_of(launcher, "there") == 2, "a job is not started again whose file was there at the last look")
+    # Looks are a second apart, so there are two of them at least.
+    time.sleep(2.5)
+    check(runs_of(launcher, "gone") == 0, f"a file that may not be looked at is taken for absent: {launcher.print('gone')}")
+    check("state = running" in launcher.print("there"), f"and stops a job: {launcher.print('there')}")
+    os.unlink(path)
+    launcher.tells("gone", "state = running")
+    launcher.shut_down()
+
+
 SCENES = [
     ends_of_children, streams_of_children, words_and_surroundings, refused_starts, a_reason_is_told_once, sights_and_the_clock,
-    sights_that_are_refused, sockets_of_a_job, places_of_sockets, ports_of_a_job, replies_as_they_grow, names_in_the_spool_are_taken,
+    sights_that_are_refused, a_look_that_is_refused, sockets_of_a_job, places_of_sockets, ports_of_a_job, replies_as_they_grow, names_in_the_spool_are_taken,
     spool_files_that_change, clients_at_the_end, replies_that_nobody_takes, room_for_three, a_socket_that_was_put_there,
     requests_in_pieces, lines_of_262144_bytes, replies_read_late, files_of_the_control_socket, a_path_with_one_launcher,
     files_that_were_put_there,

@@ -14,6 +14,7 @@ import pwd
 import re
 import socket
 import subprocess
+import sys
 import tempfile
 
 from harness import BOUND, HERE, Late, check, make, patience, text_at, wait_for
@@ -148,9 +149,17 @@ def jobscope_mistakes(stage):
     check(not silent, "\n".join(silent))
 
 
+def jobscope_corpus(stage):
+    """Of some two hundred mistakes that people make `jobscope check` tells nine in ten, and it has no false alarm for as many files that are right."""
+    ran = subprocess.run(
+        [sys.executable, os.path.join(HERE, "..", "mistakes.py"), "-v", *stage.given.jobscope], capture_output=True, timeout=patience(LONGEST), text=True
+    )
+    check(ran.returncode == 0, f"{ran.stdout}{ran.stderr}")
+
+
 # What may be said of a definition of a package on a machine that has not installed it.
 LACKS = re.compile(
-    "warning: (nothing starts this job but |the program \\S* is not there$|the program is looked for in the job's PATH|"
+    "warning: ((the program|the script|the folder) \\S* is (not there$|in no folder of)|"
     "(WorkingDirectory|StandardInPath|StandardOutPath|StandardErrorPath|QueueDirectories|Sockets): \\S* is not there$)"
 )
 
@@ -539,6 +548,7 @@ def zones_that_are_none(stage):
 SCENES = [
     the_first_journal_is_told,
     jobscope_check,
+    jobscope_corpus,
     jobscope_cron,
     jobscope_cron_files,
     jobscope_journal,

@@ -204,6 +204,8 @@ def play(tasks, folder, at_once, is_once):
 def lay_out(room, by, second):
     """Puts copies of the scenes, of the examples and of the programs, each under three names, into the folder."""
     shutil.copytree(HERE, f"{room}/tests/scenes", ignore=shutil.ignore_patterns("__pycache__"))
+    shutil.copytree(f"{HERE}/../mistakes", f"{room}/tests/mistakes")
+    shutil.copy(f"{HERE}/../mistakes.py", f"{room}/tests/mistakes.py")
     shutil.copytree(f"{HERE}/../../examples", f"{room}/examples")
     for name, program in (("bin", by), ("second", second)):
         if program:

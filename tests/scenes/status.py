@@ -341,6 +341,57 @@ def starting(stage, path):
     return {line.split("  ")[1] for line in text.splitlines()[1:]}, error
 
 
+def what_a_boot_left_out(stage):
+    """What jobd-run writes beside the file: definitions that were not loaded, until they are, and a minute that passed before this launcher, until the job
+    is started. That of another launcher says nothing."""
+    launcher, path = serve(stage)
+    first, _ = wait_for(lambda: told(path), "no file is written at the start")
+    minute = (json.loads(first["header"])["wall"] // 60 - 1) * 60
+    when = time.gmtime(minute)
+    launcher.load(shell_job("missed", "exec sleep 600", StartCalendarInterval={"Hour": when.tm_hour, "Minute": when.tm_min}))
+    job_where(path, "missed", lambda job: True)
+    files = [{"path": "/etc/jobd/a.json", "label": None, "reason": "bad definition: NotJson -"}, {"path": "/etc/jobd/b.json", "label": "org.b", "reason": "no"}]
+
+    def boot(since, pid=launcher.pid, *more):
+        head = {"boot": {"pid": pid, "began": began(launcher.pid), "since": since, "loaded": int(time.time())}}
+        make(path + ".boot", "".join(f"{line}\n" for line in [json.dumps(head), *map(json.dumps, files), *more]))
+
+    missed = f"missed: {time.strftime('%H:%M:%S', when)} passed while no launcher ran"
+    rows = ["/etc/jobd/a.json: not loaded at the boot: bad definition: NotJson -", "/etc/jobd/b.json: not loaded at the boot: no"]
+    boot(minute - 1)
+    status, text, error = asked(stage, path, "why", "--failing")
+    check(status == 2 and text.splitlines()[1:] == [missed, *rows] and not error, f"failing: {status}, {text!r}, {error!r}")
+    status, text, error = asked(stage, path, "why", "--failing", "--json")
+    objects = [json.loads(line) for line in text.splitlines()]
+    check([it.get("fault") for it in objects] == ["minute_passed", None, None], f"faults: {objects}")
+    check([it.get("file_label") for it in objects[1:]] == [None, "org.b"] and objects[1]["file"] == "/etc/jobd/a.json", f"files: {objects}")
+    for word, row in (("a", rows[0]), ("/etc/jobd/b.json", rows[1]), ("org.b", rows[1]), ("b", rows[1])):
+        status, text, error = asked(stage, path, "why", word)
+        check(status == 0 and row in text and not error and (rows + rows)[rows.index(row) + 1] not in text, f"why {word}: {status}, {text!r}, {error!r}")
+    check(asked(stage, path, "why", "c")[0] == 65, "a word that nothing has")
+    check(asked(stage, path, "status")[1].splitlines()[-2:] == rows, "the table")
+    check("\njobd_definitions_not_loaded 2\n" in samples(stage, path, int(time.time())), "the count")
+    # The launcher before went on to that minute itself: then it took it.
+    boot(minute)
+    check(missed not in asked(stage, path, "why", "--failing")[1], "a minute of the launcher before")
+    boot(None)
+    check(missed not in asked(stage, path, "why", "--failing")[1], "no launcher ran before")
+    boot(minute - 1, launcher.pid + 1)
+    check(asked(stage, path, "why", "--failing")[0] == 0, "what another launcher's boot left out")
+    check("jobd_definitions_not_loaded" not in samples(stage, path, int(time.time())), "the count of another launcher")
+    boot(minute - 1, launcher.pid, "no line")
+    check("status.jsonl.boot: a line of another form" in asked(stage, path, "why")[2], "a line that is none")
+    boot(minute - 1)
+    launcher.load(shell_job("org.b", "exec sleep 600"))
+    job_where(path, "org.b", lambda job: True)
+    text = asked(stage, path, "why", "--failing")[1]
+    check(rows[0] in text and rows[1] not in text, f"one that was loaded since: {text!r}")
+    launcher.ask({"req": "start", "job": "missed"})
+    job_where(path, "missed", lambda job: job["pid"])
+    check(missed not in asked(stage, path, "why", "--failing")[1], "a job that was started since")
+    launcher.shut_down()
+
+
 def why_and_status_of_now(stage):
     """A job of each kind, asked of while its launcher lives, and once that was killed."""
     launcher, path = serve(stage, journal="journal")
@@ -394,6 +445,50 @@ def why_and_status_of_now(stage):
         end_process(pid)
 
 
+def whose_launcher_is_none(stage):
+    """The file of a killed launcher, whose number another process got by chance, and then one that has ended and nobody has waited for. Before, as
+    long as it lives: it is told as the living launcher, with the same moment of its start."""
+    launcher, path = serve(stage)
+    launcher.load(shell_job("waits", "exec sleep 600", KeepAlive={"PathState": {stage.at("flag"): True}}))
+    job_where(path, "waits", lambda job: job["state"] == "idle")
+    lives = f"The launcher lives (process {launcher.pid})"
+    check(lives in asked(stage, path, "status")[1], f"a living launcher is not told: {asked(stage, path, 'status')}")
+    first = told(path)[0]
+    end_process(launcher.pid)
+    launcher.ends()
+    text = text_at(path)
+
+    def file_of(pid, start):
+        front = f'"pid":{first["pid"]},'
+        check(text.count(front) == 1 and f'"began":{first["began"]}' in text, f"its front is not {front}: {text[:200]}")
+        named = text.replace(front, f'"pid":{pid},').replace(f'"began":{first["began"]}', f'"began":{start}')
+        return make(stage.at("standing/other.jsonl"), named)
+
+    with subprocess.Popen(["sleep", "600"]) as other:
+        by_chance = file_of(other.pid, began(other.pid) + 1)
+        gone = f"The launcher (process {other.pid}) is gone"
+        check(gone in asked(stage, by_chance, "status")[1], f"another process with its number: {asked(stage, by_chance, 'status')}")
+        its_own = file_of(other.pid, began(other.pid))
+        check(f"The launcher lives (process {other.pid})" in asked(stage, its_own, "status")[1], "the same moment of the start is not told as the launcher")
+        other.kill()
+        wait_for(lambda: text_at(f"/proc/{other.pid}/stat").rpartition(")")[2].split()[0] == "Z", "it does not end")
+        check(gone in asked(stage, its_own, "status")[1], f"a process that has ended: {asked(stage, its_own, 'status')}")
+        check("is run by no launcher" in asked(stage, its_own, "why", "waits")[1], f"of its job: {asked(stage, its_own, 'why', 'waits')}")
+
+
+def what_a_socket_waits_for(stage):
+    """A job of a socket waits for a client, and one that only a word starts for a request."""
+    launcher, path = serve(stage)
+    launcher.load({"Label": "web", "ProgramArguments": ["/bin/true"], "inetdCompatibility": {"Wait": False},
+                   "Sockets": {"Listener": {"SockPathName": stage.at("web.sock")}}})
+    launcher.load(shell_job("asked", "exit 0"))
+    for label in ("web", "asked"):
+        job_where(path, label, lambda job: job["state"] == "idle")
+    rows = cells(stage, path)
+    check(rows["web"][-2:] == ["a", "client"], f"of a socket's job: {rows['web']}")
+    check(rows["asked"][-2:] == ["a", "request"], f"of a job that is only asked for: {rows['asked']}")
+
+
 SCENES = [
     what_a_status_file_holds,
     a_status_file_rests,
@@ -401,4 +496,7 @@ SCENES = [
     status_files_that_are_refused,
     why_and_status_of_now,
     samples_of_a_status_file,
+    whose_launcher_is_none,
+    what_a_socket_waits_for,
+    what_a_boot_left_out,
 ]

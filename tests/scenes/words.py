@@ -310,6 +310,65 @@ def help_and_what_is_wrong(stage):
         check(got[0] == (0 if is_help else 64) and is_told and is_one_line and not silent, f"{line!r} gives {got}")
 
 
+# Lines with a word of another tool, and what is to be typed here: a part of the one line that is told.
+FOREIGN = """\
+jobctl status | jobscope status
+jobctl status a | jobctl print LABEL
+jobctl show a | jobctl print LABEL
+jobctl --socket s show a | jobctl print LABEL
+jobctl cat a | jobscope show LABEL
+jobctl logs a | jobscope log
+jobctl tail a | jobscope log -f
+jobctl reload a | jobctl-reload FILE
+jobctl restart a | jobctl kickstart -k LABEL
+jobctl daemon-reload | jobctl-reload --all FOLDER
+jobctl bootstrap system a.plist | jobctl load FILE
+jobctl bootout system/a | jobctl unload FILE
+jobctl kill TERM a | jobctl stop LABEL
+jobctl remove a | jobctl unload FILE
+jobctl mask a | jobctl disable LABEL
+jobctl unmask a | jobctl enable LABEL
+jobctl is-active a | jobctl print LABEL
+jobctl list-timers | jobscope next
+jobctl ls | jobctl list
+jobctl why a | jobscope why LABEL
+jobctl check a.json | jobscope check FILE
+jobctl list --failed | jobscope why --failing
+jobctl --failed | jobscope why --failing
+jobscope list | jobscope status
+jobscope start a | jobctl start LABEL
+jobscope restart a | jobctl kickstart -k LABEL
+jobscope load a.json | jobctl load FILE
+jobscope reload a.json | jobctl-reload FILE
+jobscope print a | jobscope show LABEL
+jobscope logs | jobscope log
+jobscope validate a.json | jobscope check FILE
+jobscope diff a | jobscope drift FOLDER
+jobscope timers | jobscope next
+jobscope --failed | jobscope why --failing
+jobscope status --failed | jobscope why --failing
+jobscope failed | jobscope why --failing"""
+
+# Words near `shutdown`, of which that is never a tip: it ends all jobs.
+NEAR = "show shutdwon shut down shutd shw"
+
+
+def words_of_other_tools(stage):
+    """A word of another tool gives 64 and one line with what to type here; `shutdown` is no tip for any."""
+    programs = {"jobctl": stage.given.jobctl, "jobscope": stage.given.jobscope}
+    for line, typed in (row.split(" | ") for row in FOREIGN.splitlines()):
+        ran = run_alone(stage, [*programs[line.split(" ")[0]], *words_of(stage, line)])
+        check(ran[:2] == (64, "") and ran[2].count("\n") == 1 and typed in ran[2] and "shutdown" not in ran[2], f"{line!r} gives {ran}")
+    for word in NEAR.split(" "):
+        ran = run_alone(stage, [*programs["jobctl"], word, "a"])
+        check(ran[:2] == (64, "") and "shutdown" not in ran[2], f"{word!r} gives {ran}")
+
+
+def run_alone(stage, words):
+    ran = subprocess.run(words, cwd=stage.folder, capture_output=True, text=True, timeout=patience())
+    return ran.returncode, ran.stdout, ran.stderr
+
+
 # A first word, and the program that it means.
 NAMES = [
     (b"jobd", b"jobd"), (b"jobctl", b"jobctl"), (b"jobscope", b"jobscope"), (b"./jobctl", b"jobctl"), (b"/no/such/folder/jobscope", b"jobscope"),
@@ -355,6 +414,6 @@ def one_file_under_three_names(stage):
 
 
 SCENES = [
-    words_of_jobctl, words_that_are_no_command_of_jobctl, words_of_jobd, words_that_are_no_command_of_jobd, help_and_what_is_wrong,
+    words_of_jobctl, words_that_are_no_command_of_jobctl, words_of_jobd, words_that_are_no_command_of_jobd, help_and_what_is_wrong, words_of_other_tools,
     one_file_under_three_names,
 ]

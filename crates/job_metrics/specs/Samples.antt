@@ -4,7 +4,7 @@ use Rattle.std.specs.Fmt.{decimal}
 use Rattle.std.specs.List.{flat_map}
 use Rattle.plain_text.specs.Plain.{plain_char}
 use Rattle.job_metrics.specs.declared.Family.{Family}
-use Rattle.job_metrics.specs.declared.Family.TheVariants.{Up, JournalOpen, Told, Running, Starts, Failures, Refusals, LastEnd, NextStart}
+use Rattle.job_metrics.specs.declared.Family.TheVariants.{Up, JournalOpen, Told, LeftOut, Running, Starts, Failures, Refusals, LastEnd, NextStart}
 use Rattle.job_metrics.specs.declared.JobSample.{JobSample}
 use Rattle.job_metrics.specs.declared.LauncherSample.{LauncherSample}
 
@@ -12,6 +12,7 @@ abbrev pub family_name : Family → List ℕ
 family_name Up = codes "jobd_up"
 family_name JournalOpen = codes "jobd_journal_open"
 family_name Told = codes "jobd_status_timestamp_seconds"
+family_name LeftOut = codes "jobd_definitions_not_loaded"
 family_name Running = codes "jobd_job_running"
 family_name Starts = codes "jobd_job_starts_total"
 family_name Failures = codes "jobd_job_failures_total"
@@ -29,6 +30,7 @@ abbrev pub family_help : Family → List ℕ
 family_help Up = codes "Whether the launcher lives."
 family_help JournalOpen = codes "Whether the journal of the launcher is open."
 family_help Told = codes "When the launcher told how it stands."
+family_help LeftOut = codes "Definitions that were not loaded at the boot, and are not since."
 family_help Running = codes "Whether a run of the job lives."
 family_help Starts = codes "Starts that were ordered since the load, refused ones too."
 family_help Failures = codes "Runs since the load that did not end with code 0."
@@ -98,6 +100,7 @@ launcher_samples launcher =
     launcher_text Up (flag_value (Some launcher.is_up))
     ++ launcher_text JournalOpen (flag_value launcher.journal_is_open)
     ++ launcher_text Told (Some launcher.told)
+    ++ launcher_text LeftOut launcher.left_out
 
 -- all samples: those of the launcher, then those of jobs, a family behind the other
 abbrev pub metrics_text : LauncherSample → List JobSample → List ℕ

@@ -18,6 +18,8 @@ pub struct LauncherSample {
     pub journal_is_open: Option<bool>,
     /// As of when this was told, in seconds of Unix time.
     pub told: u64,
+    /// How many definitions its boot left out. None if that is not known.
+    pub left_out: Option<u64>,
 }
 
 /// What a monitor asks of a job.
@@ -44,6 +46,7 @@ pub enum Family {
     Up,
     JournalOpen,
     Told,
+    LeftOut,
     Running,
     Starts,
     Failures,
@@ -69,6 +72,7 @@ fn family_name(family: Family) -> &'static str
         Family::Up => "jobd_up",
         Family::JournalOpen => "jobd_journal_open",
         Family::Told => "jobd_status_timestamp_seconds",
+        Family::LeftOut => "jobd_definitions_not_loaded",
         Family::Running => "jobd_job_running",
         Family::Starts => "jobd_job_starts_total",
         Family::Failures => "jobd_job_failures_total",
@@ -94,6 +98,7 @@ fn family_help(family: Family) -> &'static str
         Family::Up => "Whether the launcher lives.",
         Family::JournalOpen => "Whether the journal of the launcher is open.",
         Family::Told => "When the launcher told how it stands.",
+        Family::LeftOut => "Definitions that were not loaded at the boot, and are not since.",
         Family::Running => "Whether a run of the job lives.",
         Family::Starts => "Starts that were ordered since the load, refused ones too.",
         Family::Failures => "Runs since the load that did not end with code 0.",
@@ -232,6 +237,7 @@ fn put_launcher(ink: &mut Ink, launcher: &LauncherSample)
         flag_value(launcher.journal_is_open),
     );
     put_single(ink, Family::Told, Some(launcher.told));
+    put_single(ink, Family::LeftOut, launcher.left_out);
 }
 
 fn flag_value(flag: Option<bool>) -> Option<u64>

@@ -14,7 +14,7 @@ use history_model::Text;
 use launchctl_words::{ScopeCommand, Task};
 use run_times::telling::{put_made, tell_of};
 use status_page::{
-    Look, PACKAGES, Standing, has_colour, named_path, read_standing, samples_text, table_text,
+    Look, Standing, has_colour, named_path, packages_file, read_standing, samples_text, table_text,
     tell_trouble, width_of,
 };
 use std::alloc::Global;
@@ -43,8 +43,8 @@ pub(crate) fn file_asked(host: &HostRuntime, of: &ScopeCommand) -> io::Result<Op
     }
     match named_path(host, &of.status_file) {
         Ok(None) if !may_be_journal => packages(host),
-        Ok(None) if is_next && stands_in(host, PACKAGES) => {
-            tell_of(host, PACKAGES, &NONE_NAMED);
+        Ok(None) if is_next && stands_in(host, packages_file(host)) => {
+            tell_of(host, packages_file(host), &NONE_NAMED);
             packages(host)
         }
         Ok(path) => Ok(path),
@@ -58,7 +58,7 @@ fn names_journal(of: &ScopeCommand) -> bool {
 }
 
 fn packages(host: &HostRuntime) -> io::Result<Option<String>> {
-    Ok(Some(String::from_str(host.alloc(), PACKAGES)?))
+    Ok(Some(String::from_str(host.alloc(), packages_file(host))?))
 }
 
 /// What is wrong with words that name both a launcher's file and a journal, or what the file does not hold, if they do.
@@ -184,7 +184,7 @@ fn put_next(
     put_made(host, Ok(text))
 }
 
-// Tells each of the labels that the file has no job of. It answers the exit status, which is 65 then.
+// Tells each of the labels that the file has no job of, and that means no definition which the boot left out. It answers the exit status, which is 65 then.
 fn tell_unknown(
     host: &HostRuntime,
     alloc: Global,
@@ -195,7 +195,7 @@ fn tell_unknown(
     let mut status = 0;
     for label in labels {
         let label = label.as_str();
-        if !standing.has(label) {
+        if !standing.has(label) && !standing.leaves_out(label) {
             let told = unknown_in(alloc, standing, label)?;
             tell_of(host, path, &told);
             drop(told);

@@ -73,7 +73,8 @@ impl JournalListener<'_> {
                 let mut opened = open(self.alloc, line)?;
                 if let Some(before) = kept {
                     let last = before.table.reading();
-                    opened.past.follow(&mut before.past, last);
+                    let now = opened.table.reading();
+                    opened.past.follow(&mut before.past, last, now);
                 }
                 drop(mem::replace(kept, Some(opened)));
                 Ok(true)

@@ -8,8 +8,10 @@ use crate::charted::{HeardMarks, chart_of};
 use crate::clock::now;
 use crate::drift::drift_of;
 use crate::journal::fault::{JournalFault, tell_fault, tell_long};
+use crate::journal::job::Record;
 use crate::journal::lines::JournalLines;
 use crate::journal::reader::OpenJournal;
+use crate::journal::run::RunEnd;
 use crate::journal::source::{INPUT, journal_paths, read_journal, tell_bad};
 use crate::listener::{JournalListener, zone_shown};
 use crate::log::follow;
@@ -353,8 +355,26 @@ fn put_next(
     put_made(host, Ok(text))
 }
 
-// What is seen now of what a start of a job needs, of each whose last start was refused. It comes last: a path on a file system that hangs
-// silences nothing that the journal tells.
+// Why what a start needs may not be there: its last start was refused, or its last run ended with the code by which a shell, or a word
+// before the program, says that it can't be run (126) or is not there (127). None otherwise.
+fn why_sought(record: &Record) -> Option<&'static str> {
+    match (&record.refused, &record.last) {
+        (Some(_), _) => Some("whose last start was refused"),
+        (None, Some(run)) => match run.end {
+            RunEnd::Code(126) => {
+                Some("whose last run ended with 126, as a program that may not be run")
+            }
+            RunEnd::Code(127) => {
+                Some("whose last run ended with 127, as a program that is not there")
+            }
+            _ => None,
+        },
+        (None, None) => None,
+    }
+}
+
+// What is seen now of what a start of a job needs, of each that may lack it. It comes last: a path on a file system that hangs silences
+// nothing that the journal tells.
 fn put_now(
     host: &HostRuntime,
     alloc: Global,
@@ -363,16 +383,13 @@ fn put_now(
 ) -> io::Result<()> {
     for (label, job) in &journal.past.jobs {
         let label = label.as_str();
-        if let (Some(def), Some(_), true) = (
+        if let (Some(def), Some(why), true) = (
             &job.def,
-            &job.record.refused,
+            why_sought(&job.record),
             is_named(labels, label),
         ) {
             let mut ink = Ink::new(alloc);
-            ink.fill(
-                "\n$, whose last start was refused:\n",
-                &[Piece::Text(label)],
-            );
+            ink.fill("\n$, $:\n", &[Piece::Text(label), Piece::Text(why)]);
             put_made(host, ink.into_text())?;
             put_seen(host, alloc, def)?;
         }

@@ -37,19 +37,42 @@ pub(crate) fn writer_of(host: &HostRuntime, alloc: Global, path: &str) -> Writer
     }
 }
 
-// The process that the list names for the lock on the file.
+// The process that the list names for the lock on the file. Where layers of an overlayfs lie on several file systems, a file tells another device than the
+// list, and its folder that of the list.
 fn holder_of(host: &HostRuntime, alloc: Global, path: &str) -> io::Result<Option<u32>> {
     let data = metadata(host, path)?;
-    let mark = mark_of(alloc, data.dev(), data.ino())?;
     let mut bytes = Vec::new(alloc);
     read_front(host, LOCKS, MOST, &mut bytes)?;
     let Ok(list) = std::str::from_utf8(bytes.as_slice()) else {
         return Err(io::Error::from(ErrorKind::InvalidData));
     };
-    match holder_in(list, mark.as_str()) {
+    let holder = match marked_in(alloc, list, data.dev(), data.ino())? {
+        None => {
+            let folder = metadata(host, folder_of(path))?;
+            marked_in(alloc, list, folder.dev(), data.ino())?
+        }
+        holder => holder,
+    };
+    match holder {
         None if bytes.len() > MOST => Err(io::Error::from(ErrorKind::FileTooLarge)),
         holder => Ok(holder),
     }
+}
+
+fn folder_of(path: &str) -> &str {
+    match path.rsplit_once('/') {
+        Some(("", _)) => "/",
+        Some((folder, _)) => folder,
+        None => ".",
+    }
+}
+
+// The process that the list names for the file of this number on this device.
+fn marked_in(alloc: Global, list: &str, device: u64, inode: u64) -> io::Result<Option<u32>> {
+    let mark = mark_of(alloc, device, inode)?;
+    let holder = holder_in(list, mark.as_str());
+    drop(mark);
+    Ok(holder)
 }
 
 // The file as the list names it: the two parts of its device's number in hexadecimal digits, and its own number.

@@ -42,3 +42,4 @@ FaultHolds lives r refused last (faults.Ended how) =
     (end : LastEnd) × (last ≡ Some end) × (end.how ≡ how) × (ended_badly end ≡ true)
 FaultHolds lives r refused last faults.NotRunning = (some_want r.wants ≡ true) × (has_run lives r ≡ false)
 FaultHolds lives r refused last faults.LauncherGone = (lives ≡ false) × (is_some r.child ≡ true)
+FaultHolds lives r refused last (faults.Missed minute) = false ≡ true

@@ -1,5 +1,6 @@
 pub mod Clocks
 pub mod Failing
+pub mod Passed
 pub mod Rows
 pub mod Samples
 pub mod Starts

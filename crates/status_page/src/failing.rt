@@ -29,6 +29,8 @@ pub enum Fault {
     NotRunning,
     /// It ran by the word of a launcher that is gone.
     LauncherGone,
+    /// A minute of its calendar passed while no launcher ran, at this second, and it was not started since.
+    Missed(u64),
 }
 
 /// Whether an end is a crash: by one of the signals 3 to 8, 11 and 31, or by an unknown one if neither TERM nor KILL was ordered.
@@ -131,6 +133,10 @@ pub fn add_failing(page: &mut Page<'_>, of: &Failing<'_>) {
         ),
         (Fault::NotRunning, _) => page.add("$: it is wanted, and does not run\n", &[label]),
         (Fault::LauncherGone, _) => page.add("$: it ran by a launcher that is gone\n", &[label]),
+        (Fault::Missed(minute), _) => page.add(
+            "$: $ passed while no launcher ran\n",
+            &[label, Time(minute)],
+        ),
     }
 }
 

@@ -32,6 +32,7 @@ pub fn samples_text(
                 is_up: standing.life.may_live(),
                 journal_is_open: journal_flag(launcher.journal),
                 told: launcher.at.wall,
+                left_out: standing.count_left_out(),
             };
             metrics(alloc, &sample, samples.as_slice())
         }

@@ -4,6 +4,7 @@ ghost use Rattle.std.specs.Prelude.{◌≡◌, false, IfOk, IfSome};
 ghost use Rattle.status_file.specs.Fronts.{IsLineOf};
 ghost use Rattle.status_page.specs.Rows.{is_asked};
 
+use crate::boot::{Boot, LeftOut, boot_of};
 use crate::life::{Life, life_of};
 use crate::table::is_asked;
 use calendar_due::Zone;
@@ -16,12 +17,16 @@ use run_times::{Ink, utc};
 use status_file::{LauncherStatus, LineRoom, StatusFault, StatusLine, read_line};
 use std::alloc::{AllocError, Global};
 use std::env::VarError;
+use std::fs::metadata;
 use std::io::ErrorKind;
 use std::{env, io};
 use table_opening::zone_of;
 
 /// The status file of the package's launcher.
-pub const PACKAGES: &str = "/var/lib/jobd/status.jsonl";
+const PACKAGES: &str = "/run/jobd/status.jsonl";
+
+/// Where a launcher of version 0.3.0 has it.
+const BEFORE: &str = "/var/lib/jobd/status.jsonl";
 
 /// So many bytes a status file may have: some 8,000 for each of the most jobs that a launcher holds, and as much again.
 const LONGEST: usize = 16_777_216;
@@ -31,6 +36,7 @@ const LONGEST: usize = 16_777_216;
 pub struct Standing {
     lines: Lines,
     pub life: Life,
+    pub boot: Boot,
 }
 
 /// The lines of a file.
@@ -74,6 +80,38 @@ impl Standing {
         !labels.is_empty() && is_asked(labels, label)
     }
 
+    /// Whether a definition that the boot left out is not loaded by now: no job has its label.
+    pub fn is_left_out(&self, file: &LeftOut) -> bool {
+        match file.label() {
+            Some(label) => !self.lines.have(label),
+            None => true,
+        }
+    }
+
+    /// Whether a word means a definition that the boot left out.
+    pub fn leaves_out(&self, word: &str) -> bool {
+        for file in &self.boot.left_out {
+            if file.is_meant_by(word) && self.is_left_out(file) {
+                return true;
+            }
+        }
+        false
+    }
+
+    /// How many definitions the boot left out that are not loaded by now. None if nothing was written of the boot.
+    pub fn count_left_out(&self) -> Option<u64> {
+        if !self.boot.is_known {
+            return None;
+        }
+        let mut count: u64 = 0;
+        for file in &self.boot.left_out {
+            if self.is_left_out(file) {
+                count = count.saturating_add(1);
+            }
+        }
+        Some(count)
+    }
+
     /// The zone of the launcher, or UTC.
     pub fn zone(&self, alloc: Global, is_utc: bool) -> Result<Zone, AllocError> {
         let header = match self.launcher() {
@@ -109,6 +147,15 @@ pub enum Trouble {
     Line(u64, StatusFault),
 }
 
+/// The path of the status file of the package's launcher: that of version 0.3.0, if it is there alone, since such a launcher runs on after an upgrade.
+pub fn packages_file(host: &HostRuntime) -> &'static str {
+    if metadata(host, PACKAGES).is_err() && metadata(host, BEFORE).is_ok() {
+        BEFORE
+    } else {
+        PACKAGES
+    }
+}
+
 /// The path that the words name, else that of `JOBD_STATUS_FILE`, if it is not empty.
 pub fn named_path(host: &HostRuntime, named: &Option<Text>) -> Result<Option<String>, AllocError> {
     if let Some(path) = named {
@@ -139,15 +186,20 @@ pub fn read_standing(
     };
     let lines = lines_of(alloc, bytes.as_slice(), asked);
     drop(bytes);
-    standing_of(host, alloc, lines?)
+    standing_of(host, alloc, path, lines?)
 }
 
 // The file of these lines, if they are as many as the first one says.
-fn standing_of(host: &HostRuntime, alloc: Global, lines: Lines) -> Result<Standing, Trouble> {
+fn standing_of(
+    host: &HostRuntime,
+    alloc: Global,
+    path: &str,
+    lines: Lines,
+) -> Result<Standing, Trouble> {
     let found = match lines.read.first() {
         Some(first) => match first.launcher() {
             Ok(launcher) if launcher.jobs.saturating_add(1) == lines.count => {
-                Ok(life_of(host, alloc, &launcher))
+                around_of(host, alloc, path, &launcher)
             }
             Ok(_) => Err(Trouble::NotWhole),
             Err(fault) => Err(Trouble::Line(1, fault)),
@@ -155,11 +207,24 @@ fn standing_of(host: &HostRuntime, alloc: Global, lines: Lines) -> Result<Standi
         None => Err(Trouble::NotWhole),
     };
     match found {
-        Ok(life) => Ok(Standing { lines, life }),
+        Ok((life, boot)) => Ok(Standing { lines, life, boot }),
         Err(trouble) => {
             drop(lines);
             Err(trouble)
         }
+    }
+}
+
+// Whether the launcher lives, and what was written of its boot.
+fn around_of(
+    host: &HostRuntime,
+    alloc: Global,
+    path: &str,
+    launcher: &LauncherStatus<'_>,
+) -> Result<(Life, Boot), Trouble> {
+    match boot_of(host, alloc, path, launcher) {
+        Ok(boot) => Ok((life_of(host, alloc, launcher), boot)),
+        Err(_) => Err(Trouble::NoMemory),
     }
 }
 
@@ -186,6 +251,21 @@ fn lines_of(alloc: Global, bytes: &[u8], asked: &[Text]) -> Result<Lines, Troubl
 }
 
 impl Lines {
+    // Whether it has a job of this label.
+    fn have(&self, label: &str) -> bool {
+        for other in &self.labels {
+            if other.as_str() == label {
+                return true;
+            }
+        }
+        for line in &self.read {
+            if has_label(line, label) {
+                return true;
+            }
+        }
+        false
+    }
+
     fn add(
         &mut self,
         alloc: Global,
@@ -244,6 +324,13 @@ fn other_label(
     match room.label_in(text)? {
         Some(label) if !is_asked(asked, label) => Ok(Some(Text::copy_of(alloc, label)?)),
         _ => Ok(None),
+    }
+}
+
+fn has_label(line: &StatusLine, label: &str) -> bool {
+    match line.job() {
+        Ok(job) => job.label == label,
+        Err(_) => false,
     }
 }
 

@@ -10,6 +10,7 @@ ghost use Rattle.status_page.specs.Rows.{is_asked, state_word, TellsRows};
 use crate::cells::cut_in_the_middle;
 use crate::clocks::{StartWhen, gone_on, within_limits};
 use crate::head::add_head;
+use crate::left_out::add_left_out;
 use crate::rows::{Next, Row, ShownState, row_of, word_of};
 use crate::standing::Standing;
 use crate::throttles::second_told;
@@ -41,7 +42,7 @@ pub struct Look {
 }
 
 /// The table as of a second: what is told of the launcher, a head, and a line for each of the named jobs that the file has, or for each of its
-/// jobs, in the file's order.
+/// jobs, in the file's order; then one for each definition that the boot left out.
 pub fn table_text(
     alloc: Global,
     standing: &Standing,
@@ -54,7 +55,7 @@ pub fn table_text(
     drop(zone);
     match rows {
         Ok(rows) => {
-            let text = shown_text(alloc, standing, rows.as_slice(), at, look);
+            let text = shown_text(alloc, standing, labels, rows.as_slice(), at, look);
             drop(rows);
             text
         }
@@ -66,6 +67,7 @@ pub fn table_text(
 fn shown_text(
     alloc: Global,
     standing: &Standing,
+    labels: &[Text],
     rows: &[Row<'_>],
     at: Reading,
     look: Look,
@@ -77,6 +79,7 @@ fn shown_text(
     let mut page = Page::new(alloc, &zone, told_as_of(standing, at, look.second));
     add_head(&mut page, standing, look.second);
     add_rows(&mut page, rows, look);
+    let _count = add_left_out(&mut page, standing, labels);
     let text = page.into_text();
     drop(zone);
     text

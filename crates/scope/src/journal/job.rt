@@ -82,6 +82,7 @@ impl KeptJob {
         if self.def.is_some() {
             self.record.lose(at);
         }
+        self.record.follow();
         drop(self.def.take());
         drop(self.text.take());
     }
@@ -113,6 +114,10 @@ pub(crate) struct Record {
     /// When the first TERM, and when the last KILL, was ordered for the present run.
     pub(crate) term: Option<Reading>,
     pub(crate) kill: Option<Reading>,
+    /// Whether this is its first load under its launcher.
+    pub(crate) is_first: bool,
+    /// Whether it was lost with a launcher before.
+    was_lost: bool,
     /// Whether it is started again after each end with code 0.
     pub(crate) is_kept_alive: bool,
     /// How many of its last runs ended one after another with code 0 within a second.
@@ -143,6 +148,8 @@ impl Record {
             is_lost: false,
             term: None,
             kill: None,
+            is_first: true,
+            was_lost: false,
             is_kept_alive: false,
             quick_ends: 0,
             idle: at,
@@ -157,6 +164,7 @@ impl Record {
         let mut record = Record::new(self.serial, at);
         record.gone = self.gone;
         record.totals = self.totals;
+        record.is_first = self.was_lost;
         record
     }
 
@@ -312,6 +320,11 @@ impl Record {
         self.totals = self.totals_at(true, at);
         self.current = None;
         self.gone = at;
+    }
+
+    /// Its launcher is gone, whether it was loaded then or not.
+    pub(crate) fn follow(&mut self) {
+        self.was_lost = true;
     }
 
     /// It is gone.

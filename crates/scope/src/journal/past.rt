@@ -6,7 +6,7 @@ use crate::journal::news::News;
 use crate::journal::run::JobRun;
 use history_model::Reading;
 use job_defs::Def;
-use status_page::{gone_on, within_limits};
+use status_page::{Down, gone_on, within_limits};
 use std::alloc::{AllocError, Global};
 use std::collections::{BTreeMap, VecDeque};
 use std::mem;
@@ -38,6 +38,8 @@ pub(crate) struct Past {
     /// How many questions were kept, and which of them asked for the last shutdown, and when.
     asks: u64,
     shut_down: Option<(u64, Reading)>,
+    /// Between which seconds no launcher ran before this one, if one ran before.
+    pub(crate) down: Option<Down>,
 }
 
 impl Past {
@@ -53,6 +55,7 @@ impl Past {
             serial: 0,
             asks: 0,
             shut_down: None,
+            down: None,
         }
     }
 
@@ -71,8 +74,18 @@ impl Past {
         self.dropped = 0;
     }
 
-    /// It goes on where that of a launcher before ended: what was counted stays, and what was loaded at this reading of that launcher is gone.
-    pub(crate) fn follow(&mut self, before: &mut Past, last: Reading) {
+    /// It goes on at the second where that of a launcher before ended: what was counted stays, and what was loaded at this last reading of that launcher is
+    /// gone. A launcher that was asked for a shutdown starts nothing from then on.
+    pub(crate) fn follow(&mut self, before: &mut Past, last: Reading, now: Reading) {
+        let since = match before.shut_down {
+            Some((_, at)) => at.wall,
+            None => last.wall,
+        };
+        self.down = Some(Down {
+            since,
+            until: now.wall,
+            loaded: now.wall,
+        });
         mem::swap(&mut self.jobs, &mut before.jobs);
         mem::swap(&mut self.runs, &mut before.runs);
         self.dropped = before.dropped;

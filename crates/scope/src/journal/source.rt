@@ -194,8 +194,7 @@ fn add_path(
     }
     let is_past = match of.task {
         Task::Log => !of.follows,
-        Task::Runs | Task::Picture => true,
-        Task::Why => of.moments.at.is_some(),
+        Task::Runs | Task::Picture | Task::Why => true,
         _ => false,
     };
     let alloc = host.alloc();

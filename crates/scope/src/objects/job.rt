@@ -93,6 +93,7 @@ pub(crate) fn put_job(
         Field("state", Text(beside.state)),
         Field("causes", beside.causes),
         Field("fault", fault_value(beside.fault)),
+        Field("minute_passed", minute_of(beside.fault)),
         Field("starts", Number(record.starts)),
         code,
         signal,
@@ -147,6 +148,15 @@ fn fault_value(fault: Option<Fault>) -> Value<'static> {
         Some(Fault::Ended(_)) => Text("ended"),
         Some(Fault::NotRunning) => Text("not_running"),
         Some(Fault::LauncherGone) => Text("launcher_gone"),
+        Some(Fault::Missed(_)) => Text("minute_passed"),
         None => Absent,
+    }
+}
+
+// The minute that passed while no launcher ran, if that is the fault.
+fn minute_of(fault: Option<Fault>) -> Value<'static> {
+    match fault {
+        Some(Fault::Missed(minute)) => Moment(minute),
+        _ => Absent,
     }
 }

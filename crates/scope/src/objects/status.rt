@@ -4,6 +4,7 @@ ghost use Rattle.std.specs.Prelude.{◌≡◌};
 ghost use Rattle.status_page.specs.Rows.{state_word};
 
 use crate::objects::job::{Around, around_file};
+use crate::objects::left_out::put_left_out;
 use crate::objects::lines::{end_of, number_of};
 use calendar_due::Zone;
 use json_lines::Value::{Absent, Moment, Number, Text};
@@ -57,6 +58,7 @@ fn objects_in(
             }
         }
     }
+    let _count = put_left_out(&mut page, standing, of.words.as_slice(), around);
     let text = page.into_text();
     drop(shown);
     text

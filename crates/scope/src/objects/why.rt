@@ -6,9 +6,10 @@ use crate::journal::labels::KnownLabel;
 use crate::journal::reader::OpenJournal;
 use crate::objects::causes::causes_list;
 use crate::objects::job::{Around, Beside, around_file, around_journal, put_job, put_unloaded};
-use crate::texts::failing::fault_in;
+use crate::objects::left_out::put_left_out;
+use crate::texts::failing::job_fault;
 use crate::texts::since::start_second;
-use crate::texts::standing::{file_fault, record_of, told_of};
+use crate::texts::standing::{line_fault, record_of, told_of};
 use crate::texts::told::ToldJob;
 use crate::texts::why::{asked_labels, throttle_shown, told_job};
 use calendar_due::Zone;
@@ -68,7 +69,7 @@ fn put_known(
         }
         return false;
     };
-    let fault = fault_in(&facts, &job.record, around.may_live);
+    let fault = job_fault(journal, job, &facts, around.may_live);
     if fault.is_some() || !is_failing {
         let told = told_job(journal, job, def, &facts, page.now);
         let beside = Beside {
@@ -175,7 +176,7 @@ fn objects_in(
     for line in standing.jobs() {
         if let Ok(job) = line.job() {
             if is_asked(of.words.as_slice(), job.label) {
-                let fault = file_fault(&job, around.may_live);
+                let fault = line_fault(alloc, standing, line, &job, zone)?;
                 if fault.is_some() || !of.is_failing {
                     let beside = Beside {
                         state: "unknown",
@@ -193,6 +194,8 @@ fn objects_in(
             }
         }
     }
+    let left_out = put_left_out(&mut page, standing, of.words.as_slice(), around);
+    count = count.saturating_add(left_out);
     let text = page.into_text();
     drop(shown);
     match text {

@@ -4,12 +4,13 @@ use crate::age::{AsOf, add_head, reading_as_of};
 use crate::journal::job::{KeptJob, Record};
 use crate::journal::reader::OpenJournal;
 use crate::journal::run::RunEnd;
+use crate::texts::standing::missed_fault;
 use crate::writer::Writer;
 use calendar_due::Zone;
 use history_model::{Ended, Text};
 use run_times::Page;
 use status_file::JobFacts;
-use status_page::{Failing, Fault, LastEnd, add_failing, fault_of, is_asked};
+use status_page::{Failing, Fault, LastEnd, add_failing, fault_of, is_asked, passed_minute};
 use std::alloc::{AllocError, Global};
 
 /// A line for each loaded job of the journal, or of those named, that fails, and how many there are.
@@ -51,7 +52,7 @@ fn add_if_failing(
         return false;
     };
     let refused = job.record.refused_at();
-    let Some(fault) = fault_in(&facts, &job.record, may_live) else {
+    let Some(fault) = job_fault(journal, job, &facts, may_live) else {
         return false;
     };
     let ended = match &job.record.last {
@@ -71,8 +72,33 @@ fn add_if_failing(
     true
 }
 
-/// Why a job is told as failing, if it is, by what is kept of its past.
-pub(crate) fn fault_in(facts: &JobFacts<'_>, record: &Record, may_live: bool) -> Option<Fault> {
+/// Why a loaded job is told as failing, if it is: also since a minute of its calendar passed while no launcher ran.
+pub(crate) fn job_fault(
+    journal: &OpenJournal,
+    job: &KeptJob,
+    facts: &JobFacts<'_>,
+    may_live: bool,
+) -> Option<Fault> {
+    match fault_in(facts, &job.record, may_live) {
+        Some(fault) => Some(fault),
+        None => missed_fault(missed_by(journal, job)),
+    }
+}
+
+/// The minute of its calendar that passed while no launcher ran, if this is the job's first load under the launcher, and it was not started since.
+pub(crate) fn missed_by(journal: &OpenJournal, job: &KeptJob) -> Option<u64> {
+    let def = job.def.as_ref()?;
+    let has_started = !job.record.is_first || job.record.starts > 0;
+    passed_minute(
+        def.calendar(),
+        &journal.zone,
+        has_started,
+        journal.past.down,
+    )
+}
+
+// Why a job is told as failing, if it is, by what is kept of its past.
+fn fault_in(facts: &JobFacts<'_>, record: &Record, may_live: bool) -> Option<Fault> {
     let is_refused = record.refused_at().is_some();
     fault_of(may_live, &facts.reasons, is_refused, last_end_in(record))
 }

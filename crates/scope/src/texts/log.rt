@@ -6,6 +6,7 @@ use crate::journal::reader::OpenJournal;
 use crate::journal::run::JobRun;
 use crate::journal::waiting::Wait;
 use crate::texts::causes::throttle_of;
+use crate::texts::failing::missed_by;
 use crate::texts::words::{asked_name, demand_words, end_words, refusal_name, refusal_words};
 use history_model::{DemandKind, Reading, Refusal, Wants};
 use pace::Signal;
@@ -42,7 +43,25 @@ pub(crate) fn add_lines(
             };
             let until = until_of(journal, news, page.now);
             add_news(page, news, path, until);
+            add_missed(page, journal, news);
         }
+    }
+}
+
+// Behind a load stands that a minute of its calendar passed while no launcher ran, if one did.
+fn add_missed(page: &mut Page<'_>, journal: &OpenJournal, news: &News) {
+    let missed = match news.what {
+        What::Loaded => match journal.past.jobs.get(news.label.as_str()) {
+            Some(job) => missed_by(journal, job),
+            None => None,
+        },
+        _ => None,
+    };
+    if let Some(minute) = missed {
+        page.add(
+            "$  $: $ passed while no launcher ran\n",
+            &[Now, Text(news.label.as_str()), Time(minute)],
+        );
     }
 }
 

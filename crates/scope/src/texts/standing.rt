@@ -12,10 +12,13 @@ use run_times::Filling::{Number, Text, Time};
 use run_times::Page;
 use status_file::{DisabledBy, JobNote, JobStatus, RunEnd as EndOfRun, StatusLine};
 use status_page::{
-    Failing, Fault, Standing, add_failing, add_head, fault_of, gone_on, is_asked, is_crash,
-    last_end_of, reading_of, told_as_of, within_limits,
+    Down, Failing, Fault, Standing, add_failing, add_head, add_left_out, fault_of, gone_on,
+    is_asked, is_crash, last_end_of, passed_minute, reading_of, told_as_of, within_limits,
 };
 use std::alloc::{AllocError, Global};
+
+/// A job is in the file at most so many seconds after its load.
+const WRITTEN: u64 = 2;
 
 /// For each job of the file, or for those named: its state, a line for each thing that keeps it from a start or wants it, how it ended last, that its
 /// last start was refused, with the system's reason, and when it starts, told at a second. Moments are shown in the launcher's zone or in UTC.
@@ -56,6 +59,7 @@ fn text_in(
             }
         }
     }
+    let _count = add_left_out(&mut page, standing, labels);
     let text = page.into_text();
     drop(shown);
     text
@@ -74,6 +78,7 @@ fn add_job(
     if standing.life.may_live() {
         match line.calendar(page.alloc) {
             Ok(entries) => {
+                let missed = missed_in(&job.note, entries.as_slice(), zone, standing.boot.down);
                 add_living(
                     page,
                     zone,
@@ -83,6 +88,7 @@ fn add_job(
                     reading_of(standing),
                     clock,
                 );
+                add_missed(page, missed);
                 drop(entries);
             }
             Err(_) => page.ink.refuse(),
@@ -214,7 +220,29 @@ fn run_ended(note: &JobNote<'_>, end: EndOfRun) -> JobRun {
     told
 }
 
-/// A line for each job of the file, or of those named, that fails, and how many there are.
+/// Adds that a minute of a job's calendar passed while no launcher ran, if one did.
+pub(crate) fn add_missed(page: &mut Page<'_>, missed: Option<u64>) {
+    if let Some(minute) = missed {
+        page.add(
+            "  $ passed while no launcher ran, and it was not started since.\n",
+            &[Time(minute)],
+        );
+    }
+}
+
+/// The minute of its calendar that passed while no launcher ran, if the job was loaded at the boot, and not started since.
+pub(crate) fn missed_in(
+    note: &JobNote<'_>,
+    entries: &[Entry],
+    zone: &Zone,
+    down: Option<Down>,
+) -> Option<u64> {
+    let down = down?;
+    let has_started = note.starts > 0 || note.since.wall > down.loaded.saturating_add(WRITTEN);
+    passed_minute(entries, zone, has_started, Some(down))
+}
+
+/// A line for each job of the file, or of those named, that fails, and for each definition that the boot left out, and how many there are.
 pub(crate) fn failing_in(
     alloc: Global,
     standing: &Standing,
@@ -222,34 +250,64 @@ pub(crate) fn failing_in(
     is_utc: bool,
     second: u64,
 ) -> Result<(String, u64), AllocError> {
-    let zone = standing.zone(alloc, is_utc)?;
+    let zone = standing.zone(alloc, false)?;
+    let text = failing_by(alloc, standing, labels, is_utc, second, &zone);
+    drop(zone);
+    text
+}
+
+// The lines, by the launcher's zone, in which its jobs' calendars are.
+fn failing_by(
+    alloc: Global,
+    standing: &Standing,
+    labels: &[history_model::Text],
+    is_utc: bool,
+    second: u64,
+    zone: &Zone,
+) -> Result<(String, u64), AllocError> {
+    let shown = standing.zone(alloc, is_utc)?;
     let last = reading_of(standing);
-    let mut page = Page::new(alloc, &zone, told_as_of(standing, last, second));
+    let mut page = Page::new(alloc, &shown, told_as_of(standing, last, second));
     add_head(&mut page, standing, second);
     let mut count: u64 = 0;
     for line in standing.jobs() {
         if let Ok(job) = line.job() {
-            if is_asked(labels, job.label) && add_if_failing(&mut page, standing, &job) {
+            if is_asked(labels, job.label)
+                && add_if_failing(&mut page, standing, line, &job, zone)
+            {
                 count = count.saturating_add(1);
             }
         }
     }
+    let left_out = add_left_out(&mut page, standing, labels);
+    count = count.saturating_add(left_out);
     let text = page.into_text();
-    drop(zone);
+    drop(shown);
     match text {
         Ok(text) => Ok((text, count)),
         Err(error) => Err(error),
     }
 }
 
-fn add_if_failing(page: &mut Page<'_>, standing: &Standing, job: &JobStatus<'_>) -> bool {
+fn add_if_failing(
+    page: &mut Page<'_>,
+    standing: &Standing,
+    line: &StatusLine,
+    job: &JobStatus<'_>,
+    zone: &Zone,
+) -> bool {
     let note = &job.note;
     let (refused, reason) = match &note.refused {
         Some(start) if start.run == note.run => (Some(start.at), start.reason),
         _ => (None, None),
     };
-    let Some(fault) = file_fault(job, standing.life.may_live()) else {
-        return false;
+    let fault = match line_fault(page.alloc, standing, line, job, zone) {
+        Ok(Some(fault)) => fault,
+        Ok(None) => return false,
+        Err(_) => {
+            page.ink.refuse();
+            return false;
+        }
     };
     let ended = match note.last_end {
         Some(end) => Some(end.ended),
@@ -268,8 +326,38 @@ fn add_if_failing(page: &mut Page<'_>, standing: &Standing, job: &JobStatus<'_>)
     true
 }
 
-/// Why a job of a file is told as failing, if it is.
-pub(crate) fn file_fault(job: &JobStatus<'_>, may_live: bool) -> Option<Fault> {
+/// Why a job of a file is told as failing, if it is: also since a minute of its calendar passed while no launcher ran.
+pub(crate) fn line_fault(
+    alloc: Global,
+    standing: &Standing,
+    line: &StatusLine,
+    job: &JobStatus<'_>,
+    zone: &Zone,
+) -> Result<Option<Fault>, AllocError> {
+    let fault = file_fault(job, standing.life.may_live());
+    if fault.is_some() || standing.boot.down.is_none() {
+        return Ok(fault);
+    }
+    match line.calendar(alloc) {
+        Ok(entries) => {
+            let minute = missed_in(&job.note, entries.as_slice(), zone, standing.boot.down);
+            drop(entries);
+            Ok(missed_fault(minute))
+        }
+        Err(_) => Err(AllocError),
+    }
+}
+
+/// That a minute passed, as a fault.
+pub(crate) fn missed_fault(minute: Option<u64>) -> Option<Fault> {
+    match minute {
+        Some(minute) => Some(Fault::Missed(minute)),
+        None => None,
+    }
+}
+
+// Why a job of a file is told as failing, if it is, by its runs.
+fn file_fault(job: &JobStatus<'_>, may_live: bool) -> Option<Fault> {
     let note = &job.note;
     let is_refused = match &note.refused {
         Some(start) => start.run == note.run,

@@ -8,7 +8,9 @@ use crate::journal::run::JobRun;
 use crate::texts::cause_lines::add_causes;
 use crate::texts::causes::throttle_of;
 use crate::texts::coming::calendar_next;
+use crate::texts::failing::missed_by;
 use crate::texts::since::{add_coming, reasons_then};
+use crate::texts::standing::add_missed;
 use crate::texts::told::ToldJob;
 use crate::texts::words::{asked_name, end_words, refusal_words};
 use calendar_due::Zone;
@@ -138,6 +140,7 @@ fn add_job<'x>(
     let told = told_job(journal, job, def, &facts, page.now);
     let is_idle = add_stand(page, label, &facts, &told);
     add_past(page, &job.record);
+    add_missed(page, missed_by(journal, job));
     add_background(page, &job.record);
     add_inert(page, def.not_acted_on());
     add_label(page, label, journal.past.labels.of(label));

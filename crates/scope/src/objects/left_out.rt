@@ -1,0 +1,36 @@
+//! The definitions that the boot left out, as objects.
+
+use crate::objects::job::Around;
+use crate::objects::lines::text_of;
+use json_lines::Value::{Moment, Text};
+use json_lines::{Field, put_line};
+use run_times::Page;
+use status_page::{LeftOut, Standing, is_told};
+
+/// Adds an object for each definition that the boot left out, or for those that words mean, and answers how many there are.
+pub(crate) fn put_left_out(
+    page: &mut Page<'_>,
+    standing: &Standing,
+    words: &[history_model::Text],
+    around: Around,
+) -> u64 {
+    let mut count: u64 = 0;
+    for file in &standing.boot.left_out {
+        if is_told(standing, file, words) {
+            put_file(page, file, around);
+            count = count.saturating_add(1);
+        }
+    }
+    count
+}
+
+fn put_file(page: &mut Page<'_>, file: &LeftOut, around: Around) {
+    let fields = [
+        Field("state", Text("not_loaded")),
+        Field("file_label", text_of(file.label())),
+        Field("reason", Text(file.reason())),
+        Field("as_of", Moment(around.as_of)),
+        Field("launcher", around.launcher),
+    ];
+    put_line(page, "file", file.path(), &fields);
+}
