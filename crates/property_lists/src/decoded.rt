@@ -31,6 +31,31 @@ pub(crate) fn add_decoded<'a>(text: &'a str, into: &mut String) -> Result<(), Wr
     Ok(())
 }
 
+/// How many bytes stand before what `add_decoded` refuses first in the text; all of it, if it refuses nothing.
+pub(crate) fn front_of_wrong(text: &str) -> usize {
+    if let Some(offset) = text.find("]]>") {
+        return offset;
+    }
+    let mut front: usize = 0;
+    let mut is_first = true;
+    for part in text.split('&') {
+        if !is_first && !is_decoded(part) {
+            return front.saturating_sub(1);
+        }
+        front = front.saturating_add(part.len()).saturating_add(1);
+        is_first = false;
+    }
+    text.len()
+}
+
+// Whether what stands behind an `&` begins with an entity.
+fn is_decoded(part: &str) -> bool {
+    match part.split_once(';') {
+        Some((name, _)) => letter_of(name).is_some(),
+        None => false,
+    }
+}
+
 /// Adds the letters as they stand; CR LF and CR are a newline each.
 pub(crate) fn add_plain(text: &str, into: &mut String) -> Result<(), AllocError> {
     let mut is_behind_return = false;

@@ -4,7 +4,7 @@ ghost use Rattle.std.specs.Prelude.{◌≡◌, ◌≤◌, length, Some, IfOk, On
 ghost use Rattle.serde_json.specs.Data.{Data};
 ghost use Rattle.json_kinds.specs.Json.{json_in};
 
-use crate::decoded::{add_decoded, add_plain, is_none};
+use crate::decoded::{add_decoded, add_plain, front_of_wrong, is_none};
 use crate::elements::{Element, Leaf, element_named};
 use crate::fault::{ListFault, Wrong};
 use crate::integers::{Integer, integer_of};
@@ -193,7 +193,8 @@ fn read_all<'a>(text: &'a str, making: &mut Making<'a>) -> Option<(Wrong<'a>, us
             }
             Ok((mark, behind)) => {
                 if let Err(wrong) = take(making, mark) {
-                    return Some((wrong, left));
+                    let front = front_of(mark, making.reading.is_some());
+                    return Some((wrong, left.saturating_sub(front)));
                 }
                 rest = behind;
             }
@@ -201,6 +202,18 @@ fn read_all<'a>(text: &'a str, making: &mut Making<'a>) -> Option<(Wrong<'a>, us
         }
     }
     Some((Wrong::Because("it has no end", ""), 0))
+}
+
+// How many bytes of a text stand before what is wrong in it: inside of an element with a text, or between elements.
+fn front_of(mark: Mark<'_>, is_inside: bool) -> usize {
+    match mark {
+        Mark::Text(text) if is_inside => front_of_wrong(text),
+        Mark::Text(text) | Mark::Plain(text) if !is_inside => {
+            text.len()
+                .saturating_sub(text.trim_start_matches(is_blank).len())
+        }
+        _ => 0,
+    }
 }
 
 fn take<'a>(making: &mut Making<'a>, mark: Mark<'a>) -> Result<(), Wrong<'a>> {
@@ -337,7 +350,7 @@ fn end<'a>(making: &mut Making<'a>, name: &'a str) -> Result<(), Wrong<'a>> {
         (Some(Inside::Value), "dict") => {
             return Err(Wrong::Because("the last <key> of a <dict> has no value", ""));
         }
-        _ => return Err(Wrong::Because("</$> closes nothing that is open", name)),
+        _ => return Err(Wrong::Because("</$> does not end what was begun last", name)),
     };
     put?;
     value_ended(making);
