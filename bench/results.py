@@ -1,6 +1,6 @@
 #!/usr/bin/env python3
-"""Compares the figures of bench/RESULTS.md, and those of README.md beside other supervisors, with bench/history.csv: each has to be the last one under the
-words of its row's first column.
+"""Compares the figures of bench/RESULTS.md, and those of other supervisors there and in README.md, with bench/history.csv: each has to be the last one under the
+words of its row's first column, and no later one may stand there under the same words with other circumstances (QUALIFIER).
 
     bench/results.py            tells which is not; the status is 1 if there is one
     bench/results.py --write    puts the last one in its place
@@ -15,22 +15,35 @@ import sys
 HERE = os.path.dirname(os.path.abspath(__file__))
 PAGE = f"{HERE}/RESULTS.md"
 README = f"{os.path.dirname(HERE)}/README.md"
-# The rows of README with figures: what history.csv says after `1000 jobs under NAME, a quiet machine: `, and the unit; and whose figure stands in which column.
-README_ROWS = {
+# The rows beside other supervisors: what history.csv says after `1000 jobs under NAME, a quiet machine: `, and the unit; and whose figure stands in which column.
+# README has some of them, RESULTS.md all.
+PEER_ROWS = {
     "all started, seconds": ("all started", "s"),
-    "memory beside the jobs, MB": ("memory, shared pages parted", "MB"),
+    "processor to start them, ms": ("processor to start them", "ms"),
+    "status of all jobs, ms": ("status of all, by a program", "ms"),
+    "all stopped, seconds": ("all stopped", "s"),
+    "memory without the jobs, MB": ("memory, shared pages parted", "MB"),
     "a restart after a kill, ms": ("a restart after a kill, median of twenty", "ms"),
     "status of one job, ms": ("status of one, by a program", "ms"),
     "**processor a minute at rest, ms**": ("processor a minute at rest", "ms"),
 }
-README_COLUMNS = {1: "jobd", 2: "runit", 3: "daemontools", 4: "supervisor"}
+README_ROWS = {"all started, seconds", "memory without the jobs, MB", "a restart after a kill, ms", "status of one job, ms", "**processor a minute at rest, ms**"}
+PEER_COLUMNS = {1: "jobd", 2: "runit", 3: "daemontools", 4: "supervisor"}
 NUMBER = re.compile(r"[\d,]+(?:\.\d+)?")
+# Under what circumstances a figure was measured: rows that differ in these alone are of one kind.
+QUALIFIER = re.compile(r", (?:a quiet machine|beside [^,:]*|in memory|on a disk)(?=[,:]|$)|(?<=median of )\w+")
 
 
 def last_figures():
     """The last value under each name and unit."""
     with open(f"{HERE}/history.csv", newline="", encoding="utf-8") as file:
         return {(row["what"], row["unit"]): float(row["value"]) for row in csv.DictReader(file)}
+
+
+def last_kinds():
+    """The words of the last figure of each kind and unit."""
+    with open(f"{HERE}/history.csv", newline="", encoding="utf-8") as file:
+        return {(QUALIFIER.sub("", row["what"]), row["unit"]): row["what"] for row in csv.DictReader(file)}
 
 
 def figures_in(cells, of_lines):
@@ -54,42 +67,53 @@ def compared(line, of_lines, last):
         elif float(found[0].replace(",", "")) != last[what, unit]:
             faults.append(f"{what}: {found[0]}, and the last is {written(last[what, unit])} {unit}")
             cells[place] = written(last[what, unit]) + cells[place][found.end() :]
+        newest = KINDS.get((QUALIFIER.sub("", what), unit), what)
+        if newest != what:
+            faults.append(f"{what}: a later figure of its kind is {newest!r}")
     return f"| {' | '.join(cells)} |".replace("|  |", "| |"), faults
 
 
-def readme_compared(last):
-    """README with the last figures in it, and what differs."""
-    lines, faults, rows = [], [], set()
-    with open(README, encoding="utf-8") as file:
+def peers_compared(path, wanted, last):
+    """The page with the last figures beside other supervisors in it, and what differs."""
+    name_of_page, lines, faults, rows = os.path.basename(path), [], [], set()
+    with open(path, encoding="utf-8") as file:
         for line in file.read().splitlines():
             cells = [it.strip() for it in line.strip("|").split("|")]
-            if line.startswith("| ") and cells[0] in README_ROWS:
+            if line.startswith("| ") and cells[0] in wanted and len(cells) > len(PEER_COLUMNS):
                 rows.add(cells[0])
-                what, unit = README_ROWS[cells[0]]
-                for place, name in README_COLUMNS.items():
+                what, unit = PEER_ROWS[cells[0]]
+                for place, name in PEER_COLUMNS.items():
                     figure = written(last[f"1000 jobs under {name}, a quiet machine: {what}", unit])
                     if cells[place] != figure:
-                        faults.append(f"README: {cells[0]}, {name}: {cells[place]}, and the last is {figure}")
+                        faults.append(f"{name_of_page}: {cells[0]}, {name}: {cells[place]}, and the last is {figure}")
                         cells[place] = figure
                 line = f"| {' | '.join(cells)} |".replace("|  |", "| |")
             lines.append(line)
-    faults += [f"README has no row: {it}" for it in README_ROWS.keys() - rows]
+    faults += [f"{name_of_page} has no row: {it}" for it in wanted - rows]
     return "\n".join(lines) + "\n", faults
+
+
+KINDS = last_kinds()
 
 
 def main(words):
     last, lines, faults, of_lines = last_figures(), [], [], False
-    with open(PAGE, encoding="utf-8") as file:
-        for line in file.read().splitlines():
-            if line.startswith(("| What", "| Line")):
-                of_lines = line.startswith("| Line")
-            elif line.startswith("| "):
-                row, new = compared(line, of_lines, last)
-                # a row with no fault stays as it is written
-                line = row if new else line
-                faults += new
+    page, new = peers_compared(PAGE, set(PEER_ROWS), last)
+    faults += new
+    is_peers = False
+    for line in page.splitlines():
+        if line.startswith("|---"):
             lines.append(line)
-    readme, new = readme_compared(last)
+            continue
+        if line.startswith(("| What", "| Line", "| Of ")):
+            of_lines, is_peers = line.startswith("| Line"), line.startswith("| Of ")
+        elif line.startswith("| ") and not is_peers:
+            row, new = compared(line, of_lines, last)
+            # a row with no fault stays as it is written
+            line = row if new else line
+            faults += new
+        lines.append(line)
+    readme, new = peers_compared(README, README_ROWS, last)
     faults += new
     print("\n".join([*faults, f"{len(faults)} figures are not the last"]))
     if words == ["--write"]:

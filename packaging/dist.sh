@@ -32,7 +32,7 @@ install -m 644 contrib/jobd.service contrib/jobd@.service contrib/jobd-user.serv
 install -m 755 contrib/jobd-run contrib/jobd.openrc contrib/jobd.runit contrib/jobctl-reload contrib/jobd-split-users contrib/from-systemd contrib/from-supervisor contrib/to-kubernetes \
     contrib/jobd-on-slurm contrib/jobd-metrics "$stage/contrib"
 cp -r contrib/ansible "$stage/contrib"
-for page in TUTORIAL COOKBOOK FAQ MOVING OPERATING WHY-NOT-RUNNING DIFFERENCES JSON BEYOND-ONE-MACHINE; do
+for page in TUTORIAL COOKBOOK MOVING OPERATING DAMAGED-STORE WHY-NOT-RUNNING DIFFERENCES JSON BEYOND-ONE-MACHINE; do
     install -m 644 "docs/$page.md" "$stage/docs"
 done
 install -m 644 docs/night.svg "$stage/docs"

@@ -48,7 +48,7 @@ put() {
     install -m 644 completions/fish/jobctl.fish completions/fish/jobd.fish completions/fish/jobscope.fish "$root/share/fish/vendor_completions.d"
     install -m 644 completions/zsh/_jobctl completions/zsh/_jobd completions/zsh/_jobscope "$root/share/zsh/site-functions"
     install -m 644 LICENSE-MIT LICENSE-APACHE "$doc"
-    for name in README SECURITY CHANGELOG docs/TUTORIAL docs/COOKBOOK docs/FAQ docs/MOVING docs/OPERATING docs/WHY-NOT-RUNNING docs/DIFFERENCES docs/JSON docs/BEYOND-ONE-MACHINE; do
+    for name in README SECURITY CHANGELOG docs/TUTORIAL docs/COOKBOOK docs/MOVING docs/OPERATING docs/DAMAGED-STORE docs/WHY-NOT-RUNNING docs/DIFFERENCES docs/JSON docs/BEYOND-ONE-MACHINE; do
         page "$name.md"
     done
     install -d "$doc/docs"

@@ -1,5 +1,5 @@
 #!/bin/sh
-# Prints what stands behind the program in build/: the commit, the kit's line, what the gate said last, and the promises. The first
+# Prints what stands behind the program in build/: the commit, the kit's line, what the gate said last, and the theorems of docs/PROVED.md. The first
 # word is the version of the C library that it asks for, the second the folder that has it without its symbols. `make build` and
 # `make test` leave what they proved in build/proved.txt, `make test` also what it passed in build/gate.txt. If these speak of another
 # program or of another commit, that is said.
@@ -33,4 +33,4 @@ echo "    $sum"
 echo "The same without its symbols, as shipped:"
 (cd "$2" && sha256sum jobd) | sed 's/^/    /'
 echo
-sed -n '/^## What is proved, and what is trusted/,/^## /p' README.md | sed '/^## /d' | sed -n '/^1\. /,$p' | sed '/^10\. /,$d'
+sed -n '/^## The theorems$/,/^## What has to be believed$/p' docs/PROVED.md | sed -e '/^## /d' -e '1{/^$/d}' -e 's/\*\*//g'

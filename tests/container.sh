@@ -31,8 +31,9 @@ machine_copy "$base" "$tree"
 
 mkdir -p "$scratch/context/jobs"
 cp "$package" "$scratch/context/jobd.deb"
-# Holds a lock as long as it lives; one that finds it held says so. Its own children begin and end.
-worker='exec 8>>/var/lib/jobd/worker.lock; flock -n 8 || echo twice >>/var/lib/jobd/twice; trap "echo TERM >>/var/lib/jobd/ends; exit" TERM; while :; do sleep 0.05 8>&-; done'
+# Holds a lock as long as it lives; one that finds it held while the one before lives says so. The lock alone does not tell: if a job is killed in its first
+# milliseconds, its child `flock` still holds it (6 of 400 kills). Its own children begin and end.
+worker='at=/var/lib/jobd/worker; exec 8>>$at.lock; flock -n 8 || { grep -qs ") [^ZX]" "/proc/$(cat $at.pid)/stat" && echo twice >>/var/lib/jobd/twice; flock 8; }; echo $$ >$at.pid; trap "echo TERM >>/var/lib/jobd/ends; exit" TERM; while :; do sleep 0.05 8>&-; done'
 # Leaves orphans behind: one that ends at once, and one that ends soon in a session of its own.
 litter='(sleep 0.01 &); (setsid sleep 0.1 &); (sh -c "sleep 0.05 & exit" &)'
 python3 - "$scratch/context/jobs" "$worker" "$litter" <<'PYTHON'

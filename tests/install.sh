@@ -95,7 +95,7 @@ tries() {
         share/bash-completion/completions/{jobctl,jobd,jobscope} share/fish/vendor_completions.d/{jobctl,jobd,jobscope}.fish \
         share/zsh/site-functions/{_jobctl,_jobd,_jobscope} share/doc/jobd/contrib/{jobd.service,jobd@.service,jobd-user.service,jobd.logrotate,Containerfile} \
         share/doc/jobd/{README.md,SECURITY.md,CHANGELOG.md,LICENSE-MIT,LICENSE-APACHE,OPERATING.md,WHY-NOT-RUNNING.md,DIFFERENCES.md} \
-        share/doc/jobd/{TUTORIAL.md,COOKBOOK.md,FAQ.md,MOVING.md,JSON.md,docs/night.svg} \
+        share/doc/jobd/{TUTORIAL.md,COOKBOOK.md,DAMAGED-STORE.md,MOVING.md,JSON.md,docs/night.svg} \
         share/doc/jobd/examples/{kept_alive.json,kept_alive.jsonl,kept_alive.out,night/journal.jsonl}; do
         [ -f "$root/$path" ] || fail "$1: no file $path"
         [ "$(stat -c %a "$root/$path")" = 644 ] || fail "$1: $path has mode $(stat -c %a "$root/$path")"
@@ -149,7 +149,8 @@ unpacked=$(echo "$scratch"/unpacked/kivgrond-*)
 [ "$(find "$unpacked" -type f ! -name SHA256SUMS | wc -l)" = "$(wc -l <"$unpacked/SHA256SUMS")" ] ||
     fail "a file has no sum"
 grep -q '^Standing: ' "$unpacked/PROVED.txt" || fail "PROVED.txt does not say how the programs stand"
-[ "$(grep -c '^[1-9]\. ' "$unpacked/PROVED.txt")" = 9 ] || fail "PROVED.txt has not nine promises"
+theorems=$(sed -n '/^## The theorems$/,/^## /p' docs/PROVED.md | grep -c '^[0-9]\. ')
+[ "$theorems" -gt 4 ] && [ "$(grep -c '^[0-9]\. ' "$unpacked/PROVED.txt")" = "$theorems" ] || fail "PROVED.txt does not have the $theorems theorems of docs/PROVED.md"
 tries by_archive /usr/local
 tries by_archive /opt/jobd
 echo "install: passed, also from the archive"

@@ -68,8 +68,11 @@ class Place:
         return {**os.environ, **own, **more}
 
     def define(self, label, body="exec sleep 1000", **keys):
-        """A job that is kept alive, and holds a lock as long as it lives; one that finds it held writes `twice`."""
-        line = f"exec 8>>{self.folder}/{label}.lock; flock -n 8 || echo {label} >>{self.folder}/twice; {body}"
+        """A job that is kept alive, and holds a lock as long as it lives; one that finds it held while the one before lives writes `twice`. The lock alone does
+        not tell: if a job is killed in its first milliseconds, its child `flock` still holds it."""
+        at = f"{self.folder}/{label}"
+        alive = f"grep -qs ') [^ZX]' \"/proc/$(cat {at}.pid)/stat\" && echo {label} >>{self.folder}/twice"
+        line = f"exec 8>>{at}.lock; flock -n 8 || {{ {alive}; flock 8; }}; echo $$ >{at}.pid; {body}"
         keys = {"Label": label, "ProgramArguments": ["/bin/sh", "-c", line], "KeepAlive": True, "ThrottleInterval": 0, **keys}
         with open(f"{self.jobs}/{label}.json", "w") as it:
             json.dump(keys, it)
@@ -355,7 +358,7 @@ def left_by_both(place, seconds, factor, told=None):
     if told:
         place.check_told(told)
     # The status file names the job's process, a second later at most.
-    wait_for(lambda: f'"pid":{child},' in open(f"{place.state}/status.jsonl").read(), "the status file")
+    wait_for(lambda: f'"pid":{child},' in open(f"{place.run}/status.jsonl").read(), "the status file")
     keeper.kill()
     keeper.wait()
     os.kill(launcher, signal.SIGKILL)
@@ -404,7 +407,7 @@ def patience_of_what_jobctl_loaded(place):
     place.running("a")
     check(place.control("load", f"{place.folder}/b.json")[0] == 0, "not loaded")
     child, launcher = place.running("b"), place.launchers()[0]
-    wait_for(lambda: f'"pid":{child},' in open(f"{place.state}/status.jsonl").read(), "the status file")
+    wait_for(lambda: f'"pid":{child},' in open(f"{place.run}/status.jsonl").read(), "the status file")
     keeper.kill()
     keeper.wait()
     os.kill(launcher, signal.SIGKILL)
@@ -524,7 +527,7 @@ def look_outs_in_d(place):
             environment = open(path.replace("/stat", "/environ"), "rb").read()
         except OSError:
             continue
-        if words == b"jobd-look-out\0" and row.rpartition(")")[2].split()[0] == "D" and f"JOBD_STATUS_FILE={place.state}".encode() in environment:
+        if words == b"jobd-look-out\0" and row.rpartition(")")[2].split()[0] == "D" and f"JOBD_STATUS_FILE={place.run}".encode() in environment:
             found.append(int(path.split("/")[2]))
     return found
 
@@ -1106,6 +1109,125 @@ def bad_definitions_are_told(place):
         f"{place.jobs}/z.json: not acted on: Nice",
     ):
         place.check_told(row)
+
+
+# ---- what the boot could not load, and what passed while no launcher ran
+
+
+def scope(place, *words):
+    """What `jobscope` answers by the status file, or by the journals that the words name."""
+    source = [] if "--journal" in words else ["--status-file", f"{place.run}/status.jsonl"]
+    run = subprocess.run([f"{options.programs}/jobscope", *words, *source], capture_output=True, text=True, timeout=60, stdin=subprocess.DEVNULL)
+    return run.returncode, run.stdout, run.stderr
+
+
+@scene
+def what_was_not_loaded_is_seen(place):
+    """By status, why and metrics, until it is loaded. A further file of a label that is loaded stays named."""
+    place.define("good")
+    shutil.copy(f"{place.jobs}/good.json", f"{place.jobs}/twice.json")
+    bad = f"{place.jobs}/bad.json"
+    open(bad, "w").write('{"Label": "of-bad"}')
+    place.define("shared")
+    os.chmod(f"{place.jobs}/shared.json", 0o666)
+    open(f"{place.jobs}/a \"b\\.json", "w").write("{")
+    place.start()
+    place.running("good")
+    wait_for(lambda: "jobs loaded" in place.told() and scope(place, "metrics")[0] == 0, f"the loads: {place.told()}")
+    check("jobd_definitions_not_loaded 4\n" in scope(place, "metrics")[1], f"metrics: {scope(place, 'metrics')}")
+    row = f"{bad}: not loaded at the boot: bad definition: Missing ProgramArguments\n"
+    for words in (["why", "--failing"], ["why"], ["status"], ["why", "bad"], ["why", bad], ["why", "of-bad"]):
+        code, text, told = scope(place, *words)
+        check(row in text and code == (2 if "--failing" in words else 0) and not told, f"{words}: {code} {text} {told}")
+    code, text, _ = scope(place, "why", "--failing")
+    for name, why in (("shared", "another user owns it or may write to it"), ("twice", "already loaded"), ('a "b\\', "bad definition: NotJson -")):
+        check(f"{place.jobs}/{name}.json: not loaded at the boot: {why}\n" in text, f"{name}: {text}")
+    rows = [json.loads(it) for it in scope(place, "why", "--failing", "--json")[1].splitlines()]
+    own = [it for it in rows if it.get("file") == bad]
+    check(own and own[0]["state"] == "not_loaded" and own[0]["file_label"] == "of-bad", f"objects: {rows}")
+    check(scope(place, "why", "nobody")[0] == 65, "a word that means nothing")
+    open(bad, "w").write('{"Label": "of-bad", "ProgramArguments": ["/bin/sleep", "1000"]}')
+    check(place.control("load", bad)[0] == 0, "it is not loaded")
+    wait_for(lambda: "jobd_definitions_not_loaded 3\n" in scope(place, "metrics")[1], f"that it is loaded: {scope(place, 'metrics')}")
+    check(bad not in scope(place, "why", "--failing")[1], "it is named though it is loaded")
+
+
+def over_a_minute(place, **more):
+    """A launcher is asked for a shutdown before a minute of a job's calendar, and one job takes until after it; then it is started anew. The minute's words."""
+    at = (int(time.time()) + 12) // 60 * 60 + 60
+    time.sleep(max(0, at - 50 - time.time()) if at - time.time() > 70 else 0)
+    minute = time.localtime(at)
+    place.define("nightly", f"echo ran >>{place.folder}/ran", KeepAlive=False, StartCalendarInterval={"Hour": minute.tm_hour, "Minute": minute.tm_min})
+    place.define("slow", f"trap 'while [ $(date +%s) -lt {at + 2} ]; do sleep 0.2; done; exit' TERM; : >{place.folder}/minds; while :; do sleep 0.1; done", ExitTimeOut=120)
+    keeper = place.start()
+    place.running("slow")
+    wait_for(lambda: os.path.exists(f"{place.folder}/minds") and "jobs loaded" in place.told(), "the loads")
+    check(time.time() < at - 2, "this machine is too slow for this scene")
+    while time.time() < at - 5:
+        time.sleep(0.1)
+    keeper.terminate()
+    check(keeper.wait(MOST) == 0 and time.time() >= at, f"status {keeper.returncode}")
+    check(not os.path.exists(f"{place.folder}/ran"), "it ran")
+    place.start(**more)
+    wait_for(lambda: place.told().count("jobs loaded") == 2, "the second loads")
+    return time.strftime("%H:%M", minute)
+
+
+@scene
+def journal_on_an_overlay_is_a_living_launchers(place):
+    """Layers of an overlayfs on two file systems: a file tells another device than /proc/locks. It needs root."""
+    if os.getuid() != 0:
+        return
+    for name in ("low", "high", "state"):
+        os.mkdir(f"{place.folder}/{name}")
+    subprocess.run(["mount", "-t", "tmpfs", "tmpfs", f"{place.folder}/high"], check=True)
+    for name in ("up", "work"):
+        os.mkdir(f"{place.folder}/high/{name}")
+    layers = f"lowerdir={place.folder}/low,upperdir={place.folder}/high/up,workdir={place.folder}/high/work"
+    subprocess.run(["mount", "-t", "overlay", "overlay", "-o", layers, place.state], check=True)
+    try:
+        os.chmod(place.state, 0o700)
+        place.define("a")
+        keeper = place.start()
+        place.running("a")
+        told = scope(place, "why", "--journal", f"{place.state}/journal.jsonl")[1]
+        check("The launcher that writes this journal lives" in told, f"a launcher that lives: {told}")
+        keeper.terminate()
+        check(keeper.wait(MOST) == 0, "status")
+        check("No launcher writes this journal now" in scope(place, "why", "--journal", f"{place.state}/journal.jsonl")[1], "one that ended")
+    finally:
+        subprocess.run(["umount", "-l", place.state, f"{place.folder}/high"], check=True)
+
+
+@scene
+def minute_that_passed_while_nobody_ran_is_seen(place):
+    """Also if the launcher before was still ending its jobs then; until the job is started."""
+    minute = over_a_minute(place)
+    row = re.compile(rf"nightly: (\S+ )?{minute}(:00)? passed while no launcher ran\n")
+    wait_for(lambda: row.search(scope(place, "why", "--failing")[1]), f"that it is named: {scope(place, 'why', '--failing')}", 20)
+    check(scope(place, "why", "--failing")[0] == 2, "status")
+    check(re.search(rf"{minute}(:00)? passed while no launcher ran", scope(place, "why", "nightly")[1]), f"why: {scope(place, 'why', 'nightly')}")
+    own = [json.loads(it) for it in scope(place, "why", "--failing", "--json")[1].splitlines()]
+    check([it["fault"] for it in own if it.get("label") == "nightly"] == ["minute_passed"], f"objects: {own}")
+    journals = ["--journal", f"{place.state}/journal.jsonl.1", "--journal", f"{place.state}/journal.jsonl"]
+    check(re.search(rf"nightly: .*{minute}(:00)? passed while no launcher ran", scope(place, "log", *journals)[1]), f"log: {scope(place, 'log', *journals)}")
+    check(row.search(scope(place, "why", "--failing", *journals)[1]), f"by the journals: {scope(place, 'why', '--failing', *journals)}")
+    wait_for(lambda: "nightly: a minute of its calendar passed while no launcher ran" in place.told(), f"that it is told: {place.told()}")
+    check(not os.path.exists(f"{place.folder}/ran"), "it was started, which nobody asked")
+    check(place.control("start", "nightly")[0] == 0, "no start")
+    wait_for(lambda: not row.search(scope(place, "why", "--failing")[1]), "that it is made up for")
+    check(not row.search(scope(place, "why", "--failing", *journals)[1]), "by the journals, though it is made up for")
+
+
+@scene
+def minute_that_passed_is_made_up_for(place):
+    """JOBD_MISSED=start: once."""
+    over_a_minute(place, JOBD_MISSED="start")
+    wait_for(lambda: os.path.exists(f"{place.folder}/ran"), f"that it runs: {place.told()}", 30)
+    made = "nightly: a minute of its calendar passed while no launcher ran: started"
+    wait_for(lambda: made in place.told(), f"that it is told: {place.told()}")
+    time.sleep(2)
+    check(open(f"{place.folder}/ran").read() == "ran\n", "it ran more than once")
 
 
 @scene

@@ -33,11 +33,12 @@ machine_copy() {
     cp -a --reflink=auto "$1" "$2"
 }
 
-# What both kinds of first processes need is mounted, and the folder $tree is the root.
+# What both kinds of first processes need is mounted, and the folder $tree is the root. /proc/sys is read-only: systemd-sysctl would set the host's own kernel.
 machine_enter='
 set -e
 mount --make-rprivate /; mount --bind "$tree" "$tree"
-mount -t proc proc "$tree/proc"; mount -t tmpfs tmpfs "$tree/run"; mount -t tmpfs tmpfs "$tree/tmp"; mount -t tmpfs -o mode=755 tmpfs "$tree/dev"
+mount -t proc proc "$tree/proc"; mount --bind "$tree/proc/sys" "$tree/proc/sys"; mount -o remount,bind,ro "$tree/proc/sys"
+mount -t tmpfs tmpfs "$tree/run"; mount -t tmpfs tmpfs "$tree/tmp"; mount -t tmpfs -o mode=755 tmpfs "$tree/dev"
 mount -t sysfs -o ro sysfs "$tree/sys"
 if [ -n "$group" ]; then mount -t cgroup2 cgroup2 "$tree/sys/fs/cgroup"; fi
 cd "$tree/dev"

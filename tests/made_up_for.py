@@ -1,5 +1,5 @@
 #!/usr/bin/env python3
-"""Each row of the table "What is made up for" in docs/OPERATING.md, replayed: what starts after a sleep of the machine, a jump of the wall
+"""Each row of the table "Catch-up" in docs/OPERATING.md, replayed: what starts after a sleep of the machine, a jump of the wall
 clock, and a restart of the launcher.
 
     made_up_for.py [FOLDER]     FOLDER holds jobd (build/ if absent)

@@ -16,14 +16,16 @@ and contrib/, and bench/RESULTS.md. What is looked for:
 - A contract that a page prints, indented by four spaces, has to stand in a source: the head of the function, if it is printed, and each of the
   clauses that are printed, word for word but for the white space.
 - A file that a code span names by its ending, as `due.rt`, has to be there.
-- Each wrong body has to be named in a document, or the edit that it is a part of. They stand in crates/CRATE/must-fail/ and in
-  tests/wrong_bodies/CRATE/. One of must-fail/ has no parts: the gate would try them together, and pass all if it refuses one.
+- Each wrong body has to have a row in tests/wrong_bodies/RESULTS.csv, which says what refused it, or to be named in a document, as one that is not
+  tried yet. They stand in crates/CRATE/must-fail/ and in tests/wrong_bodies/CRATE/. One of must-fail/ has no parts: the gate would try them
+  together, and pass all if it refuses one.
 - Where a comment names specs/NAME or proofs/NAME, its crate has to have that file.
 - A file that a drawing names, as outside/order.rt, has to be there, below src/ of that crate.
 - No row of a table in the pages that a reader begins with (SHORT) is longer than 200 characters.
 
 One line a fault; the status is 1 if there is one.
 """
+import csv
 import os
 import re
 import sys
@@ -267,9 +269,12 @@ def main():
                 for name in re.findall(r"\b(?:specs|proofs)/[A-Z]\w*", comment.group(2) if comment else ""):
                     if not os.path.exists(f"{TOP}/crates/{crate}/{name}.antt"):
                         faults.append(f"{os.path.relpath(path, TOP)}:{number}: there is no {name}.antt")
+    with open(f"{TOP}/tests/wrong_bodies/RESULTS.csv", newline="", encoding="utf-8") as it:
+        tried = {(row["crate"], row["body"]) for row in csv.DictReader(it)}
     for name, edit, path in wrong_bodies():
-        if name not in named and edit not in named:
-            faults.append(f"{path}: no document names {name}")
+        crate = path.split("/")[-2 if path.startswith("tests/") else 1]
+        if not tried & {(crate, name), (crate, f"{edit}.{name}")} and name not in named and edit not in named:
+            faults.append(f"{path}: RESULTS.csv has no row for {name}, and no document names it")
         if name != edit and path.startswith("crates/"):
             faults.append(f"{path}: the gate tries {name} with other parts of this edit, and not alone")
     for path in documents():

@@ -48,7 +48,10 @@ def run(*words, given="", folder=None, **more):
     counts["lines"] += 1
     environment = {key: value for key, value in os.environ.items() if not key.startswith("JOBD_")}
     environment.update(more.get("variables", {}), PATH=f"{PROGRAMS}:{environment['PATH']}")
-    return subprocess.run(words, input=given, cwd=folder, env=environment, capture_output=True, text=True, timeout=60)
+    ran = subprocess.run(words, input=given, cwd=folder, env=environment, capture_output=True, text=True, timeout=60)
+    # what programs of `make quick` say of themselves is none of the page's
+    ran.stderr = re.sub(r"(?m)^\w+: not proved \(make quick made it; make build proves it\)\n", "", ran.stderr)
+    return ran
 
 
 def want(what, wanted, got):

@@ -62,16 +62,16 @@ LIMITS = [
     ("bytes of a connection's request", [("socket_demand/src/exchange.rt", r"MAX_REQUEST: usize = ([\d_]+)")]),
     ("clients of the control socket", [("control_socket/src/control.rt", r"CLIENTS: usize = ([\d_]+)")]),
     ("bytes of replies that a control client has not taken", [("control_socket/src/dialogue.rt", r"UNSENT: usize = ([\d_]+)")]),
-    ("lines of a control client in a round", [("control_socket/src/turn.rt", r"LINES: u32 = ([\d_]+)")]),
-    ("milliseconds in a round", [("live_loop/src/round_time.rt", r"LONGEST: u64 = ([\d_]+)"), ("child_edge/src/connections.rt", r"LONGEST: u64 = ([\d_]+)")]),
+    ("lines of a control client in a pass", [("control_socket/src/turn.rt", r"LINES: u32 = ([\d_]+)")]),
+    ("milliseconds in a pass", [("live_loop/src/round_time.rt", r"LONGEST: u64 = ([\d_]+)"), ("child_edge/src/connections.rt", r"LONGEST: u64 = ([\d_]+)")]),
     ("bytes of a line before its newline", [("ctl_protocol/src/feed.rt", r"LINE_LIMIT: usize = ([\d_]+)")]),
-    ("looks at paths in a round", [("live_loop/src/paths.rt", r"LOOKS: u32 = ([\d_]+)")]),
-    ("look-outs that hang", [("look_out/src/hung.rt", r"MOST: usize = ([\d_]+)")]),
+    ("path checks in a pass", [("live_loop/src/paths.rt", r"LOOKS: u32 = ([\d_]+)")]),
+    ("helpers, with those", [("look_out/src/left.rt", r"MOST: usize = ([\d_]+)")]),
     ("descriptors at least", [("child_edge/src/room.rt", r"FEWEST: u64 = ([\d_]+)")]),
     ("labels with a setting", [("override_store/src/known.rt", r"MOST_LABELS: usize = ([\d_]+)")]),
     ("bytes of the store", [("startup/src/looking.rt", r"MOST_BYTES: u64 = ([\d_]+)")]),
     ("bytes of a zone file", [("startup/src/zone.rt", r"MOST_BYTES: u64 = ([\d_]+)"), ("calendar_due/src/zone.rt", r"LONGEST_FILE: usize = ([\d_]+)")]),
-    ("bytes of a text within a line on standard error", [("child_edge/src/words.rt", r"LONGEST: usize = ([\d_]+)")]),
+    ("bytes of a string within a line on standard error", [("child_edge/src/words.rt", r"LONGEST: usize = ([\d_]+)")]),
 ]
 # Numbers elsewhere in the pages: a sentence in which @ stands for the number, and the source.
 NUMBERS = [
@@ -85,23 +85,16 @@ NUMBERS = [
     ("man/jobd.journal.5", "Milliseconds, at most @.", "history_model/src/lib.rt", r"MAX_UP: u64 = ([\d_]+)"),
     ("man/jobd.journal.5", "Unix time, at most @.", "history_model/src/lib.rt", r"MAX_WALL: u64 = ([\d_]+)"),
     ("man/jobd.journal.5", "too many connections : @ wait", "history_model/src/lib.rt", r"MAX_CONNECTIONS: usize = ([\d_]+)"),
-    ("SECURITY.md", "Control clients: @ at a time", "control_socket/src/control.rt", r"CLIENTS: usize = ([\d_]+)"),
-    ("SECURITY.md", "A client gets at most @ lines answered a round", "control_socket/src/turn.rt", r"LINES: u32 = ([\d_]+)"),
-    ("SECURITY.md", "A line has at most @ bytes", "ctl_protocol/src/feed.rt", r"LINE_LIMIT: usize = ([\d_]+)"),
-    ("SECURITY.md", "Of replies that are not read at most @ bytes", "control_socket/src/dialogue.rt", r"UNSENT: usize = ([\d_]+)"),
-    ("SECURITY.md", "of each job at most @ whose request still comes", "job_clients/src/callers.rt", r"CALLERS_OF_A_JOB: usize = ([\d_]+)"),
-    ("SECURITY.md", "of all jobs together @ of the first kind", "job_clients/src/callers.rt", r"CALLERS: usize = ([\d_]+)"),
-    ("SECURITY.md", "A request has at most @ bytes", "socket_demand/src/exchange.rt", r"MAX_REQUEST: usize = ([\d_]+)"),
     ("docs/WHY-NOT-RUNNING.md", "no answer within @ s", "control_client/src/settings.rt", r"PATIENCE: u32 = ([\d_]+)"),
     ("docs/WHY-NOT-RUNNING.md", "`too many jobs` | @ are loaded", "history_model/src/lib.rt", r"MAX_JOBS: usize = ([\d_]+)"),
     ("man/jobscope.1", "up to @; after now", "history_model/src/lib.rt", r"MAX_WALL: u64 = ([\d_]+)"),
-    ("man/jobscope.1", "So many lines are written: @ if it is absent", "scope/src/program.rt", r"const COUNT: u64 = ([\d_]+)"),
+    ("man/jobscope.1", "The number of lines: @ if absent", "scope/src/program.rt", r"const COUNT: u64 = ([\d_]+)"),
     ("man/jobscope.1", "that of the last @ runs", "scope/src/journal/past.rt", r"MOST_RUNS: usize = ([\d_]+)"),
     ("man/jobscope.1", "is asked of a terminal; elsewhere it is @", "status_page/src/width.rt", r"COLUMNS: u16 = ([\d_]+)"),
     ("man/jobscope.1", "if more than @ entries would be needed", "definition_files/src/cron/entries.rt", r"MOST_ENTRIES: usize = ([\d_]+)"),
     ("man/jobscope.1", "a NUL byte or more than @ bytes", "definition_files/src/cron/command.rt", r"LONGEST_COMMAND: usize = ([\d_]+)"),
-    ("man/jobscope.1", "more than @ dictionaries and arrays", "property_lists/src/list.rt", r"DEEPEST: usize = ([\d_]+)"),
-    ("man/jobscope.1", "in one another, or more than @ bytes", "property_lists/src/list.rt", r"LONGEST: usize = ([\d_]+)"),
+    ("man/jobscope.1", "more than @ nested", "property_lists/src/list.rt", r"DEEPEST: usize = ([\d_]+)"),
+    ("man/jobscope.1", "levels, or more than @ bytes", "property_lists/src/list.rt", r"LONGEST: usize = ([\d_]+)"),
 ]
 
 
@@ -218,12 +211,12 @@ PLACES = [
     ("man/jobd-run.8", "a file that another user owns, but root, or that others\nmay write by its mode", "what jobd-run looks at"),
     ("docs/OPERATING.md", "| `/etc/jobd/*.json`, `*.plist` |", "which files jobd-run loads"),
     ("docs/OPERATING.md", "a run adds some 200 bytes", "how fast a journal grows"),
-    ("docs/OPERATING.md", "    sqlite3 damaged/overrides.db .dump |", "how a damaged store is saved"),
+    ("docs/DAMAGED-STORE.md", "    sqlite3 damaged/overrides.db .dump |", "how a damaged store is saved"),
     ("man/jobd.journal.5", "The text of a refusal ends with a newline", "what a reply's text ends with"),
     ("man/jobscope.1", "A fault is one line on standard error", "how a fault is told"),
     ("SECURITY.md", "in the repository", "where faults are told"),
     ("README.md", "Report bugs as issues in the repository", "where to report bugs"),
-    ("packaging/debian/control", "Faults are told in the repository", "where faults are told"),
+    ("packaging/debian/control", "Report bugs in the repository", "where to report bugs"),
 ]
 for path, words, why in PLACES:
     if words not in read(path):

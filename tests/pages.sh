@@ -1,7 +1,7 @@
 #!/usr/bin/env bash
 # The manual pages beside the programs: each subcommand and option of the programs' words stands in their page, and the
 # other way round; so does each key that the reader of definitions knows, with its numbers. VERSION, the programs' source and the pages
-# name one version. page_tables.py compares limits, exit statuses, environment and single places.
+# name one version. page_tables.py compares limits, exit statuses, environment and single places, page_numbers.py the numbers of all pages.
 # If the programs are there, in build/ or in the folder that is the first word, their help is asked too, and page_lines.py types what the
 # pages show. If mandoc is there, the pages are clean under its lint. It is run by hand.
 set -euo pipefail
@@ -227,6 +227,7 @@ else
     echo "pages: mandoc is not here, so its lint was not run"
 fi
 python3 tests/page_tables.py
+python3 tests/page_numbers.py
 if [ -x "$programs/jobd" ] && [ -x "$programs/jobctl" ] && [ -x "$programs/jobscope" ]; then
     python3 tests/page_lines.py "$programs"
 else
@@ -234,7 +235,7 @@ else
 fi
 # ---- figures, and sentences that were mended once
 python3 bench/results.py > /dev/null || { python3 bench/results.py >&2; exit 1; }
-python3 - README.md SECURITY.md docs/WHY-NOT-RUNNING.md docs/OPERATING.md docs/FAQ.md docs/COOKBOOK.md docs/TUTORIAL.md docs/MOVING.md man/*.[158] <<'END'
+python3 - README.md SECURITY.md docs/WHY-NOT-RUNNING.md docs/OPERATING.md docs/DAMAGED-STORE.md docs/COOKBOOK.md docs/TUTORIAL.md docs/MOVING.md man/*.[158] <<'END'
 import re, sys
 
 with open("tests/old_sentences.txt", encoding="utf-8") as it:

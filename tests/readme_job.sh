@@ -1,7 +1,7 @@
 #!/usr/bin/env bash
 # Types the first block of README.md in an empty folder, line by line, and compares what comes with what the page shows. Process ids, dates, times and
 # spans may differ. It is run by hand, after `make build`. The folder of the programs is the first word, or build. With the kit on the PATH and
-# the second word `make`, what `make run` prints is compared too.
+# the second word `make`, what `make run` prints is compared with CONTRIBUTING.md.
 set -euo pipefail
 
 cd "$(dirname "$0")/.."
@@ -35,7 +35,7 @@ if "jobd.sock" in left or os.listdir(f"{folder}/job/spool"):
 print(f"readme_job: {count} lines were typed, and what came is what the page shows")
 END
 if [ "${2:-}" = make ]; then
-    sed -n '/^`make run` prints$/,/^Job /p' README.md | sed -n 's/^    //p' > "$folder/wanted"
+    sed -n '/^`make run` prints$/,/^Job /p' CONTRIBUTING.md | sed -n 's/^    //p' > "$folder/wanted"
     make -s run 2> "$folder/log" > "$folder/came" || { cat "$folder/log" >&2; exit 1; }
     diff "$folder/wanted" "$folder/came" >&2
     echo "readme_job: make run prints what the page shows"

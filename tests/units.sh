@@ -28,7 +28,11 @@ again() {
     dpkg-deb -R "$package" "$scratch/$1"
     sed -i "s/^Version: .*/Version: $2/" "$scratch/$1/DEBIAN/control"
     sed -i "${3:-}" "$scratch/$1/DEBIAN/postinst"
-    [ "$2" != 0.0.0 ] || older_program "$scratch/$1/usr/bin/jobd"
+    if [ "$2" = 0.0.0 ]; then
+        older_program "$scratch/$1/usr/bin/jobd"
+        # Version 0.3.0 has its status file there.
+        sed -i 's|^status_file=.*|status_file=${JOBD_STATUS_FILE-$state/status.jsonl}|' "$scratch/$1/usr/libexec/jobd-run"
+    fi
     dpkg-deb -b "$scratch/$1" "$tree/root/$1.deb" >/dev/null
     rm -rf "${scratch:?}/$1"
 }
@@ -111,6 +115,8 @@ else
     [ -z "$line" ] || fail "told, though the program is the same: $line"
 fi
 [ ! -e "$tree/root/ends" ] || fail "a job got TERM: $(cat "$tree/root/ends")"
+[ -f "$tree/var/lib/jobd/status.jsonl" ] || fail "the launcher before has its status file elsewhere"
+machine_in jobscope status | grep '^elsewhere .*running' >/dev/null || fail "jobscope does not find the file of the launcher before: $(machine_in jobscope status 2>&1)"
 machine_in perl -e 'our %nrconf; do "/etc/needrestart/conf.d/jobd.conf" or die; my @k = keys %{$nrconf{override_rc}};
     for my $unit (qw(jobd.service jobd@redis.service)) { die $unit unless grep { $unit =~ /$_/ && $nrconf{override_rc}{$_} == 0 } @k }
     die "another" if grep { "jobdx.service" =~ /$_/ } @k' || fail "needrestart would restart jobd"
@@ -132,6 +138,7 @@ machine_in systemctl restart jobd
 [[ $(status_of) == '3 jobs loaded, 2 not'* ]] || fail "status: $(status_of)"
 [ "$(sort "$tree/root/ends" | tr '\n' ' ')" = 'asked TERM elsewhere TERM kept TERM ' ] || fail "not ended in order: $(cat "$tree/root/ends")"
 machine_in systemctl is-active -q jobd
+[ ! -e "$tree/var/lib/jobd/status.jsonl" ] || fail "the status file of the launcher before is left"
 cmp <(machine_in cat "/proc/$(launcher)/exe") <(machine_in cat /usr/bin/jobd) || fail "the restart did not start the new program"
 
 # ---- levels, streams, limits, variables
@@ -148,6 +155,21 @@ said 'bad.json: not loaded: bad definition: Missing ProgramArguments' -p warning
 said 'shared.json: not loaded: another user owns it or may write to it' -p warning || fail "what others may write is not told"
 said '3 jobs loaded, 2 not' -p info || fail "the number of jobs is not told"
 if said '3 jobs loaded, 2 not' -p warning; then fail "the number of jobs is a warning"; fi
+# What was not loaded is named until it is.
+seen() { machine_in jobscope "$@" --status-file /run/jobd/status.jsonl; }
+code=0
+seen why --failing >"$scratch/failing" || code=$?
+[ "$code" = 2 ] || fail "jobscope why --failing: status $code"
+grep -q '^/etc/jobd/bad.json: not loaded at the boot: bad definition: Missing ProgramArguments$' "$scratch/failing" || fail "bad.json is not named: $(cat "$scratch/failing")"
+grep -q '^/etc/jobd/shared.json: not loaded at the boot: another user owns it' "$scratch/failing" || fail "shared.json is not named: $(cat "$scratch/failing")"
+seen why bad | grep '^/etc/jobd/bad.json: not loaded' >/dev/null || fail "why bad: $(seen why bad 2>&1)"
+seen metrics | grep -x 'jobd_definitions_not_loaded 2' >/dev/null || fail "metrics: $(seen metrics | grep definitions)"
+define etc/jobd/bad.json '{"Label": "bad", "Program": "/bin/true"}'
+machine_in jobctl load /etc/jobd/bad.json
+counts() { seen metrics | grep -x "jobd_definitions_not_loaded $1"; }
+until_true counts 1
+machine_in jobctl unload /etc/jobd/bad.json
+echo "units: what the boot could not load is named until it is loaded"
 said 'jobd: ready' || fail "the launcher's output is not the unit's"
 rm "$tree"/etc/jobd/{bad,shared,stdout}.json
 [ "$(machine_in systemctl show -p OOMPolicy --value jobd)" = continue ] || fail "OOMPolicy"
@@ -306,6 +328,26 @@ machine_boot "$tree"
 until_true runs kept
 echo "units: a job had 20 seconds at a stop and at a reboot, though the unit waits 8"
 
+# ---- a minute that passes while no launcher runs
+
+mkdir -p "$tree/etc/systemd/system/jobd.service.d"
+printf '[Service]\nEnvironment=JOBD_MISSED=start\n' >"$tree/etc/systemd/system/jobd.service.d/override.conf"
+machine_in systemctl daemon-reload
+at=$((($(date +%s) + 5) / 60 * 60 + 60))
+define etc/jobd/nightly.json "{\"Label\": \"nightly\", \"ProgramArguments\": [\"/bin/sh\", \"-c\", \"echo ran >>/root/nightly\"], \"StartCalendarInterval\": {\"Hour\": $(machine_in date -d "@$at" +%-H), \"Minute\": $(machine_in date -d "@$at" +%-M)}}"
+machine_in systemctl stop jobd
+while [ "$(date +%s)" -le "$at" ]; do sleep 0.5; done
+machine_in systemctl start jobd
+until_true grep -qx ran "$tree/root/nightly"
+said 'nightly: a minute of its calendar passed while no launcher ran: started' || fail "it is not told: $(told | tail)"
+[ "$(wc -l <"$tree/root/nightly")" = 1 ] || fail "a missed run was made up for more than once"
+machine_in jobctl unload /etc/jobd/nightly.json
+rm -r "$tree/etc/jobd/nightly.json" "$tree/etc/systemd/system/jobd.service.d"
+machine_in systemctl daemon-reload
+machine_in systemctl restart jobd
+until_true runs kept
+echo "units: a minute that passed while no launcher ran was made up for, once"
+
 # ---- a user's own systemd
 
 user=$(machine_in sh -c 'useradd -m -s /bin/sh someone && id -u someone')
@@ -338,7 +380,7 @@ old_pid=$(pid_of kept)
 machine_in kill -KILL "$(launcher)"
 anew() { [ -n "$(pid_of kept)" ] && [ "$(pid_of kept)" != "$old_pid" ]; }
 until_true anew
-[ "$(status_of)" = '2 jobs loaded, 0 not' ] || fail "status after a kill: $(status_of)"
+until_true shows '2 jobs loaded, 0 not'
 
 # Seven kills one after another: systemd does not give up.
 for _ in 1 2 3 4 5 6 7; do

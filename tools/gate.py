@@ -1,10 +1,10 @@
 #!/usr/bin/env python3
-"""The gate: `rt ci`, and then the scenes over the program that it proved.
+"""The gate: `rt ci`, then the sentences of the pages, and then the scenes over the program that it proved.
 
     tools/gate.py
 
-Both write as they go. The last line is `N passed, M failed` over both: crates and wrong bodies of `rt ci`, and scenes (tests/scenes/play.py). The scenes are
-not played if `rt ci` failed. Kit 13b leaves no program of Rattle's own compiler; then no scene is played by that one, and it is said.
+All write as they go. The last line is `N passed, M failed` over them: crates and wrong bodies of `rt ci`, one for the sentences of the pages that users read
+(tests/words.py, two seconds), and scenes (tests/scenes/play.py). The scenes are not played if `rt ci` failed. Kit 13b leaves no program of Rattle's own compiler; then no scene is played by that one, and it is said.
 """
 import os
 import re
@@ -34,9 +34,18 @@ def run(words, front):
     return passed, failed or int(ran.returncode != 0)
 
 
+def sentences():
+    """Whether the pages that users read keep to the rules of a sentence: passed and failed."""
+    kept = subprocess.run([sys.executable, "tests/words.py"], cwd=TOP, stdin=subprocess.DEVNULL).returncode == 0
+    return int(kept), int(not kept)
+
+
 def main():
     passed, failed = run(["rt", "ci"], "rt ci")
-    if failed:
+    is_proved = not failed
+    kept, broken = sentences()
+    passed, failed = passed + kept, failed + broken
+    if not is_proved:
         print("the scenes were not played, since rt ci failed")
     else:
         words = [sys.executable, "tests/scenes/play.py", "--by", PROGRAM]

@@ -49,13 +49,14 @@ SAID = r"""
 extern long write(int, const void *, unsigned long);
 extern int strcmp(const char *, const char *);
 extern unsigned long strlen(const char *);
+extern char *getenv(const char *);
 __attribute__((constructor)) static void say(int count, char **words) {
     static const char text[] = ": not proved (make quick made it; make build proves it)\n";
     const char *name = count > 0 ? words[0] : "jobd";
     for (const char *at = name; *at; at++)
         if (*at == '/')
             name = at + 1;
-    if (strcmp(name, "jobd-look-out") != 0) {
+    if (strcmp(name, "jobd-look-out") != 0 && !getenv("QUICK_IS_QUIET")) {
         write(2, name, strlen(name));
         write(2, text, sizeof text - 1);
     }
