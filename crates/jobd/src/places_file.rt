@@ -15,8 +15,8 @@ use std::{env, fs, io, mem};
 /// What names the folder of definitions.
 const JOBS: &str = "JOBD_JOBS";
 
-/// So often it is looked for at most, in milliseconds.
-const PAUSE: u64 = 10 * SECOND;
+/// It is looked for once in so many milliseconds at most.
+const PAUSE: u64 = SECOND;
 
 /// The file, and what it says.
 #[derive(Drop)]
@@ -129,7 +129,7 @@ impl<R: System> PlacesFile<R> {
         }
     }
 
-    /// Writes it again if it is gone, at most every ten seconds.
+    /// Writes it again if it is gone, once a second at most.
     pub(crate) fn keep(&mut self, up: u64) {
         let looked = self.looked.unwrap_or(up);
         if self.looked.is_some() && up < looked.saturating_add(PAUSE) {
