@@ -3,6 +3,7 @@
 
 ghost use Rattle.std.specs.Prelude.{◌≡◌, ◌≤◌, ℕ, List, Option, Some};
 
+use crate::journal_watch::JournalWatch;
 use crate::keeper::Keeper;
 use crate::places_file::PlacesFile;
 use crate::round_edge::{RoundEdge, SleepEdge};
@@ -22,6 +23,7 @@ pub struct StatusEdge<E: RoundEdge, R: System> {
     edge: E,
     file: Option<StandingFile<R>>,
     places: Option<PlacesFile<R>>,
+    journal: Option<JournalWatch<R>>,
     // It is out while the text is written.
     keeper: Option<Keeper>,
     // What the edge told of sleeps first, and last.
@@ -30,11 +32,12 @@ pub struct StatusEdge<E: RoundEdge, R: System> {
 }
 
 impl<E: RoundEdge, R: System> StatusEdge<E, R> {
-    /// The edge, with the file and what keeps it, or with none; and with the file that tells the launcher's places.
+    /// The edge, with the file and what keeps it, or with none; with the file that tells the launcher's places, and the watch on its journal.
     pub(crate) fn new(
         edge: E,
         kept: Option<(StandingFile<R>, Keeper)>,
         places: Option<PlacesFile<R>>,
+        journal: Option<JournalWatch<R>>,
     ) -> StatusEdge<E, R> {
         let (file, keeper) = match kept {
             Some((file, keeper)) => (Some(file), Some(keeper)),
@@ -44,6 +47,7 @@ impl<E: RoundEdge, R: System> StatusEdge<E, R> {
             edge,
             file,
             places,
+            journal,
             keeper,
             before: None,
             slept: 0,
@@ -197,6 +201,9 @@ impl<E: RoundEdge, R: System> RoundEdge for StatusEdge<E, R> {
         if let Some(places) = &mut self.places {
             places.begin();
         }
+        if let Some(journal) = &mut self.journal {
+            journal.begin();
+        }
         self.edge.register(registry, token)
     }
 
@@ -249,6 +256,11 @@ impl<E: RoundEdge, R: System> RoundEdge for StatusEdge<E, R> {
                 return Some(notice);
             }
         }
+        if let Some(journal) = &mut self.journal {
+            if let Some(notice) = journal.next_notice() {
+                return Some(notice);
+            }
+        }
         self.edge.next_notice()
     }
 
@@ -267,6 +279,9 @@ impl<E: RoundEdge, R: System> RoundEdge for StatusEdge<E, R> {
     }
 
     fn note_closing(&mut self) {
+        if let Some(journal) = &mut self.journal {
+            journal.end();
+        }
         if let Some(keeper) = &mut self.keeper {
             keeper.close();
         }
@@ -278,6 +293,9 @@ impl<E: RoundEdge, R: System> RoundEdge for StatusEdge<E, R> {
     fn lend_keeper(&mut self, at: Reading, has_changed: bool) -> Option<Keeper> {
         if let Some(places) = &mut self.places {
             places.keep(at.up);
+        }
+        if let Some(journal) = &mut self.journal {
+            journal.look(at.up);
         }
         let file = self.file.as_mut()?;
         if file.is_due(at, has_changed) {
