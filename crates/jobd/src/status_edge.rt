@@ -26,9 +26,6 @@ pub struct StatusEdge<E: RoundEdge, R: System> {
     journal: Option<JournalWatch<R>>,
     // It is out while the text is written.
     keeper: Option<Keeper>,
-    // What the edge told of sleeps first, and last.
-    before: Option<u64>,
-    slept: u64,
 }
 
 impl<E: RoundEdge, R: System> StatusEdge<E, R> {
@@ -49,19 +46,7 @@ impl<E: RoundEdge, R: System> StatusEdge<E, R> {
             places,
             journal,
             keeper,
-            before: None,
-            slept: 0,
         }
-    }
-}
-
-// From now on this is the reading of what is noted: that of a clock that stands still in sleeps, with the sleep since the first.
-fn note_reading(kept: &mut Option<Keeper>, awake: Reading, slept: u64) {
-    if let Some(keeper) = kept {
-        keeper.notes.at = Reading {
-            up: awake.up.saturating_add(slept),
-            wall: awake.wall,
-        };
     }
 }
 
@@ -162,21 +147,21 @@ impl<E: RoundEdge, R: System> PathEdge for StatusEdge<E, R> {
 
 impl<E: RoundEdge, R: System> ClockEdge for StatusEdge<E, R> {
     fn read(&mut self) -> Result<Reading, EdgeFault> {
-        let answer = self.edge.read();
-        if let Ok(awake) = &answer {
-            let slept = self.slept.saturating_sub(self.before.unwrap_or(self.slept));
-            note_reading(&mut self.keeper, *awake, slept);
-        }
-        answer
+        self.edge.read()
     }
 }
 
 impl<E: RoundEdge, R: System> SleepEdge for StatusEdge<E, R> {
     fn slept(&mut self) -> u64 {
-        let slept = self.edge.slept();
-        self.before = self.before.or(Some(slept));
-        self.slept = slept;
-        slept
+        self.edge.slept()
+    }
+
+    // From now on it is the reading of what is noted.
+    fn note_time(&mut self, at: Reading) {
+        self.edge.note_time(at);
+        if let Some(keeper) = &mut self.keeper {
+            keeper.notes.at = at;
+        }
     }
 }
 
