@@ -6,7 +6,7 @@ namespaces, which root alone can make. What is not here is left out, with a line
 
 Tried: an hourly job starts after a sleep of two hours, once; a job that was given TERM has its whole ExitTimeOut awake before KILL, and the
 sleep counts behind that; beside a job that gets no KILL it counts at once; what the machine slept before the launcher began counts for
-nothing, whichever of the two clocks is ahead. It is run by hand, after `make build`.
+nothing, whichever of the two clocks is ahead. The status file tells runs by the launcher's own readings. It is run by hand, after `make build`.
 """
 import json
 import os
@@ -32,9 +32,10 @@ class Sleeper:
 
     def __init__(self, folder, front=(), **env):
         os.mkdir(folder)
+        os.mkdir(f"{folder}/standing", 0o700)
         self.folder = folder
         self.stage = Stage(types.SimpleNamespace(jobd=[*front, f"{PROGRAMS}/jobd"], jobctl=[f"{PROGRAMS}/jobctl"]), folder)
-        self.stage.serve(env=env)
+        self.stage.serve(env={"JOBD_STATUS_FILE": f"{folder}/standing/status.jsonl", **env})
 
     def control(self, *words):
         run = self.stage.jobctl(words)
@@ -56,6 +57,16 @@ class Sleeper:
     def deaf(self, label, **keys):
         self.load(label, f"trap '' TERM; : >{self.folder}/{label}.deaf; while :; do sleep 0.05; done", RunAtLoad=True, **keys)
         wait_for(lambda: self.has(f"{label}.deaf"), "the job is deaf")
+
+    def standing(self, label):
+        """What the status file says: the launcher's reading, and the job's line."""
+        try:
+            with open(f"{self.folder}/standing/status.jsonl") as it:
+                first, *rest = [json.loads(line) for line in it]
+        except FileNotFoundError:
+            return None
+        jobs = [line["job"] for line in rest if line["job"]["label"] == label]
+        return (first["launcher"]["at"], jobs[0]) if jobs else None
 
     def end(self):
         self.stage.clear()
@@ -85,6 +96,14 @@ def of_library(folder, library):
         launcher.control("stop", "deaf")
         time.sleep(0.5)
         sleep(500 + 2 * HOURS)
+        # What ends meanwhile is told by the launcher's reading, which does not count that sleep yet.
+        launcher.load("beside", ":", RunAtLoad=True)
+
+        def ended():
+            found = launcher.standing("beside")
+            return found if found and found[1]["last_end"] else None
+        at, beside = wait_for(ended, "the status file tells the end of a run")
+        check(beside["last_end"]["ended"]["up"] <= at["up"], f"a run ended at {beside['last_end']}, and the launcher is at {at}")
         while time.monotonic() - begun < 3.8:
             check("pid = " in launcher.control("print", "deaf"), f"KILL came {time.monotonic() - begun:.1f} s after TERM")
             check(launcher.runs("hourly") == 1, "a sleep counts while a job waits for its KILL")
