@@ -40,7 +40,10 @@ pub struct Row<'a> {
     pub since: u64,
     pub last: Option<Ended>,
     pub starts: u64,
+    /// How many of its runs did not end with code 0.
     pub failures: u64,
+    /// How many of its starts were refused.
+    pub refusals: u64,
     /// By the clocks as they count it: it is told by `second_told`.
     pub next: Next,
     /// When it is throttled no longer, if it is.
@@ -64,7 +67,8 @@ pub fn row_of<'a>(
     ensures since { result.since ≡ job.now.note.since.wall }
     ensures last { result.last ≡ last_shown job.now.note.last_end }
     ensures starts { result.starts ≡ job.now.note.starts }
-    ensures failures { result.failures ≡ job.now.note.failures }
+    ensures failures { result.failures ≡ job.now.note.failures - job.now.note.refusals }
+    ensures refusals { result.refusals ≡ job.now.note.refusals }
     ensures next { TellsNext may_live (minute_at zone.now) job.now.facts entries.now at second result.next }
     ensures throttle { EndsThrottle job.now at result.throttle }
 {
@@ -76,7 +80,8 @@ pub fn row_of<'a>(
         since: job.note.since.wall,
         last: last_of(job.note.last_end),
         starts: job.note.starts,
-        failures: job.note.failures,
+        failures: job.note.failures.saturating_sub(job.note.refusals),
+        refusals: job.note.refusals,
         next: next_of(job, entries, zone, may_live, at, second),
         throttle: throttle_of(job, at),
     }

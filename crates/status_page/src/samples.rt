@@ -58,8 +58,8 @@ pub fn sample_of<'a>(row: &Row<'a>, note: &JobNote<'_>) -> JobSample<'a>
     ensures label { result.label ≡ row.now.label }
     ensures running { result.is_running ≡ is_some row.now.process }
     ensures starts { result.starts ≡ row.now.starts }
-    ensures failures { result.failures ≡ row.now.failures - note.now.refusals }
-    ensures refusals { result.refusals ≡ note.now.refusals }
+    ensures failures { result.failures ≡ row.now.failures }
+    ensures refusals { result.refusals ≡ row.now.refusals }
     ensures last_end { result.last_end ≡ end_second note.now.last_end }
     ensures next { result.next_start ≡ next_told row.now.throttle row.now.next }
 {
@@ -67,8 +67,8 @@ pub fn sample_of<'a>(row: &Row<'a>, note: &JobNote<'_>) -> JobSample<'a>
         label: row.label,
         is_running: row.process.is_some(),
         starts: row.starts,
-        failures: row.failures.saturating_sub(note.refusals),
-        refusals: note.refusals,
+        failures: row.failures,
+        refusals: row.refusals,
         last_end: end_second(note.last_end),
         next_start: next_told(row.throttle, row.next),
     }

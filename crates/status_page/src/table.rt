@@ -248,7 +248,7 @@ fn front_text(row: &Row<'_>, columns: usize, around: Around<'_>) -> Result<Strin
     ink.into_text()
 }
 
-// What stands behind the state: the process, since when it stands so, the last end, the starts, the failures, and what comes next.
+// What stands behind the state: the process, since when it stands so, the last end, the starts, how many of them were refused or failed, and what comes next.
 fn end_text(row: &Row<'_>, around: Around<'_>) -> Result<String, AllocError> {
     let mut ink = Ink::new(around.alloc);
     ink.put(if around.has_colour { PLAIN } else { "" });
@@ -262,7 +262,8 @@ fn end_text(row: &Row<'_>, around: Around<'_>) -> Result<String, AllocError> {
     put_moment(&mut ink, around, row.since, WIDTHS[2]);
     put_last(&mut ink, row.last, WIDTHS[3]);
     put_count(&mut ink, Some(row.starts), WIDTHS[4]);
-    put_count(&mut ink, Some(row.failures), WIDTHS[5]);
+    let failed = row.failures.saturating_add(row.refusals);
+    put_count(&mut ink, Some(failed), WIDTHS[5]);
     put_next(&mut ink, around, row);
     ink.into_text()
 }

@@ -37,7 +37,7 @@ pub(crate) struct Totals {
     pub(crate) codes: u64,
     pub(crate) signals: u64,
     /// Runs that ended with a code above 0; each is among the codes.
-    pub(crate) failures: u64,
+    pub(crate) nonzero: u64,
     /// Runs that ended by a crash; each is among the signals.
     pub(crate) crashes: u64,
     /// The time that runs which are over lived.
@@ -56,7 +56,7 @@ const NOTHING: Totals = Totals {
     starts: 0,
     refused: 0,
     codes: 0,
-    failures: 0,
+    nonzero: 0,
     signals: 0,
     crashes: 0,
     lived: 0,
@@ -276,7 +276,7 @@ impl Record {
             Ended::Code(code) => {
                 run.end = RunEnd::Code(code);
                 totals.codes = totals.codes.saturating_add(1);
-                totals.failures = totals.failures.saturating_add(u64::from(code > 0));
+                totals.nonzero = totals.nonzero.saturating_add(u64::from(code > 0));
             }
             Ended::Signal(signal) => {
                 run.end = RunEnd::Signal(signal);

@@ -48,7 +48,7 @@ fn put_job(page: &mut Page<'_>, lengths: &[(u64, u64)], label: &str, job: &KeptJ
         Field("codes", Number(totals.codes)),
         Field("signals", Number(totals.signals)),
         Field("crashes", Number(totals.crashes)),
-        Field("failures", Number(totals.failures)),
+        Field("nonzero", Number(totals.nonzero)),
         Field("shortest_ms", number_of(shortest)),
         Field(
             "median_ms",

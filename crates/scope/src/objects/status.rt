@@ -80,6 +80,7 @@ fn put_row(page: &mut Page<'_>, row: &Row<'_>, around: Around) {
         signal,
         Field("starts", Number(row.starts)),
         Field("failures", Number(row.failures)),
+        Field("refused", Number(row.refusals)),
         Field("next_start", next),
         Field("waits_for", waits),
         Field("as_of", Moment(around.as_of)),

@@ -8,12 +8,12 @@ use run_times::{Ink, Piece};
 use std::alloc::{AllocError, Global};
 
 const HEAD: &str =
-    "label\tstarts\trefused\tcode\tsignal\tcrashes\tshortest\tmedian\tlongest\tup\tgap\tfailures\n";
+    "label\tstarts\trefused\tcode\tsignal\tcrashes\tshortest\tmedian\tlongest\tup\tgap\tnonzero\n";
 
 /// A head, and a line for each job, or for each of those named that the journal has: starts, those refused, ends with a code and by
 /// a signal, crashes; the shortest, median and longest run in seconds (the median of the runs that are over and kept; of an even number
 /// the lower of the two in the middle), the share of the time that it was up while it was loaded, and the longest time without a
-/// run in seconds; last the failures, which ended with a code above 0. `-` stands where there is none.
+/// run in seconds; last the exits with a code above 0. `-` stands where there is none.
 pub(crate) fn runs_table(
     alloc: Global,
     past: &Past,
@@ -83,7 +83,7 @@ fn add_row(ink: &mut Ink, now: Reading, lengths: &[(u64, u64)], label: &str, job
     add_seconds(ink, totals.gap);
     ink.put_all(&[
         Piece::Text("\t"),
-        Piece::Number(totals.failures),
+        Piece::Number(totals.nonzero),
         Piece::Text("\n"),
     ]);
 }
