@@ -17,10 +17,11 @@ use std::io::{self, ErrorKind, IsTerminal};
 use std::net::Net;
 use std::rt::Env;
 
-/// The control socket if nothing names one, and that of the package.
-const SOCKET: &str = "jobd.sock";
+/// The control socket if nothing names one.
+pub const SOCKET: &str = "jobd.sock";
 
-const PACKAGED: &str = "/run/jobd/jobd.sock";
+/// That of the package.
+pub const PACKAGED: &str = "/run/jobd/jobd.sock";
 
 /// Whether somebody reads at once what is told on the standard error.
 pub trait Watched {
@@ -187,7 +188,8 @@ fn read_by(alloc: Global, settings: &Settings, words: &[String]) -> Result<Words
     }
 }
 
-fn tell_setting<R: Eprint>(rt: &R, fault: SettingFault) -> u8 {
+/// Tells what keeps the environment from being read, and gives the exit status.
+pub fn tell_setting<R: Eprint>(rt: &R, fault: SettingFault) -> u8 {
     let (name, why) = match fault {
         SettingFault::NoMemory => return want_memory(rt),
         SettingFault::Socket => ("JOBD_SOCKET", "not UTF-8"),

@@ -1,0 +1,312 @@
+//! The files that paths stand for, each read once.
+
+use crate::boot::left_at_boot;
+use ctl_protocol::LINE_LIMIT;
+use definition_digest::digest_of_value;
+use files_and_process::path_files::{Found, Kind, files_at, read_file};
+use history_model::Text;
+use json_kinds::json_value;
+use load_plan::Standing;
+use serde_json::Value;
+use std::alloc::{AllocError, Global};
+use std::fs;
+use std::io::{Error, ErrorKind};
+use std::slice::from_ref;
+
+/// A file, and what it says.
+#[derive(Drop)]
+pub(crate) struct Filed {
+    /// Its path, by the words.
+    pub(crate) path: String,
+    /// Its number among the folders, if it is a file of one.
+    pub(crate) folder: Option<usize>,
+    /// The label in it; if it tells none, the one that its name says.
+    pub(crate) label: String,
+    /// The digest of its definition; empty, if it is no JSON.
+    pub(crate) digest: String,
+    pub(crate) standing: Standing,
+    /// The definition, as it was read.
+    pub(crate) text: String,
+    /// What keeps it from being loaded; empty, if nothing does.
+    pub(crate) why: String,
+    /// The other label under which an earlier apply of its folder loaded it.
+    pub(crate) former: Option<String>,
+}
+
+impl Filed {
+    /// The name of its file within its folder.
+    pub(crate) fn name(&self) -> &str {
+        name_in(self.path.as_str())
+    }
+
+    /// Whether it is named LABEL.json.
+    pub(crate) fn is_named(&self) -> bool {
+        match self.name().strip_suffix(".json") {
+            Some(stem) => stem == self.label.as_str(),
+            None => false,
+        }
+    }
+}
+
+/// The files of the paths, and their folders.
+#[derive(Drop)]
+pub(crate) struct Gathered {
+    pub(crate) files: Vec<Filed>,
+    /// The folders among the paths, from the root.
+    pub(crate) folders: Vec<String>,
+}
+
+/// What was read of one file.
+#[derive(Drop)]
+struct Contents {
+    label: Option<String>,
+    digest: String,
+    standing: Standing,
+    text: String,
+    why: String,
+}
+
+/// The last part of a path.
+pub(crate) fn name_in(path: &str) -> &str {
+    match path.rsplit_once('/') {
+        Some((_, name)) => name,
+        None => path,
+    }
+}
+
+// The label that a file's name says.
+fn label_by(name: &str) -> &str {
+    match name.strip_suffix(".json") {
+        Some(stem) => stem,
+        None => name.strip_suffix(".plist").unwrap_or(name),
+    }
+}
+
+/// The files that the paths stand for, in their order. The user is the launcher's.
+pub(crate) fn gather(
+    host: &HostRuntime,
+    alloc: Global,
+    paths: &[Text],
+    user: u32,
+) -> Result<Gathered, AllocError> {
+    let mut gathered = Gathered {
+        files: Vec::new(alloc),
+        folders: Vec::new(alloc),
+    };
+    for path in paths {
+        add_path(host, alloc, path, user, &mut gathered)?;
+    }
+    Ok(gathered)
+}
+
+fn add_path(
+    host: &HostRuntime,
+    alloc: Global,
+    path: &Text,
+    user: u32,
+    gathered: &mut Gathered,
+) -> Result<(), AllocError> {
+    let folder = add_folder(host, alloc, path.as_str(), gathered)?;
+    let found = files_at(host, from_ref(path))?;
+    let over = match folder {
+        Some(_) => folder_left(host, alloc, path.as_str(), user)?,
+        None => String::new(alloc),
+    };
+    for file in &found {
+        let filed = filed_of(host, alloc, file, folder, over.as_str(), user)?;
+        add_filed(gathered, filed)?;
+    }
+    drop(over);
+    drop(found);
+    Ok(())
+}
+
+// A file that stands among them already, as one that is named beside its folder, is not added.
+fn add_filed(gathered: &mut Gathered, filed: Option<Filed>) -> Result<(), AllocError> {
+    match filed {
+        Some(filed) if !has_path(gathered.files.as_slice(), filed.path.as_str()) => {
+            gathered.files.push(filed)?;
+        }
+        _ => {}
+    }
+    Ok(())
+}
+
+fn has_path(files: &[Filed], path: &str) -> bool {
+    match files.last() {
+        Some(last) => last.path.as_str() == path,
+        None => false,
+    }
+}
+
+// Its number among the folders, if it is one.
+fn add_folder(
+    host: &HostRuntime,
+    alloc: Global,
+    path: &str,
+    gathered: &mut Gathered,
+) -> Result<Option<usize>, AllocError> {
+    let is_folder = match fs::metadata(host, path) {
+        Ok(data) => data.is_dir(),
+        Err(_) => false,
+    };
+    if !is_folder {
+        return Ok(None);
+    }
+    let number = gathered.folders.len();
+    gathered.folders.push(from_root(host, alloc, path)?)?;
+    Ok(Some(number))
+}
+
+fn from_root(host: &HostRuntime, alloc: Global, path: &str) -> Result<String, AllocError> {
+    match fs::canonicalize(host, path) {
+        Ok(whole) => Ok(whole.into_string()),
+        Err(error) if error.kind() == ErrorKind::OutOfMemory => Err(AllocError),
+        Err(_) => String::from_str(alloc, path),
+    }
+}
+
+// Why a boot would leave all files of the folder out; empty, if it would not.
+fn folder_left(
+    host: &HostRuntime,
+    alloc: Global,
+    path: &str,
+    user: u32,
+) -> Result<String, AllocError> {
+    match fs::metadata(host, path) {
+        Ok(data) => left_at_boot(alloc, &data, user, "its folder is "),
+        Err(_) => Ok(String::new(alloc)),
+    }
+}
+
+// What the file comes to. None: it is a folder without a definition. Over all files of a folder there may be a reason for a boot to leave them out.
+fn filed_of(
+    host: &HostRuntime,
+    alloc: Global,
+    found: &Found,
+    folder: Option<usize>,
+    over: &str,
+    user: u32,
+) -> Result<Option<Filed>, AllocError> {
+    let path = found.path.as_str();
+    let contents = match found.kind {
+        Kind::Empty => return Ok(None),
+        Kind::Unlisted(ErrorKind::InvalidFilename) => unread(alloc, &"its name is not UTF-8")?,
+        Kind::Unlisted(kind) => unread(alloc, &Error::from(kind))?,
+        Kind::File => read_at(host, alloc, path)?,
+    };
+    let mut filed = filed_with(alloc, path, folder, contents)?;
+    if folder.is_some() {
+        leave_at_boot(host, alloc, over, user, &mut filed)?;
+    }
+    Ok(Some(filed))
+}
+
+fn filed_with(
+    alloc: Global,
+    path: &str,
+    folder: Option<usize>,
+    contents: Contents,
+) -> Result<Filed, AllocError> {
+    let Contents {
+        label,
+        digest,
+        standing,
+        text,
+        why,
+    } = contents;
+    let label = match label {
+        Some(label) => label,
+        None => String::from_str(alloc, label_by(name_in(path)))?,
+    };
+    Ok(Filed {
+        path: String::from_str(alloc, path)?,
+        folder,
+        label,
+        digest,
+        standing,
+        text,
+        why,
+        former: None,
+    })
+}
+
+// Asks what a boot asks of a file that is well.
+fn leave_at_boot(
+    host: &HostRuntime,
+    alloc: Global,
+    over: &str,
+    user: u32,
+    filed: &mut Filed,
+) -> Result<(), AllocError> {
+    if !matches!(filed.standing, Standing::Good) {
+        return Ok(());
+    }
+    let why = if over.is_empty() {
+        match fs::metadata(host, filed.path.as_str()) {
+            Ok(data) => left_at_boot(alloc, &data, user, "")?,
+            Err(_) => String::new(alloc),
+        }
+    } else {
+        String::from_str(alloc, over)?
+    };
+    if !why.is_empty() {
+        filed.standing = Standing::LeftAtBoot;
+        filed.why = why;
+    }
+    Ok(())
+}
+
+fn unread<D: std::fmt::Display>(alloc: Global, why: &D) -> Result<Contents, AllocError> {
+    Ok(Contents {
+        label: None,
+        digest: String::new(alloc),
+        standing: Standing::Unread,
+        text: String::new(alloc),
+        why: why.to_string(alloc)?,
+    })
+}
+
+fn read_at(host: &HostRuntime, alloc: Global, path: &str) -> Result<Contents, AllocError> {
+    match read_file(host, alloc, path, LINE_LIMIT) {
+        Ok(Some(bytes)) => match String::from_utf8(bytes) {
+            Ok(text) => contents_of(alloc, text),
+            Err(_) => unread(alloc, &"not UTF-8"),
+        },
+        Ok(None) => unread(alloc, &"too long for a request"),
+        Err(error) if error.kind() == ErrorKind::OutOfMemory => Err(AllocError),
+        Err(error) => unread(alloc, &error),
+    }
+}
+
+fn contents_of(alloc: Global, text: String) -> Result<Contents, AllocError> {
+    match json_value(alloc, text.as_bytes())? {
+        Some(value) => {
+            let digest = digest_of_value(alloc, &value)?;
+            let digest = String::from_str(alloc, digest.as_str())?;
+            let label = label_in(alloc, &value)?;
+            drop(value);
+            Ok(Contents {
+                label,
+                digest,
+                standing: Standing::Good,
+                text,
+                why: String::new(alloc),
+            })
+        }
+        None => Ok(Contents {
+            label: None,
+            digest: String::new(alloc),
+            standing: Standing::Unread,
+            text,
+            why: String::from_str(alloc, "no JSON")?,
+        }),
+    }
+}
+
+fn label_in(alloc: Global, value: &Value) -> Result<Option<String>, AllocError> {
+    match value.get("Label") {
+        Some(Value::String(label)) => Ok(Some(String::from_str(alloc, label.as_str())?)),
+        _ => Ok(None),
+    }
+}
