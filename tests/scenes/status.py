@@ -2,6 +2,7 @@
 
 `play.py` plays them; `harness.py` has what all scenes share.
 """
+import hashlib
 import json
 import os
 import stat
@@ -120,6 +121,77 @@ def what_a_status_file_holds(stage):
     check(sorted(os.listdir(stage.at("standing"))) == ["status.jsonl"], f"after the end there is {os.listdir(stage.at('standing'))}")
 
 
+def digest(definition):
+    """The SHA-256 of a definition with its keys in the order of their bytes and no blanks."""
+    text = json.dumps(definition, sort_keys=True, separators=(",", ":"), ensure_ascii=False)
+    return hashlib.sha256(text.encode()).hexdigest()
+
+
+def which_definition_is_loaded(stage):
+    """Its digest is told: blanks and the order of keys don't matter, each value does. A label that is loaded anew has that of its new definition, a setting
+    changes none, and a load that is refused leaves it."""
+    launcher, path = serve(stage)
+    first = {"Label": "a", "ProgramArguments": ["/bin/true", "\u00e9\n"], "ExitTimeOut": 7}
+    for text in (json.dumps(first, indent=3), json.dumps(dict(reversed(list(first.items()))), ensure_ascii=False)):
+        reply = launcher.ask({"req": "load", "def": text, "w": False, "F": False})
+        check(reply["code"] == 0, f"it is not loaded: {reply}")
+        job = job_where(path, "a", lambda job: job["definition"])
+        check(job["definition"] == digest(first), f"its digest is {job['definition']}, not {digest(first)}")
+        refused = launcher.ask({"req": "load", "def": json.dumps({**first, "ExitTimeOut": 8}), "w": False, "F": False})
+        check(refused["code"] != 0, f"a label is loaded twice: {refused}")
+        launcher.ask({"req": "disable", "job": "a"})
+        job = job_where(path, "a", lambda job: job["disabled"] == "override")
+        check(job["definition"] == digest(first), f"after a setting its digest is {job['definition']}")
+        launcher.ask({"req": "enable", "job": "a"})
+        launcher.ask({"req": "unload", "job": "a", "w": False})
+    second = {**first, "ExitTimeOut": 8}
+    launcher.load(second)
+    launcher.load({"Label": "b", "Program": "/bin/true"})
+    job = job_where(path, "b", lambda job: job["definition"])
+    check(job["definition"] == digest({"Label": "b", "Program": "/bin/true"}), f"that of b is {job['definition']}")
+    job = job_where(path, "a", lambda job: job["definition"])
+    check(job["definition"] == digest(second), f"that of the second definition is {job['definition']}")
+
+
+def places_beside(stage):
+    text = text_at(stage.at("socket.places"))
+    return json.loads(text) if text else None
+
+
+def what_tells_a_launchers_places(stage):
+    """Beside its socket, for its user alone, from before its first answer to its end; it is written again where it was removed. After a KILL it stays, and
+    names a process that is gone."""
+    os.makedirs(stage.at("jobs"))
+    path = stage.at("standing/status.jsonl")
+    os.makedirs(stage.at("standing"), mode=0o700)
+    launcher = stage.serve(env={"JOBD_STATUS_FILE": path, "JOBD_JOBS": stage.at("jobs")}, journal="journal")
+    check(launcher.ask({"req": "list"})["code"] == 0, "no list")
+    found = places_beside(stage)
+    check(found, "there is no file beside the socket after the first answer")
+    real = os.path.realpath(stage.folder)
+    wanted = {"pid": launcher.pid, "began": began(launcher.pid), "journal": f"{real}/journal", "status_file": f"{real}/standing/status.jsonl"}
+    wanted |= {"store": f"{real}/store", "spool": f"{real}/spool", "jobs": f"{real}/jobs"}
+    check(found == wanted, f"it says {found}, not {wanted}")
+    check(stat.S_IMODE(os.stat(stage.at("socket.places")).st_mode) == 0o600, "others may read it")
+    os.unlink(stage.at("socket.places"))
+
+    def again():
+        launcher.ask({"req": "list"})
+        return places_beside(stage)
+    check(wait_for(again, "it is not written again") == wanted, "it says something else the second time")
+    launcher.shut_down()
+    check(not os.path.exists(stage.at("socket.places")), "it is left after an end in order")
+
+    launcher = stage.serve(env={"JOBD_STATUS_FILE": "", "JOBD_JOBS": ""})
+    check(launcher.ask({"req": "list"})["code"] == 0, "no list")
+    found = places_beside(stage)
+    check([found[key] for key in ("journal", "status_file", "jobs")] == [None] * 3, f"it names what there is not: {found}")
+    end_process(launcher.pid)
+    check(places_beside(stage)["pid"] == launcher.pid, "it does not name the launcher that was killed")
+    launcher = stage.start(journal="socket.places")
+    check(launcher.ends() == 8 and "it is where the launcher writes its places" in launcher.said(), f"a journal in its place: {launcher.said()}")
+
+
 def a_status_file_rests(stage):
     """While nothing changes nothing is written, and however much changes, at most once a second."""
     launcher, path = serve(stage)
@@ -170,7 +242,7 @@ def status_files_that_are_other_places(stage):
     make(stage.at("spool/7-7.reply"))
     for name, status, places in (
         ("kept", 5, {}), ("kept-wal", 5, {}), ("kept-journal", 5, {}), ("kept-shm", 5, {}), ("link", 5, {}), ("./spool/../kept", 5, {}),
-        ("records", 8, {}), ("socket", 6, {}), ("socket.lock", 6, {}), ("spool/jobd.lock", 10, {}), ("spool/7-7.reply", 10, {}), ("spool/8-8.request", 10, {}),
+        ("records", 8, {}), ("socket", 6, {}), ("socket.lock", 6, {}), ("socket.places", 6, {}), ("spool/jobd.lock", 10, {}), ("spool/7-7.reply", 10, {}), ("spool/8-8.request", 10, {}),
         ("x", 5, {"store": "x.lock"}), ("x", 5, {"store": "x.new"}), ("x", 8, {"journal": "x.lock"}), ("x", 6, {"socket": "x.new"}),
         ("way/new", 5, {"store": "real/new"}), ("real/new-wal", 5, {"store": "way/new"}), ("way/new", 8, {"journal": "real/new"}), ("beside", 5, {}),
     ):
@@ -491,6 +563,8 @@ def what_a_socket_waits_for(stage):
 
 SCENES = [
     what_a_status_file_holds,
+    which_definition_is_loaded,
+    what_tells_a_launchers_places,
     a_status_file_rests,
     a_killed_launcher_leaves_a_whole_file,
     status_files_that_are_refused,

@@ -3,6 +3,7 @@
 ghost use Rattle.std.specs.Prelude.{◌≡◌, true};
 ghost use Rattle.jobd.specs.Standings.{IsStatusText};
 
+use crate::loaded_definition::load_in;
 use crate::own_process::OwnProcess;
 use history_model::{JobNo, Reading, Refusal, Text};
 use job_table::JobTable;
@@ -77,6 +78,17 @@ impl Keeper {
     /// A client was answered: with a refusal, or well.
     pub(crate) fn replied(&mut self, refusal: Option<Refusal>) {
         self.has_refused = self.has_refused || refusal == Some(Refusal::StoreRefused);
+    }
+
+    /// A load was accepted, which this line asked for.
+    pub(crate) fn loaded(&mut self, line: &[u8]) {
+        match load_in(self.alloc, line) {
+            Ok(Some(load)) => {
+                self.notes.loaded(load.label.as_str(), load.digest.as_str());
+                drop(load);
+            }
+            _ => self.notes.forget_loads(),
+        }
     }
 
     /// Writes the text of the file anew. False: it found no memory.

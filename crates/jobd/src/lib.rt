@@ -5,14 +5,17 @@
 
 mod keeper;
 mod kill_waits;
+mod loaded_definition;
 mod news;
 mod own_process;
+mod places_file;
 mod round_edge;
 mod round_launcher;
 mod serving;
 mod sleep;
 mod standing_file;
 mod status_edge;
+mod whole_file;
 mod words;
 
 use child_edge::OsEdge;

@@ -87,8 +87,8 @@ pub trait RoundEdge: ChildEdge + SleepEdge + PathEdge + SocketEdge {
     /// Why the last start was refused, in the words of the edge; none if it went well.
     fn start_refusal(&self) -> Option<&str>;
 
-    /// A client was answered: with this refusal, or well.
-    fn note_reply(&mut self, refusal: Option<Refusal>)
+    /// A client was answered: with this refusal, or well. `load` is its line, if that is a load and was accepted.
+    fn note_reply(&mut self, load: Option<&[u8]>, refusal: Option<Refusal>)
         ensures told { Self.told self.new ≡ Self.told self.old };
 
     /// The journal is closed.
@@ -184,7 +184,7 @@ impl<R: System> RoundEdge for OsEdge<R> {
         OsEdge::start_refusal(self)
     }
 
-    fn note_reply(&mut self, refusal: Option<Refusal>) {
+    fn note_reply(&mut self, _load: Option<&[u8]>, refusal: Option<Refusal>) {
         OsEdge::note_answer(self, refusal == Some(Refusal::NoMemory));
     }
 

@@ -3,6 +3,7 @@
 
 use crate::keeper::Keeper;
 use crate::own_process::own_process;
+use crate::places_file::{PlacesFile, places_file};
 use crate::round_edge::RoundEdge;
 use crate::round_launcher::RoundLauncher;
 use crate::standing_file::StandingFile;
@@ -84,7 +85,8 @@ fn serve_kept<L: Wait, R: System + Env + Print, E: RoundEdge + Drop>(
     reading: Reading,
 ) -> u8 {
     let (zone, kept) = kept_for(rt, host.alloc(), plan, zone, reading);
-    let edge = StatusEdge::new(edge, kept);
+    let places = told_places(rt, host.alloc(), plan, kept.is_some());
+    let edge = StatusEdge::new(edge, kept, places);
     serve_over(host, rt, waits, plan, zone, edge, reading)
 }
 
@@ -115,6 +117,28 @@ fn kept_for<R: System + Env>(
     };
     drop(path);
     (zone, kept)
+}
+
+// The file that tells the launcher's places. It names the file on how the launcher stands if that is kept.
+fn told_places<R: System + Env>(
+    rt: &R,
+    alloc: Global,
+    plan: &Plan,
+    keeps_status: bool,
+) -> Option<PlacesFile<R>> {
+    match env::var(rt, STATUS_FILE) {
+        Ok(path) => {
+            let named = if keeps_status {
+                Some(path.as_str())
+            } else {
+                None
+            };
+            let file = places_file(rt, alloc, plan, named);
+            drop(path);
+            file
+        }
+        Err(_) => places_file(rt, alloc, plan, None),
+    }
 }
 
 // What is written to it, if it is known which process this is.

@@ -1,13 +1,11 @@
 //! The file on how the launcher stands: held by a lock beside it, and put in place whole.
 
+use crate::whole_file::put_whole;
 use child_edge::{Notice, NoticeKind, System};
 use files_and_process::own_files::{LockFile, check_folder};
 use history_model::{Reading, SECOND, Text};
 use std::alloc::Global;
-use std::fs::OpenOptions;
-use std::io::Write;
-use std::os::unix::fs::OpenOptionsExt;
-use std::{fs, io, mem};
+use std::{io, mem};
 
 /// The file, with its lock, which is held as long as this lives.
 #[derive(Drop)]
@@ -98,22 +96,8 @@ impl<R: System> StandingFile<R> {
 
     fn replace(&self, text: &[u8]) -> io::Result<()> {
         check_folder(&self.rt, folder_of(self.path.as_str()), self.user)?;
-        let beside = self.beside.as_str();
-        // A launcher that was killed may have left it.
-        let _gone = fs::remove_file(&self.rt, beside);
-        let mut options = OpenOptions::new();
-        options.write(true).create_new(true).mode(0o600);
-        let mut file = options.open(&self.rt, beside)?;
-        let written = file.write_all(text);
-        drop(file);
-        let put = match written {
-            Ok(()) => fs::rename(&self.rt, beside, self.path.as_str()),
-            Err(error) => Err(error),
-        };
-        if put.is_err() {
-            let _gone = fs::remove_file(&self.rt, beside);
-        }
-        put
+        let (path, beside) = (self.path.as_str(), self.beside.as_str());
+        put_whole(&self.rt, path, beside, text)
     }
 
     fn tell(&mut self, error: io::Error) {

@@ -4,6 +4,7 @@
 ghost use Rattle.std.specs.Prelude.{◌≡◌, ◌≤◌, ℕ, List, Option, Some};
 
 use crate::keeper::Keeper;
+use crate::places_file::PlacesFile;
 use crate::round_edge::{RoundEdge, SleepEdge};
 use crate::standing_file::StandingFile;
 use child_edge::{
@@ -20,6 +21,7 @@ use std::mem;
 pub struct StatusEdge<E: RoundEdge, R: System> {
     edge: E,
     file: Option<StandingFile<R>>,
+    places: Option<PlacesFile<R>>,
     // It is out while the text is written.
     keeper: Option<Keeper>,
     // What the edge told of sleeps first, and last.
@@ -28,8 +30,12 @@ pub struct StatusEdge<E: RoundEdge, R: System> {
 }
 
 impl<E: RoundEdge, R: System> StatusEdge<E, R> {
-    /// The edge, with the file and what keeps it; or with none.
-    pub fn new(edge: E, kept: Option<(StandingFile<R>, Keeper)>) -> StatusEdge<E, R> {
+    /// The edge, with the file and what keeps it, or with none; and with the file that tells the launcher's places.
+    pub(crate) fn new(
+        edge: E,
+        kept: Option<(StandingFile<R>, Keeper)>,
+        places: Option<PlacesFile<R>>,
+    ) -> StatusEdge<E, R> {
         let (file, keeper) = match kept {
             Some((file, keeper)) => (Some(file), Some(keeper)),
             None => (None, None),
@@ -37,6 +43,7 @@ impl<E: RoundEdge, R: System> StatusEdge<E, R> {
         StatusEdge {
             edge,
             file,
+            places,
             keeper,
             before: None,
             slept: 0,
@@ -185,7 +192,11 @@ impl<E: RoundEdge, R: System> RoundEdge for StatusEdge<E, R> {
         self.edge.over_from(job)
     }
 
+    // Each round begins with it: the first one finds all opened that the launcher stands on.
     fn register(&mut self, registry: &Registry, token: Token) -> bool {
+        if let Some(places) = &mut self.places {
+            places.begin();
+        }
         self.edge.register(registry, token)
     }
 
@@ -222,11 +233,19 @@ impl<E: RoundEdge, R: System> RoundEdge for StatusEdge<E, R> {
         if let Some(file) = &self.file {
             file.let_go();
         }
+        if let Some(places) = &self.places {
+            places.remove();
+        }
     }
 
     fn next_notice(&mut self) -> Option<Notice> {
         if let Some(file) = &mut self.file {
             if let Some(notice) = file.next_notice() {
+                return Some(notice);
+            }
+        }
+        if let Some(places) = &mut self.places {
+            if let Some(notice) = places.next_notice() {
                 return Some(notice);
             }
         }
@@ -237,10 +256,13 @@ impl<E: RoundEdge, R: System> RoundEdge for StatusEdge<E, R> {
         self.edge.start_refusal()
     }
 
-    fn note_reply(&mut self, refusal: Option<Refusal>) {
-        self.edge.note_reply(refusal);
+    fn note_reply(&mut self, load: Option<&[u8]>, refusal: Option<Refusal>) {
+        self.edge.note_reply(load, refusal);
         if let Some(keeper) = &mut self.keeper {
             keeper.replied(refusal);
+            if let Some(line) = load {
+                keeper.loaded(line);
+            }
         }
     }
 
@@ -254,6 +276,9 @@ impl<E: RoundEdge, R: System> RoundEdge for StatusEdge<E, R> {
     }
 
     fn lend_keeper(&mut self, at: Reading, has_changed: bool) -> Option<Keeper> {
+        if let Some(places) = &mut self.places {
+            places.keep(at.up);
+        }
         let file = self.file.as_mut()?;
         if file.is_due(at, has_changed) {
             self.keeper.take()

@@ -26,5 +26,6 @@ pub use plan::{Places, Plan, plan_of};
 pub use reporting::report;
 pub use spool::hold_spool;
 pub use standing::tell_standing;
+pub use status_file::real_of;
 pub use store::{StoreUser, with_store};
 pub use zone::zone_of;

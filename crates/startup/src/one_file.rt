@@ -80,6 +80,11 @@ fn taken_for_any<R: AllocGlobal + Files>(
     if own.is_at(rt, lock.as_str()) {
         return Ok(Some("it is the lock of the control socket"));
     }
+    let told = format!(in alloc; "{socket}.places")?;
+    let beside = format!(in alloc; "{socket}.places.new")?;
+    if own.is_at(rt, told.as_str()) || own.is_at(rt, beside.as_str()) {
+        return Ok(Some("it is where the launcher writes its places"));
+    }
     let lock = format!(in alloc; "{spool}/jobd.lock")?;
     if own.is_at(rt, lock.as_str()) {
         return Ok(Some("it is the lock of the spool"));

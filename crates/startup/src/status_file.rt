@@ -108,13 +108,14 @@ fn place_of<R: AllocGlobal + Files>(
 }
 
 // The files of the other places. An empty path stands for a journal that is not kept.
-fn others_of<'a>(places: &'a Places, store: &'a str) -> [Other<'a>; 8] {
+fn others_of<'a>(places: &'a Places, store: &'a str) -> [Other<'a>; 10] {
     let socket = places.socket.as_str();
     let journal = match &places.journal {
         Some(path) => path.as_str(),
         None => "",
     };
     let beside = "it is a file of the store";
+    let told = "it is where the launcher writes its places";
     [
         place(socket, "", CONTROL_SOCKET, "it is the control socket"),
         place(
@@ -123,6 +124,8 @@ fn others_of<'a>(places: &'a Places, store: &'a str) -> [Other<'a>; 8] {
             CONTROL_SOCKET,
             "it is the lock of the control socket",
         ),
+        place(socket, ".places", CONTROL_SOCKET, told),
+        place(socket, ".places.new", CONTROL_SOCKET, told),
         place(journal, "", JOURNAL, "it is the journal"),
         place(store, "", STORE, "it is the store"),
         place(store, BESIDE_STORE[0], STORE, beside),
@@ -170,8 +173,8 @@ fn is_one(first: &OneFile, second: &OneFile) -> bool {
     is_same || first.real.as_str() == second.real.as_str()
 }
 
-// The path without links. Of what is not there its folder's, if that is there.
-fn real_of<R: AllocGlobal + Files>(
+/// The path without links. Of what is not there its folder's, if that is there.
+pub fn real_of<R: AllocGlobal + Files>(
     rt: &R,
     alloc: Global,
     path: &str,

@@ -203,15 +203,16 @@ counts_tokens pid run starts failures refusals connections =
     ∷ key (codes "refusals") ∷ number (decimal refusals)
     ∷ key (codes "connections") ∷ number (decimal connections) ∷ []
 
-abbrev pub disabled_tokens : Option DisabledBy → List Token
-disabled_tokens by = key (codes "disabled") ∷ disabled_token by ∷ []
+abbrev pub loaded_tokens : Option DisabledBy → Option (Bor (List ℕ)) → List Token
+loaded_tokens by definition =
+    key (codes "disabled") ∷ disabled_token by ∷ key (codes "definition") ∷ text_token definition ∷ []
 
 abbrev pub front_tokens : JobStatus → List Token
 front_tokens j =
     name_tokens j.label.now (state_by_reasons j.facts.reasons)
     ++ (counts_tokens (child_pid j.facts.reasons.child) j.note.run j.note.starts j.note.failures j.note.refusals
     j.facts.reasons.wants.connections
-    ++ disabled_tokens j.disabled)
+    ++ loaded_tokens j.disabled j.note.definition)
 
 abbrev pub end_key : Ended → List ℕ
 end_key (Code code) = codes "code"

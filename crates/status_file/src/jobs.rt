@@ -40,7 +40,7 @@ pub(crate) fn is_loaded(table: &JobTable, job: JobNo) -> bool {
 }
 
 /// The label and the definition of the job with this number, also of one that is just gone; None for a number that no job has. It takes no memory.
-fn job_of(table: &JobTable, job: JobNo) -> Option<(&str, &Def)> {
+pub(crate) fn job_of(table: &JobTable, job: JobNo) -> Option<(&str, &Def)> {
     let step = table.last_step();
     let label = step.label(job);
     if label.is_empty() {

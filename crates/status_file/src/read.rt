@@ -196,6 +196,16 @@ fn note_in<'a>(fields: &mut Fields<'a>) -> JobNote<'a> {
         kill: reading_if(fields, "kill"),
         last_end: end_in(fields),
         refused: refused_in(fields),
+        definition: definition_in(fields),
+    }
+}
+
+// A launcher of version 0.3.0 does not tell it.
+fn definition_in<'a>(fields: &mut Fields<'a>) -> Option<&'a str> {
+    if fields.has("definition") {
+        fields.text_if("definition")
+    } else {
+        None
     }
 }
 

@@ -1,10 +1,10 @@
 //! What was heard of the runs of each loaded job: a small record beside the table, which is forgotten once its job is gone.
 
-use crate::jobs::{NUMBERS, is_loaded};
+use crate::jobs::{NUMBERS, is_loaded, job_of};
 use crate::status::{JobNote, RefusedStart, RunEnd};
 use history_model::{Ended, JobNo, Reading, Text};
 use job_table::JobTable;
-use std::alloc::Global;
+use std::alloc::{AllocError, Global};
 use std::mem;
 
 /// What is counted of the runs of a job.
@@ -63,6 +63,8 @@ struct RunNote {
     counted: Counted,
     // Why the last refused start was refused, if the edge had words for it.
     reason: Option<Text>,
+    // The digest of its definition.
+    definition: Option<Text>,
 }
 
 impl RunNote {
@@ -70,8 +72,20 @@ impl RunNote {
         RunNote {
             counted: Counted::new(at),
             reason: None,
+            definition: None,
         }
     }
+}
+
+// The digest of the last of the loads that has this label.
+fn last_load<'a>(loads: &'a [Load], label: &str) -> Option<&'a str> {
+    let mut last = None;
+    for load in loads {
+        if load.label.as_str() == label {
+            last = Some(load.definition.as_str());
+        }
+    }
+    last
 }
 
 fn lent(text: &Option<Text>) -> Option<&str> {
@@ -81,11 +95,23 @@ fn lent(text: &Option<Text>) -> Option<&str> {
     }
 }
 
+/// A load that was accepted, of which the job's number is not known yet.
+#[derive(Drop)]
+struct Load {
+    label: Text,
+    definition: Text,
+}
+
+/// As many loads are kept until their jobs are seen.
+const LOADS: usize = 1_024;
+
 /// What was heard of all loaded jobs, by their numbers. Of a job that is gone nothing is kept. Want of memory leaves a job out.
 #[derive(Drop)]
 pub struct RunNotes {
     alloc: Global,
     jobs: Vec<Option<RunNote>>,
+    // In their order, since the jobs were seen last.
+    loads: Vec<Load>,
     /// The reading of now.
     pub at: Reading,
 }
@@ -95,6 +121,7 @@ impl RunNotes {
         RunNotes {
             alloc,
             jobs: Vec::new(alloc),
+            loads: Vec::new(alloc),
             at,
         }
     }
@@ -131,6 +158,58 @@ impl RunNotes {
         for job in 0..NUMBERS {
             if is_loaded(table, job) {
                 self.make_place(job);
+            }
+        }
+        if !self.loads.is_empty() {
+            self.define_all(table);
+        }
+    }
+
+    /// A load of this label was accepted. The digest is that of its definition.
+    pub fn loaded(&mut self, label: &str, definition: &str) {
+        if self.loads.len() >= LOADS {
+            return self.forget_loads();
+        }
+        match self.add_load(label, definition) {
+            Ok(()) => {}
+            Err(_) => self.forget_loads(),
+        }
+    }
+
+    /// A load was accepted of which nothing is known. Since it may be one of a label that was loaded a moment before, those are forgotten too.
+    pub fn forget_loads(&mut self) {
+        self.loads.clear();
+    }
+
+    fn add_load(&mut self, label: &str, definition: &str) -> Result<(), AllocError> {
+        let label = Text::copy_of(self.alloc, label)?;
+        let load = match Text::copy_of(self.alloc, definition) {
+            Ok(definition) => Load { label, definition },
+            Err(error) => {
+                drop(label);
+                return Err(error);
+            }
+        };
+        self.loads.push(load)?;
+        Ok(())
+    }
+
+    // Each job without a digest gets that of the last load of its label.
+    fn define_all(&mut self, table: &JobTable) {
+        for job in 0..NUMBERS {
+            if let Some((label, _)) = job_of(table, job) {
+                self.define(job, label);
+            }
+        }
+        self.loads.clear();
+    }
+
+    fn define(&mut self, job: JobNo, label: &str) {
+        let found = last_load(self.loads.as_slice(), label);
+        if let Some(Some(note)) = self.jobs.get_mut(job as usize) {
+            if let (None, Some(definition)) = (&note.definition, found) {
+                let kept = Text::copy_of(self.alloc, definition).ok();
+                drop(mem::replace(&mut note.definition, kept));
             }
         }
     }
@@ -201,9 +280,9 @@ impl RunNotes {
 
     /// What was heard of this job since its load.
     pub(crate) fn of(&self, job: JobNo) -> JobNote<'_> {
-        let (counted, reason) = match self.jobs.get(job as usize) {
-            Some(Some(note)) => (note.counted, lent(&note.reason)),
-            _ => (Counted::new(self.at), None),
+        let (counted, reason, definition) = match self.jobs.get(job as usize) {
+            Some(Some(note)) => (note.counted, lent(&note.reason), lent(&note.definition)),
+            _ => (Counted::new(self.at), None, None),
         };
         let refused = match counted.refused {
             Some((run, at)) => Some(RefusedStart { run, reason, at }),
@@ -220,6 +299,7 @@ impl RunNotes {
             kill: counted.kill,
             last_end: counted.last_end,
             refused,
+            definition,
         }
     }
 }

@@ -87,6 +87,8 @@ pub struct JobNote<'a> {
     pub last_end: Option<RunEnd>,
     /// The last start that was refused.
     pub refused: Option<RefusedStart<'a>>,
+    /// The SHA-256 of its definition as it was loaded, in 64 hexadecimal digits; None if there was no memory for it, or for a moment after the load.
+    pub definition: Option<&'a str>,
 }
 
 /// Paths that a definition has under a key, as far as they are told.

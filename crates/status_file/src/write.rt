@@ -4,7 +4,7 @@ ghost use Rattle.std.specs.Prelude.{◌≡◌, ◌++◌, ◌∷◌, [], decimal}
 ghost use Rattle.json.specs.Token.{number};
 ghost use Rattle.std.specs.List.{flat_map};
 ghost use Rattle.status_file.specs.Lines.{Adds, Puts};
-ghost use Rattle.status_file.specs.Tokens.{awaited_tokens, calendar_tokens, child_pid, child_tokens, conditions_tokens, count_token, counts_tokens, demand_token, disabled_token, disabled_tokens, end_front_tokens, end_key, end_number, end_tokens, entry_tokens, front_tokens, held_tokens, job_tokens, keys_tokens, limits_tokens, moment_tokens, moments_tokens, name_tokens, note_tokens, order_conn, order_run, others_tokens, reasons_tokens, refused_tokens, run_end_tokens, start_front_tokens, start_tokens, times_tokens, token_in, wanted_tokens, wants_tokens};
+ghost use Rattle.status_file.specs.Tokens.{awaited_tokens, calendar_tokens, child_pid, child_tokens, conditions_tokens, count_token, counts_tokens, demand_token, disabled_token, loaded_tokens, end_front_tokens, end_key, end_number, end_tokens, entry_tokens, front_tokens, held_tokens, job_tokens, keys_tokens, limits_tokens, moment_tokens, moments_tokens, name_tokens, note_tokens, order_conn, order_run, others_tokens, reasons_tokens, refused_tokens, run_end_tokens, start_front_tokens, start_tokens, times_tokens, token_in, wanted_tokens, wants_tokens};
 
 use crate::facts::JobFacts;
 use crate::line::Piece::{Close, CloseList, Count, Flag, Key, Null, Open, OpenList, Text};
@@ -102,7 +102,7 @@ fn put_front(line: &mut Line, job: &JobStatus<'_>)
         job.note.refusals,
         job.facts.reasons.wants.connections,
     );
-    put_disabled(line, job.disabled);
+    put_loaded(line, job.disabled, job.note.definition);
 }
 
 fn put_name(line: &mut Line, label: &str, state: JobState)
@@ -146,10 +146,16 @@ fn put_counts(
     ]);
 }
 
-fn put_disabled(line: &mut Line, by: Option<DisabledBy>)
-    ensures { Puts (disabled_tokens by) line.old line.new }
+// By what its label is disabled, and the digest of its definition.
+fn put_loaded(line: &mut Line, by: Option<DisabledBy>, definition: Option<&str>)
+    ensures { Puts (loaded_tokens by definition.entry) line.old line.new }
 {
-    line.put(&[Key("disabled"), disabled_piece(by)]);
+    line.put(&[
+        Key("disabled"),
+        disabled_piece(by),
+        Key("definition"),
+        text_piece(definition),
+    ]);
 }
 
 fn end_parts(how: Ended) -> (&'static str, u64)

@@ -1,0 +1,179 @@
+//! The file beside the control socket that says where the launcher's other files are: written once it serves, again where it was removed, and removed
+//! at the end.
+
+use crate::own_process::{OwnProcess, own_process};
+use crate::whole_file::put_whole;
+use child_edge::{Notice, NoticeKind, System};
+use history_model::{SECOND, Text};
+use launcher_places::{BEHIND_SOCKET, PlacesTold, places_line};
+use startup::{Plan, real_of, report};
+use std::alloc::Global;
+use std::io::ErrorKind;
+use std::rt::Env;
+use std::{env, fs, io, mem};
+
+/// What names the folder of definitions.
+const JOBS: &str = "JOBD_JOBS";
+
+/// It is looked for once in so many milliseconds at most.
+const PAUSE: u64 = SECOND;
+
+/// The file, and what it says.
+#[derive(Drop)]
+pub struct PlacesFile<R: System> {
+    rt: R,
+    alloc: Global,
+    path: String,
+    // What is written before it is put at the path.
+    beside: String,
+    line: Vec<u8>,
+    // It was looked for at this `up` last.
+    looked: Option<u64>,
+    is_begun: bool,
+    // That it can't be written was told, or waits to be.
+    is_refused: bool,
+    untold: Option<Notice>,
+}
+
+/// That of the launcher with this plan, and with this status file if it keeps one. None: it can't be made, which is told.
+pub(crate) fn places_file<R: System + Env>(
+    rt: &R,
+    alloc: Global,
+    plan: &Plan,
+    status_file: Option<&str>,
+) -> Option<PlacesFile<R>> {
+    let found = match own_process(rt) {
+        Some(own) => made(rt, alloc, plan, status_file, own),
+        None => Err(io::Error::new(ErrorKind::NotFound, "this process is not known")),
+    };
+    match found {
+        Ok(file) => Some(file),
+        Err(error) => {
+            let socket = plan.places.socket.as_str();
+            report(rt, plan.wishes.level, "places beside", socket, &error);
+            None
+        }
+    }
+}
+
+fn made<R: System + Env>(
+    rt: &R,
+    alloc: Global,
+    plan: &Plan,
+    status_file: Option<&str>,
+    own: OwnProcess,
+) -> io::Result<PlacesFile<R>> {
+    let line = line_of(rt, alloc, plan, status_file, own)?;
+    let socket = plan.places.socket.as_str();
+    Ok(PlacesFile {
+        rt: rt.clone()?,
+        alloc,
+        path: format!(in alloc; "{socket}{BEHIND_SOCKET}")?,
+        beside: format!(in alloc; "{socket}{BEHIND_SOCKET}.new")?,
+        line,
+        looked: None,
+        is_begun: false,
+        is_refused: false,
+        untold: None,
+    })
+}
+
+fn line_of<R: System + Env>(
+    rt: &R,
+    alloc: Global,
+    plan: &Plan,
+    status_file: Option<&str>,
+    own: OwnProcess,
+) -> io::Result<Vec<u8>> {
+    let places = &plan.places;
+    let journal = match &places.journal {
+        Some(path) => Some(real_of(rt, alloc, path.as_str())?),
+        None => None,
+    };
+    let status_file = match status_file {
+        Some(path) => Some(real_of(rt, alloc, path)?),
+        None => None,
+    };
+    let jobs = match env::var(rt, JOBS) {
+        Ok(path) if !path.is_empty() => Some(real_of(rt, alloc, path.as_str())?),
+        _ => None,
+    };
+    let store = real_of(rt, alloc, places.store.as_str())?;
+    let spool = real_of(rt, alloc, places.spool.as_str())?;
+    let told = PlacesTold {
+        pid: own.pid,
+        began: own.began,
+        journal: lent(&journal),
+        status_file: lent(&status_file),
+        store: store.as_str(),
+        spool: spool.as_str(),
+        jobs: lent(&jobs),
+    };
+    let line = places_line(alloc, &told)?;
+    Ok(line)
+}
+
+fn lent(path: &Option<String>) -> Option<&str> {
+    match path {
+        Some(path) => Some(path.as_str()),
+        None => None,
+    }
+}
+
+impl<R: System> PlacesFile<R> {
+    /// Writes it, the first time that this is called.
+    pub(crate) fn begin(&mut self) {
+        if !self.is_begun {
+            self.is_begun = true;
+            self.put();
+        }
+    }
+
+    /// Writes it again if it is gone, once a second at most.
+    pub(crate) fn keep(&mut self, up: u64) {
+        let looked = self.looked.unwrap_or(up);
+        if self.looked.is_some() && up < looked.saturating_add(PAUSE) {
+            return;
+        }
+        self.looked = Some(up);
+        if self.is_begun && fs::metadata(&self.rt, self.path.as_str()).is_err() {
+            self.put();
+        }
+    }
+
+    // What the system refuses is told once, until it is written again.
+    fn put(&mut self) {
+        let (path, beside) = (self.path.as_str(), self.beside.as_str());
+        match put_whole(&self.rt, path, beside, self.line.as_slice()) {
+            Ok(()) => self.is_refused = false,
+            Err(error) => self.tell(error),
+        }
+    }
+
+    fn tell(&mut self, error: io::Error) {
+        if self.is_refused {
+            return;
+        }
+        self.is_refused = true;
+        let path = self.path.as_str();
+        if let Ok(line) = format!(in self.alloc; "places {path}: {error}") {
+            let notice = Notice {
+                kind: NoticeKind::Refusal,
+                text: Text::new(line),
+            };
+            drop(mem::replace(&mut self.untold, Some(notice)));
+        }
+    }
+
+    /// What is to be told of it.
+    pub(crate) fn next_notice(&mut self) -> Option<Notice> {
+        self.untold.take()
+    }
+
+    /// The launcher ends.
+    pub(crate) fn remove(&self) {
+        if self.is_begun {
+            let _gone = fs::remove_file(&self.rt, self.path.as_str());
+        }
+    }
+}
