@@ -132,11 +132,7 @@ fn applied_in(alloc: Global, bytes: Vec<u8>) -> Result<Applied, AllocError> {
     Ok(Applied { files, text })
 }
 
-fn add_line(
-    alloc: Global,
-    line: &str,
-    files: &mut Vec<AppliedFile>,
-) -> Result<(), AllocError> {
+fn add_line(alloc: Global, line: &str, files: &mut Vec<AppliedFile>) -> Result<(), AllocError> {
     let Some(value) = json_value(alloc, line.as_bytes())? else {
         return Ok(());
     };

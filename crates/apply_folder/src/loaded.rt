@@ -8,15 +8,15 @@ use launcher_places::Places;
 use status_file::{DisabledBy, JobStatus, LauncherStatus, StatusFault, StatusLine, state_of};
 use status_page::{Life, Standing, Trouble, named_path, read_standing};
 use std::alloc::{AllocError, Global};
-use std::fs;
 use std::time::{Duration, SystemTime};
-use std::{io, thread};
+use std::{fs, io, thread};
 
 /// For how many milliseconds a file may be behind what it tells: it is written within a second of a change, and a round later.
 const BEHIND: u64 = 1_200;
 
 /// How often it is looked at again, and how many milliseconds lie between: three seconds and a half.
 const LOOKS: u32 = 70;
+
 const BETWEEN: u64 = 50;
 
 /// A loaded job.
@@ -37,6 +37,11 @@ pub(crate) struct Job {
     pub(crate) since: u64,
     /// In seconds; 0 for ever.
     pub(crate) exit_time_out: u32,
+    /// Whether a file says something else of it, so that its definition is wanted; and that, if it was found.
+    pub(crate) wants_before: bool,
+    pub(crate) before: Option<String>,
+    /// Whether that has `Disabled`.
+    pub(crate) was_disabled: bool,
 }
 
 /// What is loaded, by rising bytes of labels, and the file that told it.
@@ -150,7 +155,9 @@ fn is_of(places: &Places, launcher: &LauncherStatus<'_>) -> bool {
 }
 
 fn stale(host: &HostRuntime, path: &str, why: &str) -> Result<(), Stop> {
-    let _written = eprintln!(host; "jobctl: apply: {path}: {why}, so it does not say what is loaded");
+    let _written = eprintln!(host;
+        "jobctl: apply: {path}: {why}, so it does not say what is loaded"
+    );
     Err(Stop::Told(NO_ANSWER))
 }
 
@@ -203,11 +210,7 @@ fn add_job(alloc: Global, line: &StatusLine, jobs: &mut Vec<Job>) -> Result<(), 
     Ok(())
 }
 
-fn job_with(
-    alloc: Global,
-    status: &JobStatus<'_>,
-    has_calendar: bool,
-) -> Result<Job, AllocError> {
+fn job_with(alloc: Global, status: &JobStatus<'_>, has_calendar: bool) -> Result<Job, AllocError> {
     let state = state_of(&status.facts.reasons);
     let since = match status.note.started {
         Some(at) => at.wall,
@@ -224,14 +227,18 @@ fn job_with(
         run: status.note.run,
         since,
         exit_time_out: status.keys.exit_time_out,
+        wants_before: false,
+        before: None,
+        was_disabled: false,
     })
 }
 
 // Whether something keeps it alive, and no clock starts it.
 fn is_kept_alive(status: &JobStatus<'_>, has_calendar: bool) -> bool {
     let keys = &status.keys;
-    let has_condition =
-        keys.successful_exit.is_some() || keys.crashed.is_some() || keys.path_state.count > 0;
+    let has_condition = keys.successful_exit.is_some()
+        || keys.crashed.is_some()
+        || keys.path_state.count > 0;
     let has_clock = has_calendar || keys.start_interval.is_some();
     (status.facts.reasons.wants.keep_alive || has_condition) && !has_clock
 }
@@ -247,10 +254,12 @@ pub(crate) fn status_path(
         return Ok(path);
     }
     match places {
-        Some(Places {
-            status_file: Some(path),
-            ..
-        }) => Ok(String::from_str(alloc, path.as_str())?),
+        Some(
+            Places {
+                status_file: Some(path),
+                ..
+            },
+        ) => Ok(String::from_str(alloc, path.as_str())?),
         _ => {
             let _written = eprintln!(host;
                 "jobctl: apply: the launcher at {socket} keeps no status file (JOBD_STATUS_FILE), so nothing tells what is loaded"

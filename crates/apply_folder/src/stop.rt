@@ -2,16 +2,13 @@
 
 use control_client::Fault;
 use std::alloc::{AllocError, AllocFailed};
-use std::io;
 
 /// What ends it.
 #[derive(Drop)]
 pub(crate) enum Stop {
     NoMemory,
-    /// The launcher does not answer.
+    /// The launcher does not answer, or the standard output fails.
     Ask(Fault),
-    /// The standard output fails.
-    Output(io::Error),
     /// Something that was told, with this status.
     Told(u8),
 }

@@ -48,10 +48,19 @@ impl ApplyFlags {
     /// Those and this one.
     pub fn with(self, wish: Wish) -> ApplyFlags {
         match wish {
-            Wish::DryRun => ApplyFlags { dry_run: true, ..self },
-            Wish::Prune => ApplyFlags { prune: true, ..self },
+            Wish::DryRun => ApplyFlags {
+                dry_run: true,
+                ..self
+            },
+            Wish::Prune => ApplyFlags {
+                prune: true,
+                ..self
+            },
             Wish::Now => ApplyFlags { now: true, ..self },
-            Wish::Strict => ApplyFlags { strict: true, ..self },
+            Wish::Strict => ApplyFlags {
+                strict: true,
+                ..self
+            },
             Wish::Wait => ApplyFlags { wait: true, ..self },
             Wish::Json => ApplyFlags { json: true, ..self },
         }

@@ -1,0 +1,139 @@
+//! The definitions of loaded jobs of which files say something else.
+
+use crate::applied::Applied;
+use crate::gathered::{Filed, Gathered};
+use crate::loaded::{Job, place_of};
+use crate::recorded::add_recorded;
+use json_kinds::json_value;
+use launcher_places::{Places, check_own_file};
+use serde_json::Value;
+use std::alloc::{AllocError, Global};
+
+/// Says of each job whether an earlier apply of one of the folders loaded it, and of each file under which other label it was loaded.
+pub(crate) fn mark_applied(
+    alloc: Global,
+    gathered: &mut Gathered,
+    applied: &Applied,
+    jobs: &mut [Job],
+) -> Result<(), AllocError> {
+    for file in &applied.files {
+        if has_folder(gathered.folders.as_slice(), file.folder.as_str()) {
+            mark_job(jobs, file.label.as_str());
+        }
+    }
+    let Gathered { files, folders } = gathered;
+    for file in files.iter_mut() {
+        mark_file(alloc, file, folders.as_slice(), applied)?;
+    }
+    Ok(())
+}
+
+fn has_folder(folders: &[String], path: &str) -> bool {
+    for folder in folders {
+        if folder.as_str() == path {
+            return true;
+        }
+    }
+    false
+}
+
+fn mark_job(jobs: &mut [Job], label: &str) {
+    if let Some(place) = place_of(jobs, label) {
+        if let Some(job) = jobs.get_mut(place) {
+            job.was_applied = true;
+        }
+    }
+}
+
+fn mark_file(
+    alloc: Global,
+    file: &mut Filed,
+    folders: &[String],
+    applied: &Applied,
+) -> Result<(), AllocError> {
+    let Some(number) = file.folder else {
+        return Ok(());
+    };
+    let Some(folder) = folders.get(number) else {
+        return Ok(());
+    };
+    file.former = match applied.label_of(folder.as_str(), file.name()) {
+        Some(label) if label != file.label.as_str() => Some(String::from_str(alloc, label)?),
+        _ => None,
+    };
+    Ok(())
+}
+
+/// Finds the definitions: among those that applies kept, else in the journal, if it is a plain file of the launcher's user.
+pub(crate) fn find_before(
+    host: &HostRuntime,
+    alloc: Global,
+    files: &[Filed],
+    applied: &Applied,
+    places: &Option<Places>,
+    user: u32,
+    jobs: &mut [Job],
+) -> Result<(), AllocError> {
+    let mut wants_more = false;
+    for file in files {
+        let wants = want(alloc, file, applied, jobs)?;
+        wants_more = wants_more || wants;
+    }
+    if wants_more {
+        match places {
+            Some(
+                Places {
+                    journal: Some(journal),
+                    ..
+                },
+            ) if check_own_file(host, journal.as_str(), user).is_ok() => {
+                add_recorded(host, alloc, journal.as_str(), jobs)?;
+            }
+            _ => {}
+        }
+    }
+    note_disabled(alloc, jobs)
+}
+
+// Whether the definition of the file's job is wanted, and was not found.
+fn want(
+    alloc: Global,
+    file: &Filed,
+    applied: &Applied,
+    jobs: &mut [Job],
+) -> Result<bool, AllocError> {
+    let Some(place) = place_of(jobs, file.label.as_str()) else {
+        return Ok(false);
+    };
+    let Some(job) = jobs.get_mut(place) else {
+        return Ok(false);
+    };
+    let is_same = job.digest.as_str() == file.digest.as_str();
+    if is_same || file.digest.is_empty() || job.digest.is_empty() || job.wants_before {
+        return Ok(false);
+    }
+    job.wants_before = true;
+    job.before = applied.definition(alloc, job.digest.as_str())?;
+    Ok(job.before.is_none())
+}
+
+fn note_disabled(alloc: Global, jobs: &mut [Job]) -> Result<(), AllocError> {
+    for job in jobs.iter_mut() {
+        if let Some(text) = &job.before {
+            let is_disabled = has_disabled(alloc, text.as_str())?;
+            job.was_disabled = is_disabled;
+        }
+    }
+    Ok(())
+}
+
+fn has_disabled(alloc: Global, text: &str) -> Result<bool, AllocError> {
+    match json_value(alloc, text.as_bytes())? {
+        Some(value) => {
+            let is_disabled = matches!(value.get("Disabled"), Some(Value::Bool(true)));
+            drop(value);
+            Ok(is_disabled)
+        }
+        None => Ok(false),
+    }
+}
