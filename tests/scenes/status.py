@@ -192,6 +192,62 @@ def what_tells_a_launchers_places(stage):
     check(launcher.ends() == 8 and "it is where the launcher writes its places" in launcher.said(), f"a journal in its place: {launcher.said()}")
 
 
+def a_journal_that_is_renamed(stage):
+    """It is told once, and written on; a journal that is put back is watched again. Who closes it is told that alone."""
+    launcher = stage.serve(journal="journal")
+    moved = "it was renamed or removed, and is written on where it is now"
+
+    def says(count):
+        def said():
+            launcher.ask({"req": "list"})
+            return len(launcher.lines(f"jobd: journal {stage.at('journal')}: {moved}")) >= count
+        wait_for(said, lambda: f"it does not tell it: {launcher.said()!r}")
+    launcher.load(shell_job("first", "exec sleep 600"))
+    os.rename(stage.at("journal"), stage.at("old"))
+    says(1)
+    before = os.path.getsize(stage.at("old"))
+    launcher.load(shell_job("second", "exec sleep 600"))
+    wait_for(lambda: os.path.getsize(stage.at("old")) > before, "nothing more is written to it")
+    check(not os.path.exists(stage.at("journal")), "another journal is made")
+    os.rename(stage.at("old"), stage.at("journal"))
+    # (it is seen there before it goes again: a second passes between two looks)
+    end = time.monotonic() + 2.5
+    while time.monotonic() < end:
+        launcher.ask({"req": "list"})
+        time.sleep(0.1)
+    os.unlink(stage.at("journal"))
+    says(2)
+    launcher.shut_down()
+    check(len(launcher.lines("jobd: journal ")) == 2, f"it says {launcher.said()!r}")
+
+
+def who_may_read_a_status_file(stage):
+    """The group that JOBD_STATUS_GROUP names by its number may read it, and what tells the places; the lock nobody else. One that this user may not give a file
+    to is told, and the file is written without; a word that is no number names none."""
+    groups = [group for group in os.getgroups() if group != os.getgid()]
+    own = groups[0] if groups else os.getgid()
+    path = stage.at("standing/status.jsonl")
+    os.makedirs(stage.at("standing"), mode=0o700)
+    launcher = stage.serve(env={"JOBD_STATUS_FILE": path, "JOBD_STATUS_GROUP": str(own)})
+    launcher.load(shell_job("a", "exec sleep 600"))
+    job_where(path, "a", lambda job: True)
+    for name in (path, stage.at("socket.places")):
+        data = os.stat(name)
+        check(stat.S_IMODE(data.st_mode) == 0o640 and data.st_gid == own, f"{name}: {oct(data.st_mode)}, {data.st_gid}")
+    check(stat.S_IMODE(os.stat(path + ".lock").st_mode) == 0o600, "others may read the lock")
+    launcher.shut_down()
+    for word, told in (("4000000", "Operation not permitted"), ("adm", "it is no number of a group")):
+        if word.isdigit() and os.geteuid() == 0:
+            continue
+        launcher = stage.serve(env={"JOBD_STATUS_FILE": path, "JOBD_STATUS_GROUP": word})
+        launcher.load(shell_job(word, "exec sleep 600"))
+        job_where(path, word, lambda job: True)
+        data = os.stat(path)
+        check(stat.S_IMODE(data.st_mode) == 0o600, f"with {word} its mode is {oct(data.st_mode)}")
+        wait_for(lambda: told in launcher.said(), lambda: f"with {word} it says {launcher.said()!r}")
+        launcher.shut_down()
+
+
 def a_status_file_rests(stage):
     """While nothing changes nothing is written, and however much changes, at most once a second."""
     launcher, path = serve(stage)
@@ -565,6 +621,8 @@ SCENES = [
     what_a_status_file_holds,
     which_definition_is_loaded,
     what_tells_a_launchers_places,
+    who_may_read_a_status_file,
+    a_journal_that_is_renamed,
     a_status_file_rests,
     a_killed_launcher_leaves_a_whole_file,
     status_files_that_are_refused,

@@ -3,6 +3,7 @@
 //! the turns by `RoundLauncher`.
 #![tactic(auto)]
 
+mod journal_watch;
 mod keeper;
 mod kill_waits;
 mod loaded_definition;

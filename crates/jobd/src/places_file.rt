@@ -27,6 +27,8 @@ pub struct PlacesFile<R: System> {
     // What is written before it is put at the path.
     beside: String,
     line: Vec<u8>,
+    // The group that may read it.
+    group: Option<u32>,
     // It was looked for at this `up` last.
     looked: Option<u64>,
     is_begun: bool,
@@ -41,9 +43,10 @@ pub(crate) fn places_file<R: System + Env>(
     alloc: Global,
     plan: &Plan,
     status_file: Option<&str>,
+    group: Option<u32>,
 ) -> Option<PlacesFile<R>> {
     let found = match own_process(rt) {
-        Some(own) => made(rt, alloc, plan, status_file, own),
+        Some(own) => made(rt, alloc, plan, status_file, own, group),
         None => Err(io::Error::new(ErrorKind::NotFound, "this process is not known")),
     };
     match found {
@@ -62,6 +65,7 @@ fn made<R: System + Env>(
     plan: &Plan,
     status_file: Option<&str>,
     own: OwnProcess,
+    group: Option<u32>,
 ) -> io::Result<PlacesFile<R>> {
     let line = line_of(rt, alloc, plan, status_file, own)?;
     let socket = plan.places.socket.as_str();
@@ -71,6 +75,7 @@ fn made<R: System + Env>(
         path: format!(in alloc; "{socket}{BEHIND_SOCKET}")?,
         beside: format!(in alloc; "{socket}{BEHIND_SOCKET}.new")?,
         line,
+        group,
         looked: None,
         is_begun: false,
         is_refused: false,
@@ -144,7 +149,12 @@ impl<R: System> PlacesFile<R> {
     // What the system refuses is told once, until it is written again.
     fn put(&mut self) {
         let (path, beside) = (self.path.as_str(), self.beside.as_str());
-        match put_whole(&self.rt, path, beside, self.line.as_slice()) {
+        let line = self.line.as_slice();
+        let put = match put_whole(&self.rt, path, beside, line, self.group) {
+            Err(_) if self.group.is_some() => put_whole(&self.rt, path, beside, line, None),
+            answer => answer,
+        };
+        match put {
             Ok(()) => self.is_refused = false,
             Err(error) => self.tell(error),
         }

@@ -16,12 +16,19 @@ pub trait SleepEdge: ClockEdge {
     fn slept(&mut self) -> u64
         ensures told { Self.told self.new ≡ Self.told self.old }
         ensures success { Self.failures self.new ≡ Self.failures self.old };
+
+    /// This is the launcher's reading of the round: its `up` counts the sleep that the launcher counts. It is no call of the edge.
+    fn note_time(&mut self, at: Reading)
+        ensures told { Self.told self.new ≡ Self.told self.old }
+        ensures success { Self.failures self.new ≡ Self.failures self.old };
 }
 
 impl<R: System> SleepEdge for OsEdge<R> {
     fn slept(&mut self) -> u64 {
         slept()
     }
+
+    fn note_time(&mut self, _at: Reading) {}
 }
 
 /// An edge as rounds ask it. Each call is that of `OsEdge`. None of them is a call that an edge tells: by them no child is started or signalled,

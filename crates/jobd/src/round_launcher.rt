@@ -91,6 +91,8 @@ impl<T: SettingStore, E: ChildEdge + SocketEdge, W: Write> RoundLauncher<T, E, W
         let answer = self.host.edge().read();
         let shown = self.shown(answer, slept);
         self.at = later_of(self.at, shown);
+        let at = self.at;
+        self.host.edge().note_time(at);
     }
 
     // What a clock shows that counts sleeps, by the answer of one that stands still in them; or what it showed before. Further sleeps are counted

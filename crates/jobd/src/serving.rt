@@ -1,6 +1,7 @@
 //! `jobd serve`: what the launcher stands on is opened step by step, and then it serves. What opens holds the edge and the store as
 //! type parameters, so that only `serve_by` is proved for all that the edge of the system holds, and only `startup` for the store's files.
 
+use crate::journal_watch::journal_watch;
 use crate::keeper::Keeper;
 use crate::own_process::own_process;
 use crate::places_file::{PlacesFile, places_file};
@@ -31,6 +32,9 @@ use std::{env, str};
 
 /// What names the file on how the launcher stands.
 const STATUS_FILE: &str = "JOBD_STATUS_FILE";
+
+/// What names the group that may read it.
+const STATUS_GROUP: &str = "JOBD_STATUS_GROUP";
 
 /// Serves until a shutdown was accepted and no job is left: 0. A fault is told, and its status given: in this order the zone
 /// 7, how the process was started and the clock 9, the control socket 6, the journal 8, the store 5, the spool 10, waiting 9; 1
@@ -84,9 +88,11 @@ fn serve_kept<L: Wait, R: System + Env + Print, E: RoundEdge + Drop>(
     edge: E,
     reading: Reading,
 ) -> u8 {
-    let (zone, kept) = kept_for(rt, host.alloc(), plan, zone, reading);
-    let places = told_places(rt, host.alloc(), plan, kept.is_some());
-    let edge = StatusEdge::new(edge, kept, places);
+    let group = group_of(rt, plan);
+    let (zone, kept) = kept_for(rt, host.alloc(), plan, zone, reading, group);
+    let places = told_places(rt, host.alloc(), plan, kept.is_some(), group);
+    let journal = journal_watch(rt, host.alloc(), plan);
+    let edge = StatusEdge::new(edge, kept, places, journal);
     serve_over(host, rt, waits, plan, zone, edge, reading)
 }
 
@@ -98,6 +104,7 @@ fn kept_for<R: System + Env>(
     plan: &Plan,
     zone: ZoneText,
     reading: Reading,
+    group: Option<u32>,
 ) -> (ZoneText, Option<(StandingFile<R>, Keeper)>) {
     let Ok(path) = env::var(rt, STATUS_FILE) else {
         return (zone, None);
@@ -108,7 +115,7 @@ fn kept_for<R: System + Env>(
     }
     let (zone, line) = headed(alloc, zone, reading);
     let kept = match keeper_of(rt, alloc, plan, line, reading) {
-        Some(keeper) => held_with(rt, alloc, plan, path.as_str(), keeper),
+        Some(keeper) => held_with(rt, alloc, plan, path.as_str(), group, keeper),
         None => {
             let why = "this process is not known, or there is no memory";
             report(rt, plan.wishes.level, "status file", path.as_str(), &why);
@@ -125,6 +132,7 @@ fn told_places<R: System + Env>(
     alloc: Global,
     plan: &Plan,
     keeps_status: bool,
+    group: Option<u32>,
 ) -> Option<PlacesFile<R>> {
     match env::var(rt, STATUS_FILE) {
         Ok(path) => {
@@ -133,12 +141,32 @@ fn told_places<R: System + Env>(
             } else {
                 None
             };
-            let file = places_file(rt, alloc, plan, named);
+            let file = places_file(rt, alloc, plan, named, group);
             drop(path);
             file
         }
-        Err(_) => places_file(rt, alloc, plan, None),
+        Err(_) => places_file(rt, alloc, plan, None, group),
     }
+}
+
+// The group that may read the file, by its number. Another word is told, and names none.
+fn group_of<R: System + Env>(rt: &R, plan: &Plan) -> Option<u32> {
+    let Ok(word) = env::var(rt, STATUS_GROUP) else {
+        return None;
+    };
+    let group = word.as_str().parse::<u32>().ok();
+    if group.is_none() && !word.is_empty() {
+        let level = plan.wishes.level;
+        report(
+            rt,
+            level,
+            STATUS_GROUP,
+            word.as_str(),
+            &"it is no number of a group",
+        );
+    }
+    drop(word);
+    group
 }
 
 // What is written to it, if it is known which process this is.
@@ -168,9 +196,10 @@ fn held_with<R: System>(
     alloc: Global,
     plan: &Plan,
     path: &str,
+    group: Option<u32>,
     keeper: Keeper,
 ) -> Option<(StandingFile<R>, Keeper)> {
-    match StandingFile::take(rt, alloc, path, plan.standing.user) {
+    match StandingFile::take(rt, alloc, path, plan.standing.user, group) {
         Ok(file) => Some((file, keeper)),
         Err(error) => {
             drop(keeper);

@@ -16,6 +16,8 @@ pub struct StandingFile<R: System> {
     // What is written before it is put at the path.
     beside: String,
     user: Option<u32>,
+    // The group that may read it.
+    group: Option<u32>,
     lock: LockFile,
     // Something happened since it was written, and it was tried last at this `up`.
     has_changed: bool,
@@ -34,6 +36,14 @@ fn folder_of(path: &str) -> &str {
     }
 }
 
+/// EPERM: this user may not give a file to the group (chown(2)).
+const NOT_PERMITTED: i32 = 1;
+
+// Whether the file can't be given to the group.
+fn is_of_group(error: &io::Error, group: Option<u32>) -> bool {
+    group.is_some() && error.raw_os_error() == Some(NOT_PERMITTED)
+}
+
 impl<R: System> StandingFile<R> {
     /// Takes the lock of the file at the path. Refused: `ResourceBusy`, if another launcher holds it; `InvalidInput`, if others may write in its folder;
     /// any other error of the system.
@@ -42,6 +52,7 @@ impl<R: System> StandingFile<R> {
         alloc: Global,
         path: &str,
         user: Option<u32>,
+        group: Option<u32>,
     ) -> io::Result<StandingFile<R>> {
         check_folder(rt, folder_of(path), user)?;
         let own = rt.clone()?;
@@ -54,6 +65,7 @@ impl<R: System> StandingFile<R> {
             path,
             beside,
             user,
+            group,
             lock,
             has_changed: true,
             tried: None,
@@ -94,10 +106,21 @@ impl<R: System> StandingFile<R> {
         self.tried = Some(at.up);
     }
 
-    fn replace(&self, text: &[u8]) -> io::Result<()> {
+    fn replace(&mut self, text: &[u8]) -> io::Result<()> {
         check_folder(&self.rt, folder_of(self.path.as_str()), self.user)?;
+        match self.put_for(text, self.group) {
+            Err(error) if is_of_group(&error, self.group) => {
+                self.group = None;
+                self.tell(error);
+                self.put_for(text, None)
+            }
+            answer => answer,
+        }
+    }
+
+    fn put_for(&self, text: &[u8], group: Option<u32>) -> io::Result<()> {
         let (path, beside) = (self.path.as_str(), self.beside.as_str());
-        put_whole(&self.rt, path, beside, text)
+        put_whole(&self.rt, path, beside, text, group)
     }
 
     fn tell(&mut self, error: io::Error) {

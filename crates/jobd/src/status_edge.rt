@@ -3,6 +3,7 @@
 
 ghost use Rattle.std.specs.Prelude.{◌≡◌, ◌≤◌, ℕ, List, Option, Some};
 
+use crate::journal_watch::JournalWatch;
 use crate::keeper::Keeper;
 use crate::places_file::PlacesFile;
 use crate::round_edge::{RoundEdge, SleepEdge};
@@ -22,19 +23,18 @@ pub struct StatusEdge<E: RoundEdge, R: System> {
     edge: E,
     file: Option<StandingFile<R>>,
     places: Option<PlacesFile<R>>,
+    journal: Option<JournalWatch<R>>,
     // It is out while the text is written.
     keeper: Option<Keeper>,
-    // What the edge told of sleeps first, and last.
-    before: Option<u64>,
-    slept: u64,
 }
 
 impl<E: RoundEdge, R: System> StatusEdge<E, R> {
-    /// The edge, with the file and what keeps it, or with none; and with the file that tells the launcher's places.
+    /// The edge, with the file and what keeps it, or with none; with the file that tells the launcher's places, and the watch on its journal.
     pub(crate) fn new(
         edge: E,
         kept: Option<(StandingFile<R>, Keeper)>,
         places: Option<PlacesFile<R>>,
+        journal: Option<JournalWatch<R>>,
     ) -> StatusEdge<E, R> {
         let (file, keeper) = match kept {
             Some((file, keeper)) => (Some(file), Some(keeper)),
@@ -44,20 +44,9 @@ impl<E: RoundEdge, R: System> StatusEdge<E, R> {
             edge,
             file,
             places,
+            journal,
             keeper,
-            before: None,
-            slept: 0,
         }
-    }
-}
-
-// From now on this is the reading of what is noted: that of a clock that stands still in sleeps, with the sleep since the first.
-fn note_reading(kept: &mut Option<Keeper>, awake: Reading, slept: u64) {
-    if let Some(keeper) = kept {
-        keeper.notes.at = Reading {
-            up: awake.up.saturating_add(slept),
-            wall: awake.wall,
-        };
     }
 }
 
@@ -158,21 +147,21 @@ impl<E: RoundEdge, R: System> PathEdge for StatusEdge<E, R> {
 
 impl<E: RoundEdge, R: System> ClockEdge for StatusEdge<E, R> {
     fn read(&mut self) -> Result<Reading, EdgeFault> {
-        let answer = self.edge.read();
-        if let Ok(awake) = &answer {
-            let slept = self.slept.saturating_sub(self.before.unwrap_or(self.slept));
-            note_reading(&mut self.keeper, *awake, slept);
-        }
-        answer
+        self.edge.read()
     }
 }
 
 impl<E: RoundEdge, R: System> SleepEdge for StatusEdge<E, R> {
     fn slept(&mut self) -> u64 {
-        let slept = self.edge.slept();
-        self.before = self.before.or(Some(slept));
-        self.slept = slept;
-        slept
+        self.edge.slept()
+    }
+
+    // From now on it is the reading of what is noted.
+    fn note_time(&mut self, at: Reading) {
+        self.edge.note_time(at);
+        if let Some(keeper) = &mut self.keeper {
+            keeper.notes.at = at;
+        }
     }
 }
 
@@ -196,6 +185,9 @@ impl<E: RoundEdge, R: System> RoundEdge for StatusEdge<E, R> {
     fn register(&mut self, registry: &Registry, token: Token) -> bool {
         if let Some(places) = &mut self.places {
             places.begin();
+        }
+        if let Some(journal) = &mut self.journal {
+            journal.begin();
         }
         self.edge.register(registry, token)
     }
@@ -249,6 +241,11 @@ impl<E: RoundEdge, R: System> RoundEdge for StatusEdge<E, R> {
                 return Some(notice);
             }
         }
+        if let Some(journal) = &mut self.journal {
+            if let Some(notice) = journal.next_notice() {
+                return Some(notice);
+            }
+        }
         self.edge.next_notice()
     }
 
@@ -267,6 +264,9 @@ impl<E: RoundEdge, R: System> RoundEdge for StatusEdge<E, R> {
     }
 
     fn note_closing(&mut self) {
+        if let Some(journal) = &mut self.journal {
+            journal.end();
+        }
         if let Some(keeper) = &mut self.keeper {
             keeper.close();
         }
@@ -278,6 +278,9 @@ impl<E: RoundEdge, R: System> RoundEdge for StatusEdge<E, R> {
     fn lend_keeper(&mut self, at: Reading, has_changed: bool) -> Option<Keeper> {
         if let Some(places) = &mut self.places {
             places.keep(at.up);
+        }
+        if let Some(journal) = &mut self.journal {
+            journal.look(at.up);
         }
         let file = self.file.as_mut()?;
         if file.is_due(at, has_changed) {

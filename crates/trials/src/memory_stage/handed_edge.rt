@@ -125,4 +125,6 @@ impl SleepEdge for HandedEdge {
     fn slept(&mut self) -> u64 {
         self.slept
     }
+
+    fn note_time(&mut self, _at: Reading) {}
 }

@@ -32,10 +32,10 @@ returns g c =
     record {
       answer = c.read-answer.result;
       slept = c.slept-slept.result;
-      edge = c.read-answer.new.self;
+      edge = c.note_time.new.self;
       told = search rules;
       handed = handed;
       shown = c.shown-shown.result;
       shows = lent-shows c.read-answer.result c.slept-slept.result c.read-answer.new.self c.args.self.now handed c.shown-shown.result c.shown-shown.ensures.shows;
-      read = read-is mid c.shown-shown.new.self handed c.later_of-self.result at c.shown-shown.ensures.same same;
+      read = ap (lent c.note_time.new.self) (read-is mid c.shown-shown.new.self handed c.later_of-self.result at c.shown-shown.ensures.same same);
     }

@@ -1,0 +1,126 @@
+//! Whether the journal is still at its path: one that is renamed or removed is written on where it is, and that is told.
+
+use child_edge::{Notice, NoticeKind, System};
+use history_model::{SECOND, Text};
+use startup::Plan;
+use std::alloc::Global;
+use std::os::unix::fs::MetadataExt;
+use std::{fs, mem};
+
+/// It is looked at once in so many milliseconds at most.
+const PAUSE: u64 = SECOND;
+
+/// Which file one is: the number of its device, and that of the file on it.
+#[derive(Clone, Copy)]
+struct Place {
+    device: u64,
+    inode: u64,
+}
+
+/// The journal at its path.
+#[derive(Drop)]
+pub struct JournalWatch<R: System> {
+    rt: R,
+    alloc: Global,
+    path: String,
+    // That of the journal, once the launcher serves.
+    own: Option<Place>,
+    looked: u64,
+    is_told: bool,
+    untold: Option<Notice>,
+}
+
+/// That of the launcher with this plan. None: it keeps no journal, or there is no memory.
+pub(crate) fn journal_watch<R: System>(
+    rt: &R,
+    alloc: Global,
+    plan: &Plan,
+) -> Option<JournalWatch<R>> {
+    let path = match &plan.places.journal {
+        Some(path) => String::from_str(alloc, path.as_str()).ok()?,
+        None => return None,
+    };
+    match rt.clone() {
+        Ok(rt) => Some(JournalWatch {
+            rt,
+            alloc,
+            path,
+            own: None,
+            looked: 0,
+            is_told: false,
+            untold: None,
+        }),
+        Err(_) => {
+            drop(path);
+            None
+        }
+    }
+}
+
+fn place_at<R: System>(rt: &R, path: &str) -> Option<Place> {
+    match fs::metadata(rt, path) {
+        Ok(data) => Some(Place {
+            device: data.dev(),
+            inode: data.ino(),
+        }),
+        Err(_) => None,
+    }
+}
+
+fn is_one(first: Place, second: Option<Place>) -> bool {
+    match second {
+        Some(second) => first.device == second.device && first.inode == second.inode,
+        None => false,
+    }
+}
+
+impl<R: System> JournalWatch<R> {
+    /// What is at the path is the journal, which was just opened. It counts the first time that this is called.
+    pub(crate) fn begin(&mut self) {
+        if self.own.is_none() && !self.is_told {
+            self.own = place_at(&self.rt, self.path.as_str());
+        }
+    }
+
+    /// Looks, once a second at most.
+    pub(crate) fn look(&mut self, up: u64) {
+        let Some(own) = self.own else {
+            return;
+        };
+        if up < self.looked.saturating_add(PAUSE) {
+            return;
+        }
+        self.looked = up;
+        if is_one(own, place_at(&self.rt, self.path.as_str())) {
+            self.is_told = false;
+        } else if !self.is_told {
+            self.tell();
+        }
+    }
+
+    fn tell(&mut self) {
+        self.is_told = true;
+        let path = self.path.as_str();
+        let line = format!(in self.alloc;
+            "journal {path}: it was renamed or removed, and is written on where it is now"
+        );
+        if let Ok(line) = line {
+            let notice = Notice {
+                kind: NoticeKind::Refusal,
+                text: Text::new(line),
+            };
+            drop(mem::replace(&mut self.untold, Some(notice)));
+        }
+    }
+
+    /// Nothing more is written to it.
+    pub(crate) fn end(&mut self) {
+        self.own = None;
+        self.is_told = true;
+    }
+
+    /// What is to be told of it.
+    pub(crate) fn next_notice(&mut self) -> Option<Notice> {
+        self.untold.take()
+    }
+}
