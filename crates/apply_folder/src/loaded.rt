@@ -19,6 +19,9 @@ const LOOKS: u32 = 70;
 
 const BETWEEN: u64 = 50;
 
+/// After so many looks a job is taken whose definition is not told, as it is for a moment after a load.
+const UNTOLD: u32 = 40;
+
 /// A loaded job.
 #[derive(Drop)]
 pub(crate) struct Job {
@@ -60,9 +63,12 @@ pub(crate) fn look_at(
     places: &Option<Places>,
 ) -> Result<Look, Stop> {
     let asked = SystemTime::now(host);
-    for _ in 0..LOOKS {
+    for turn in 0..LOOKS {
         if let Some(look) = look_once(host, alloc, client, path, places, &asked)? {
-            return Ok(look);
+            if turn >= UNTOLD || all_told(look.jobs.as_slice()) {
+                return Ok(look);
+            }
+            drop(look);
         }
         thread::sleep(host, Duration::from_millis(BETWEEN));
     }
@@ -70,6 +76,15 @@ pub(crate) fn look_at(
         "jobctl: apply: {path} does not say what the launcher has loaded: it was not written anew"
     );
     Err(Stop::Told(NO_ANSWER))
+}
+
+fn all_told(jobs: &[Job]) -> bool {
+    for job in jobs {
+        if job.digest.is_empty() {
+            return false;
+        }
+    }
+    true
 }
 
 // None: the file may be behind.
@@ -218,7 +233,7 @@ fn job_with(alloc: Global, status: &JobStatus<'_>, has_calendar: bool) -> Result
     };
     Ok(Job {
         label: String::from_str(alloc, status.label)?,
-        digest: String::from_str(alloc, status.definition.unwrap_or(""))?,
+        digest: String::from_str(alloc, status.note.definition.unwrap_or(""))?,
         is_running: !matches!(state, JobState::Idle),
         is_kept_alive: is_kept_alive(status, has_calendar),
         is_going: matches!(state, JobState::Removing),
