@@ -4,6 +4,7 @@
 
 mod connection;
 mod fault;
+mod labels;
 mod program;
 mod reply;
 mod request;
