@@ -502,7 +502,8 @@ def a_terminal_is_told_what_says_where(stage):
 
 
 SCENES = [
-    each_command_makes_its_request, a_label_that_is_not_loaded_names_those_near_it, a_job_is_unloaded_by_its_label, texts_are_printed, a_folder_stands_for_its_files, a_folder_of_many_files, a_file_may_be_faulty, a_reply_may_not_come,
+    each_command_makes_its_request, a_label_that_is_not_loaded_names_those_near_it, a_job_is_unloaded_by_its_label, texts_are_printed,
+    a_folder_stands_for_its_files, a_folder_of_many_files, a_file_may_be_faulty, a_reply_may_not_come,
     what_comes_may_be_no_reply, nobody_may_listen, words_may_be_no_command, the_output_may_be_refused, the_outputs_reader_may_have_gone,
     no_answer_may_come, the_launcher_may_have_no_room, the_environment_is_read, a_word_that_is_none_is_named,
     a_request_and_its_record_have_at_most_262144_bytes, the_longest_record_fits_a_line, a_reply_has_at_most_1048576_bytes,

@@ -77,7 +77,8 @@ pub(crate) fn find_before(
     let mut wants_more = false;
     for file in files {
         let wants = want(alloc, file, applied, jobs)?;
-        wants_more = wants_more || wants;
+        let wants_former = want_former(alloc, file, applied, jobs)?;
+        wants_more = wants_more || wants || wants_former;
     }
     if wants_more {
         match places {
@@ -110,6 +111,30 @@ fn want(
     };
     let is_same = job.digest.as_str() == file.digest.as_str();
     if is_same || file.digest.is_empty() || job.digest.is_empty() || job.wants_before {
+        return Ok(false);
+    }
+    job.wants_before = true;
+    job.before = applied.definition(alloc, job.digest.as_str())?;
+    Ok(job.before.is_none())
+}
+
+// The same of the job that the file had under another label.
+fn want_former(
+    alloc: Global,
+    file: &Filed,
+    applied: &Applied,
+    jobs: &mut [Job],
+) -> Result<bool, AllocError> {
+    let Some(former) = &file.former else {
+        return Ok(false);
+    };
+    let Some(place) = place_of(jobs, former.as_str()) else {
+        return Ok(false);
+    };
+    let Some(job) = jobs.get_mut(place) else {
+        return Ok(false);
+    };
+    if job.digest.is_empty() || job.wants_before {
         return Ok(false);
     }
     job.wants_before = true;

@@ -46,6 +46,8 @@ pub(crate) struct Task<'a> {
     pub(crate) text: &'a str,
     /// That which was loaded, if it is known.
     pub(crate) before: Option<&'a str>,
+    /// That was loaded under another label, and was unloaded for this step.
+    pub(crate) is_moved: bool,
     /// A run of the job may be ended.
     pub(crate) may_end: bool,
     /// In seconds; 0 for ever.
@@ -181,12 +183,13 @@ fn load(
         drop(replied);
         return Ok(Outcome::Done);
     }
+    let has_unloaded = is_unloaded || task.is_moved;
     match left_by(replied.code) {
-        Some(why) if !is_unloaded || matches!(why, Reason::Meanwhile) => {
+        Some(why) if !has_unloaded || matches!(why, Reason::Meanwhile) => {
             drop(replied);
             Ok(Outcome::Left(why))
         }
-        _ if !is_unloaded => {
+        _ if !has_unloaded => {
             let Replied { code, text } = replied;
             Ok(Outcome::Refused(code, text))
         }

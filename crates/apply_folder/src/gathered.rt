@@ -107,6 +107,7 @@ fn add_path(
     gathered: &mut Gathered,
 ) -> Result<(), AllocError> {
     let folder = add_folder(host, alloc, path.as_str(), gathered)?;
+    let earlier = gathered.files.len();
     let found = files_at(host, from_ref(path))?;
     let over = match folder {
         Some(_) => folder_left(host, alloc, path.as_str(), user)?,
@@ -114,29 +115,36 @@ fn add_path(
     };
     for file in &found {
         let filed = filed_of(host, alloc, file, folder, over.as_str(), user)?;
-        add_filed(gathered, filed)?;
+        add_filed(gathered, earlier, filed)?;
     }
     drop(over);
     drop(found);
     Ok(())
 }
 
-// A file that stands among them already, as one that is named beside its folder, is not added.
-fn add_filed(gathered: &mut Gathered, filed: Option<Filed>) -> Result<(), AllocError> {
-    match filed {
-        Some(filed) if !has_path(gathered.files.as_slice(), filed.path.as_str()) => {
-            gathered.files.push(filed)?;
-        }
-        _ => {}
+// A file that an earlier path stands for too is not added. The first so many are those of earlier paths.
+fn add_filed(
+    gathered: &mut Gathered,
+    earlier: usize,
+    filed: Option<Filed>,
+) -> Result<(), AllocError> {
+    let Some(filed) = filed else {
+        return Ok(());
+    };
+    let before = gathered.files.get(..earlier).unwrap_or(&[]);
+    if !has_path(before, filed.path.as_str()) {
+        gathered.files.push(filed)?;
     }
     Ok(())
 }
 
 fn has_path(files: &[Filed], path: &str) -> bool {
-    match files.last() {
-        Some(last) => last.path.as_str() == path,
-        None => false,
+    for file in files {
+        if file.path.as_str() == path {
+            return true;
+        }
     }
+    false
 }
 
 // Its number among the folders, if it is one.

@@ -42,6 +42,8 @@ pub(crate) struct AwaitedJob {
 pub(crate) struct Progress {
     pub(crate) ending: Ending,
     pub(crate) has_changed: bool,
+    /// A file that differs has a warning.
+    pub(crate) has_warning: bool,
     /// The places of the files whose definitions are loaded.
     pub(crate) in_effect: Vec<usize>,
     /// The labels whose step is not tried again.
@@ -58,6 +60,7 @@ impl Progress {
         Progress {
             ending: Ending::well(),
             has_changed: false,
+            has_warning: false,
             in_effect: Vec::new(alloc),
             tried: Vec::new(alloc),
             unloaded: Vec::new(alloc),
@@ -180,8 +183,8 @@ fn heir_of<'a>(files: &'a [Filed], label: &str) -> Option<&'a Filed> {
     None
 }
 
-fn is_tried(progress: &Progress, label: &str) -> bool {
-    for other in &progress.tried {
+fn is_among(labels: &[String], label: &str) -> bool {
+    for other in labels {
         if other.as_str() == label {
             return true;
         }
@@ -197,7 +200,7 @@ fn take_step(
     step: &Step<'_>,
     progress: &mut Progress,
 ) -> Result<(), Stop> {
-    if is_tried(progress, step.label) {
+    if is_among(progress.tried.as_slice(), step.label) {
         return Ok(());
     }
     let job = job_of(scene.jobs, step.label);
@@ -369,7 +372,8 @@ fn act(
             false,
         );
     }
-    let task = task_of(scene, step, around.job, file);
+    let moved = moved_job(scene, step, file, progress);
+    let task = task_of(scene, step, around.job, file, moved);
     let outcome = carry_out(host, alloc, client, &task)?;
     note_outcome(alloc, scene, step, &outcome, progress)?;
     let other = outcome_text(alloc, &outcome, task.before.is_some())?;
@@ -386,11 +390,30 @@ fn act(
     shown
 }
 
+// The job that was unloaded for the file, since it has another label now.
+fn moved_job<'a>(
+    scene: &Scene<'a>,
+    step: &Step<'_>,
+    file: Option<&Filed>,
+    progress: &Progress,
+) -> Option<&'a Job> {
+    let former = match (step.operation, file) {
+        (Operation::Load(_), Some(file)) => file.former.as_ref()?.as_str(),
+        _ => return None,
+    };
+    if is_among(progress.unloaded.as_slice(), former) {
+        job_of(scene.jobs, former)
+    } else {
+        None
+    }
+}
+
 fn task_of<'a>(
     scene: &Scene<'a>,
     step: &Step<'a>,
     job: Option<&'a Job>,
     file: Option<&'a Filed>,
+    moved: Option<&'a Job>,
 ) -> Task<'a> {
     Task {
         label: step.label,
@@ -399,7 +422,8 @@ fn task_of<'a>(
             Some(file) => file.text.as_str(),
             None => "",
         },
-        before: match job {
+        is_moved: moved.is_some(),
+        before: match moved.or(job) {
             Some(
                 Job {
                     before: Some(before),

@@ -345,13 +345,15 @@ fn round(
         look.jobs.as_mut_slice(),
     )?;
     let zone = look.standing.zone(alloc, false)?;
-    let has_warning = judged(ground, gathered, &look, &zone, is_first)?;
+    if is_first {
+        progress.has_warning = judged(ground, gathered, &look, &zone)?;
+    }
     let scene = Scene {
         files: gathered.files.as_slice(),
         jobs: look.jobs.as_slice(),
         zone: &zone,
         flags: ground.words.flags,
-        has_warning,
+        has_warning: progress.has_warning,
         is_first,
     };
     progress.in_effect.clear();
@@ -373,10 +375,9 @@ fn judged(
     gathered: &mut Gathered,
     look: &Look,
     zone: &Zone,
-    is_first: bool,
 ) -> Result<bool, AllocError> {
     let jobs = look.jobs.as_slice();
-    if !is_first || !has_open(gathered.files.as_slice(), jobs) {
+    if !has_open(gathered.files.as_slice(), jobs) {
         return Ok(false);
     }
     let changes = changes_now(ground, zone)?;
