@@ -4,10 +4,10 @@ use crate::applied::{Applied, read_applied};
 use crate::before::{find_before, mark_applied};
 use crate::carried::wait_for_one;
 use crate::client::Client;
-use crate::gathered::{Gathered, gather};
+use crate::gathered::{Filed, Gathered, gather};
 use crate::judged::{has_open, judge_all};
 use crate::kept::keep;
-use crate::loaded::{Look, look_at, status_path};
+use crate::loaded::{Look, job_of, look_at, status_path};
 use crate::locked::lock_beside;
 use crate::planned::{Progress, Scene, apply_once, awaited_in};
 use crate::shown::{Line, show, show_same};
@@ -361,10 +361,12 @@ fn round(
         show_left_out(host, alloc, &scene, progress)?;
     }
     let applied_once = apply_once(host, alloc, client, &scene, progress);
+    let noted = show_disabled(host, alloc, &scene, progress);
     let kept = keep_progress(ground, gathered, &look, applied, state, progress);
     drop(zone);
     drop(look);
     applied_once?;
+    noted?;
     kept?;
     wait_on(ground, client, progress)
 }
@@ -450,6 +452,50 @@ fn wait_on(
         Ok(has_come) => Ok(!has_come),
         Err(fault) => Err(Stop::from(fault)),
     }
+}
+
+// A line for each job that is as its file says, and goes on though its label is disabled.
+fn show_disabled(
+    host: &HostRuntime,
+    alloc: Global,
+    scene: &Scene<'_>,
+    progress: &Progress,
+) -> Result<(), Stop> {
+    if !scene.is_first {
+        return Ok(());
+    }
+    for place in &progress.in_effect {
+        if let Some(file) = scene.files.get(*place) {
+            if is_disabled(scene, file.label.as_str()) {
+                show_goes_on(host, alloc, scene, file)?;
+            }
+        }
+    }
+    Ok(())
+}
+
+fn is_disabled(scene: &Scene<'_>, label: &str) -> bool {
+    match job_of(scene.jobs, label) {
+        Some(job) => job.is_disabled,
+        None => false,
+    }
+}
+
+fn show_goes_on(
+    host: &HostRuntime,
+    alloc: Global,
+    scene: &Scene<'_>,
+    file: &Filed,
+) -> Result<(), Stop> {
+    let line = Line {
+        word: "disabled",
+        label: file.label.as_str(),
+        file: file.path.as_str(),
+        keys: &[],
+        reason: "it is loaded, and goes on until it is unloaded",
+        done: false,
+    };
+    show(host, alloc, scene.flags.json, &line)
 }
 
 // A line for each file that another one decides over, since that is named for the label.
