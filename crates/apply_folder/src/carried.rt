@@ -4,6 +4,7 @@ use crate::client::Client;
 use control_client::{Fault, Replied};
 use history_model::{Refusal, Text};
 use load_plan::{JobSeen, NextRequest, Operation, Reason, next_request};
+use plain_text::plain;
 use std::alloc::Global;
 use std::time::{Duration, Instant};
 use std::{io, thread};
@@ -179,7 +180,7 @@ fn load(
 ) -> Result<Outcome, Fault> {
     let replied = client.load(host, alloc, task.text)?;
     if replied.code == 0 {
-        tell_notes(host, task.label, replied.text.as_str());
+        tell_notes(host, alloc, task.label, replied.text.as_str())?;
         drop(replied);
         return Ok(Outcome::Done);
     }
@@ -239,10 +240,15 @@ fn restore(
 }
 
 // What a launcher says of a definition that it took.
-fn tell_notes(host: &HostRuntime, label: &str, notes: &str) {
+fn tell_notes(host: &HostRuntime, alloc: Global, label: &str, notes: &str) -> Result<(), Fault> {
     for note in notes.lines() {
+        let label = plain(alloc, label)?;
+        let note = plain(alloc, note)?;
         let _written = eprintln!(host; "jobctl: {label}: {note}");
+        drop(note);
+        drop(label);
     }
+    Ok(())
 }
 
 /// Waits until one of these jobs is gone, or, if the end of a run is waited for, idle. False: they did not end in time. The greatest ExitTimeOut bounds it
