@@ -82,19 +82,26 @@ fn label_by(name: &str) -> &str {
     }
 }
 
-/// The files that the paths stand for, in their order. The user is the launcher's.
+/// What is known of the next boot: the launcher's user, and the folder that is loaded then, if it is known.
+#[derive(Clone, Copy)]
+pub(crate) struct NextBoot<'a> {
+    pub(crate) user: u32,
+    pub(crate) folder: Option<&'a str>,
+}
+
+/// The files that the paths stand for, in their order.
 pub(crate) fn gather(
     host: &HostRuntime,
     alloc: Global,
     paths: &[Text],
-    user: u32,
+    boot: NextBoot<'_>,
 ) -> Result<Gathered, AllocError> {
     let mut gathered = Gathered {
         files: Vec::new(alloc),
         folders: Vec::new(alloc),
     };
     for path in paths {
-        add_path(host, alloc, path, user, &mut gathered)?;
+        add_path(host, alloc, path, boot, &mut gathered)?;
     }
     Ok(gathered)
 }
@@ -103,18 +110,22 @@ fn add_path(
     host: &HostRuntime,
     alloc: Global,
     path: &Text,
-    user: u32,
+    boot: NextBoot<'_>,
     gathered: &mut Gathered,
 ) -> Result<(), AllocError> {
     let folder = add_folder(host, alloc, path.as_str(), gathered)?;
     let earlier = gathered.files.len();
     let found = files_at(host, from_ref(path))?;
     let over = match folder {
-        Some(_) => folder_left(host, alloc, path.as_str(), user)?,
+        Some(_) => folder_left(host, alloc, path.as_str(), boot.user)?,
         None => String::new(alloc),
     };
+    let is_of_boot = folder.is_some() || is_in_boot(host, alloc, path.as_str(), boot)?;
     for file in &found {
-        let filed = filed_of(host, alloc, file, folder, over.as_str(), user)?;
+        let mut filed = filed_of(host, alloc, file, folder)?;
+        if is_of_boot {
+            leave_at_boot(host, alloc, over.as_str(), boot.user, &mut filed)?;
+        }
         add_filed(gathered, earlier, filed)?;
     }
     drop(over);
@@ -174,6 +185,29 @@ fn from_root(host: &HostRuntime, alloc: Global, path: &str) -> Result<String, Al
     }
 }
 
+// Whether a file is one of the folder that a boot loads.
+fn is_in_boot(
+    host: &HostRuntime,
+    alloc: Global,
+    path: &str,
+    boot: NextBoot<'_>,
+) -> Result<bool, AllocError> {
+    let Some(folder) = boot.folder else {
+        return Ok(false);
+    };
+    let parent = match path.rsplit_once('/') {
+        Some((parent, _)) if !parent.is_empty() => parent,
+        Some(_) => "/",
+        None => ".",
+    };
+    let own = from_root(host, alloc, parent)?;
+    let boots = from_root(host, alloc, folder)?;
+    let is_same = own.as_str() == boots.as_str();
+    drop(own);
+    drop(boots);
+    Ok(is_same)
+}
+
 // Why a boot would leave all files of the folder out; empty, if it would not.
 fn folder_left(
     host: &HostRuntime,
@@ -187,14 +221,12 @@ fn folder_left(
     }
 }
 
-// What the file comes to. None: it is a folder without a definition. Over all files of a folder there may be a reason for a boot to leave them out.
+// What the file comes to. None: it is a folder without a definition.
 fn filed_of(
     host: &HostRuntime,
     alloc: Global,
     found: &Found,
     folder: Option<usize>,
-    over: &str,
-    user: u32,
 ) -> Result<Option<Filed>, AllocError> {
     let path = found.path.as_str();
     let contents = match found.kind {
@@ -203,11 +235,7 @@ fn filed_of(
         Kind::Unlisted(kind) => unread(alloc, &Error::from(kind))?,
         Kind::File => read_at(host, alloc, path)?,
     };
-    let mut filed = filed_with(alloc, path, folder, contents)?;
-    if folder.is_some() {
-        leave_at_boot(host, alloc, over, user, &mut filed)?;
-    }
-    Ok(Some(filed))
+    Ok(Some(filed_with(alloc, path, folder, contents)?))
 }
 
 fn filed_with(
@@ -239,30 +267,41 @@ fn filed_with(
     })
 }
 
-// Asks what a boot asks of a file that is well.
+// Asks what a boot asks of a file that is well. Over all files of a folder there may be a reason to leave them out.
 fn leave_at_boot(
     host: &HostRuntime,
     alloc: Global,
     over: &str,
     user: u32,
-    filed: &mut Filed,
+    filed: &mut Option<Filed>,
 ) -> Result<(), AllocError> {
-    if !matches!(filed.standing, Standing::Good) {
-        return Ok(());
-    }
-    let why = if over.is_empty() {
-        match fs::metadata(host, filed.path.as_str()) {
-            Ok(data) => left_at_boot(alloc, &data, user, "")?,
-            Err(_) => String::new(alloc),
+    match filed {
+        Some(filed) if matches!(filed.standing, Standing::Good) => {
+            let why = why_left(host, alloc, over, user, filed.path.as_str())?;
+            if !why.is_empty() {
+                filed.standing = Standing::LeftAtBoot;
+                filed.why = why;
+            }
+            Ok(())
         }
-    } else {
-        String::from_str(alloc, over)?
-    };
-    if !why.is_empty() {
-        filed.standing = Standing::LeftAtBoot;
-        filed.why = why;
+        _ => Ok(()),
     }
-    Ok(())
+}
+
+fn why_left(
+    host: &HostRuntime,
+    alloc: Global,
+    over: &str,
+    user: u32,
+    path: &str,
+) -> Result<String, AllocError> {
+    if !over.is_empty() {
+        return String::from_str(alloc, over);
+    }
+    match fs::metadata(host, path) {
+        Ok(data) => left_at_boot(alloc, &data, user, ""),
+        Err(_) => Ok(String::new(alloc)),
+    }
 }
 
 fn unread<D: std::fmt::Display>(alloc: Global, why: &D) -> Result<Contents, AllocError> {

@@ -4,7 +4,7 @@ use crate::applied::{Applied, read_applied};
 use crate::before::{find_before, mark_applied};
 use crate::carried::wait_for_one;
 use crate::client::Client;
-use crate::gathered::{Filed, Gathered, gather};
+use crate::gathered::{Filed, Gathered, NextBoot, gather};
 use crate::judged::{has_open, judge_all};
 use crate::kept::keep;
 use crate::loaded::{Look, job_of, look_at, status_path};
@@ -204,7 +204,11 @@ fn apply_beside(
 ) -> Result<u8, Stop> {
     let places = places_of(host, alloc, socket)?;
     let path = status_path(host, alloc, socket, &places)?;
-    let mut gathered = gather(host, alloc, words.paths.as_slice(), user)?;
+    let boot = NextBoot {
+        user,
+        folder: jobs_in(&places),
+    };
+    let mut gathered = gather(host, alloc, words.paths.as_slice(), boot)?;
     let state = state_path(alloc, &places)?;
     let ground = Ground {
         host,
@@ -229,6 +233,18 @@ fn apply_beside(
     drop(path);
     drop(places);
     ended
+}
+
+fn jobs_in(places: &Option<Places>) -> Option<&str> {
+    match places {
+        Some(
+            Places {
+                jobs: Some(jobs),
+                ..
+            },
+        ) => Some(jobs.as_str()),
+        _ => None,
+    }
 }
 
 /// What stays as it is through an apply.
