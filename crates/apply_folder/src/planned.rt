@@ -97,7 +97,7 @@ pub(crate) fn apply_once(
 fn flags_of(scene: &Scene<'_>) -> Flags {
     Flags {
         prune: scene.flags.prune,
-        at_once: scene.flags.now,
+        at_once: scene.flags.at_once,
         strict: scene.flags.strict,
         has_warning: scene.has_warning,
         shuts_down: false,
@@ -433,8 +433,8 @@ fn task_of<'a>(
             _ => None,
         },
         may_end: match job {
-            Some(job) => scene.flags.now || job.is_kept_alive,
-            None => scene.flags.now,
+            Some(job) => scene.flags.at_once || job.is_kept_alive,
+            None => scene.flags.at_once,
         },
         exit_time_out: match job {
             Some(job) => job.exit_time_out,

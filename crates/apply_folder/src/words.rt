@@ -1,5 +1,8 @@
 //! The words of `jobctl apply`.
 
+ghost use Rattle.std.specs.Prelude.{◌≡◌, ◌||◌};
+ghost use Rattle.apply_folder.specs.Wishes.{is_dry_run, is_prune, is_now, is_strict, is_wait, is_json};
+
 use files_and_process::own_process::MARK;
 use history_model::Text;
 use std::alloc::{AllocError, Global};
@@ -25,7 +28,7 @@ pub struct ApplyFlags {
     pub dry_run: bool,
     pub prune: bool,
     /// Runs are ended for it.
-    pub now: bool,
+    pub at_once: bool,
     pub strict: bool,
     /// The ends of runs are waited for.
     pub wait: bool,
@@ -38,15 +41,22 @@ impl ApplyFlags {
         ApplyFlags {
             dry_run: false,
             prune: false,
-            now: false,
+            at_once: false,
             strict: false,
             wait: false,
             json: false,
         }
     }
 
-    /// Those and this one.
-    pub fn with(self, wish: Wish) -> ApplyFlags {
+    /// Those and this one: in which order they stand makes no difference.
+    pub fn with(self, wish: Wish) -> ApplyFlags
+        ensures dry_run { result.dry_run ≡ self.dry_run || is_dry_run wish }
+        ensures prune { result.prune ≡ self.prune || is_prune wish }
+        ensures at_once { result.at_once ≡ self.at_once || is_now wish }
+        ensures strict { result.strict ≡ self.strict || is_strict wish }
+        ensures wait { result.wait ≡ self.wait || is_wait wish }
+        ensures json { result.json ≡ self.json || is_json wish }
+    {
         match wish {
             Wish::DryRun => ApplyFlags {
                 dry_run: true,
@@ -56,7 +66,10 @@ impl ApplyFlags {
                 prune: true,
                 ..self
             },
-            Wish::Now => ApplyFlags { now: true, ..self },
+            Wish::Now => ApplyFlags {
+                at_once: true,
+                ..self
+            },
             Wish::Strict => ApplyFlags {
                 strict: true,
                 ..self
