@@ -378,6 +378,10 @@ fn act(
     note_outcome(alloc, scene, step, &outcome, progress)?;
     let other = outcome_text(alloc, &outcome, task.before.is_some())?;
     let is_done = matches!(outcome, Outcome::Done);
+    let became = Step {
+        label: step.label,
+        operation: became(&step.operation, &outcome),
+    };
     drop(outcome);
     let reason = match &other {
         Some(text) => text.as_str(),
@@ -388,6 +392,15 @@ fn act(
     );
     drop(other);
     shown
+}
+
+// The operation that a step came to: it may have been left.
+fn became<'a>(operation: &Operation<'a>, outcome: &Outcome) -> Operation<'a> {
+    match outcome {
+        Outcome::Left(why) => Operation::Leave(*why),
+        Outcome::Late => Operation::Leave(Reason::Goes),
+        _ => *operation,
+    }
 }
 
 // The job that was unloaded for the file, since it has another label now.
