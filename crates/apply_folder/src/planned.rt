@@ -378,7 +378,7 @@ fn act(
     note_outcome(alloc, scene, step, &outcome, progress)?;
     let other = outcome_text(alloc, &outcome, task.before.is_some())?;
     let is_done = matches!(outcome, Outcome::Done);
-    let became = Step {
+    let told_as = Step {
         label: step.label,
         operation: became(&step.operation, &outcome),
     };
@@ -388,7 +388,7 @@ fn act(
         None => told.as_str(),
     };
     let shown = show_step(
-        host, alloc, scene, step, around, file, keys, reason, is_done,
+        host, alloc, scene, &told_as, around, file, keys, reason, is_done,
     );
     drop(other);
     shown
