@@ -65,8 +65,11 @@ pub(crate) fn look_at(
     let asked = SystemTime::now(host);
     for turn in 0..LOOKS {
         if let Some(look) = look_once(host, alloc, client, path, places, &asked)? {
-            if turn >= UNTOLD || all_told(look.jobs.as_slice()) {
+            if all_told(look.jobs.as_slice()) {
                 return Ok(look);
+            }
+            if turn >= UNTOLD {
+                return checked(host, path, look);
             }
             drop(look);
         }
@@ -76,6 +79,20 @@ pub(crate) fn look_at(
         "jobctl: apply: {path} does not say what the launcher has loaded: it was not written anew"
     );
     Err(Stop::Told(NO_ANSWER))
+}
+
+// A launcher of an earlier version tells of no job which definition it has.
+fn checked(host: &HostRuntime, path: &str, look: Look) -> Result<Look, Stop> {
+    for job in &look.jobs {
+        if !job.digest.is_empty() {
+            return Ok(look);
+        }
+    }
+    drop(look);
+    match stale(host, path, "its launcher tells no definition") {
+        Ok(()) => Err(Stop::Told(NO_ANSWER)),
+        Err(stop) => Err(stop),
+    }
 }
 
 fn all_told(jobs: &[Job]) -> bool {
