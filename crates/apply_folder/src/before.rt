@@ -8,9 +8,11 @@ use json_kinds::json_value;
 use launcher_places::{Places, check_own_file};
 use serde_json::Value;
 use std::alloc::{AllocError, Global};
+use std::fs::metadata;
 
 /// Says of each job whether an earlier apply of one of the folders loaded it, and of each file under which other label it was loaded.
 pub(crate) fn mark_applied(
+    host: &HostRuntime,
     alloc: Global,
     gathered: &mut Gathered,
     applied: &Applied,
@@ -23,7 +25,7 @@ pub(crate) fn mark_applied(
     }
     let Gathered { files, folders } = gathered;
     for file in files.iter_mut() {
-        mark_file(alloc, file, folders.as_slice(), applied)?;
+        mark_file(host, alloc, file, folders.as_slice(), applied, jobs)?;
     }
     Ok(())
 }
@@ -46,22 +48,50 @@ fn mark_job(jobs: &mut [Job], label: &str) {
 }
 
 fn mark_file(
+    host: &HostRuntime,
     alloc: Global,
     file: &mut Filed,
     folders: &[String],
     applied: &Applied,
+    jobs: &mut [Job],
 ) -> Result<(), AllocError> {
-    let Some(number) = file.folder else {
+    let folder = match (file.folder, &file.parent) {
+        (Some(number), _) => folders.get(number),
+        (None, Some(parent)) => Some(parent),
+        (None, None) => None,
+    };
+    let Some(folder) = folder else {
         return Ok(());
     };
-    let Some(folder) = folders.get(number) else {
+    let folder = folder.as_str();
+    let Some(label) = applied.label_of(folder, file.name()) else {
         return Ok(());
     };
-    file.former = match applied.label_of(folder.as_str(), file.name()) {
-        Some(label) if label != file.label.as_str() => Some(String::from_str(alloc, label)?),
-        _ => None,
-    };
+    if label == file.label.as_str() {
+        return Ok(());
+    }
+    // Of a file that is named alone, another one of its folder may have the label now.
+    if file.folder.is_none() {
+        if has_file(host, alloc, folder, label)? {
+            return Ok(());
+        }
+        mark_job(jobs, label);
+    }
+    file.former = Some(String::from_str(alloc, label)?);
     Ok(())
+}
+
+// Whether a file of the folder is named for the label.
+fn has_file(
+    host: &HostRuntime,
+    alloc: Global,
+    folder: &str,
+    label: &str,
+) -> Result<bool, AllocError> {
+    let path = format!(in alloc; "{folder}/{label}.json")?;
+    let is_there = metadata(host, path.as_str()).is_ok();
+    drop(path);
+    Ok(is_there)
 }
 
 /// Finds the definitions: among those that applies kept, else in the journal, if it is a plain file of the launcher's user.

@@ -20,6 +20,8 @@ pub(crate) struct Filed {
     pub(crate) path: String,
     /// Its number among the folders, if it is a file of one.
     pub(crate) folder: Option<usize>,
+    /// The folder that it is in, from the root, if it is named alone.
+    pub(crate) parent: Option<String>,
     /// The label in it; if it tells none, the one that its name says.
     pub(crate) label: String,
     /// The digest of its definition; empty, if it is no JSON.
@@ -120,20 +122,25 @@ fn add_path(
         Some(_) => folder_left(host, alloc, path.as_str(), boot.user)?,
         None => String::new(alloc),
     };
-    let is_of_boot = folder.is_some() || is_in_boot(host, alloc, path.as_str(), boot)?;
+    let parent = match folder {
+        Some(_) => None,
+        None => Some(from_root(host, alloc, parent_of(path.as_str()))?),
+    };
+    let is_of_boot = folder.is_some() || is_in_boot(host, alloc, &parent, boot)?;
     for file in &found {
-        let mut filed = filed_of(host, alloc, file, folder)?;
+        let mut filed = filed_of(host, alloc, file, folder, &parent)?;
         if is_of_boot {
             leave_at_boot(host, alloc, over.as_str(), boot.user, &mut filed)?;
         }
         add_filed(gathered, earlier, filed)?;
     }
+    drop(parent);
     drop(over);
     drop(found);
     Ok(())
 }
 
-// A file that an earlier path stands for too is not added. The first so many are those of earlier paths.
+// A file that an earlier path stands for too is not added; that one is of the folder then. The first so many are those of earlier paths.
 fn add_filed(
     gathered: &mut Gathered,
     earlier: usize,
@@ -142,20 +149,16 @@ fn add_filed(
     let Some(filed) = filed else {
         return Ok(());
     };
-    let before = gathered.files.get(..earlier).unwrap_or(&[]);
-    if !has_path(before, filed.path.as_str()) {
-        gathered.files.push(filed)?;
-    }
-    Ok(())
-}
-
-fn has_path(files: &[Filed], path: &str) -> bool {
-    for file in files {
-        if file.path.as_str() == path {
-            return true;
+    for known in gathered.files.iter_mut().take(earlier) {
+        if known.path.as_str() == filed.path.as_str() {
+            if known.folder.is_none() {
+                known.folder = filed.folder;
+            }
+            return Ok(());
         }
     }
-    false
+    gathered.files.push(filed)?;
+    Ok(())
 }
 
 // Its number among the folders, if it is one.
@@ -189,23 +192,25 @@ fn from_root(host: &HostRuntime, alloc: Global, path: &str) -> Result<String, Al
 fn is_in_boot(
     host: &HostRuntime,
     alloc: Global,
-    path: &str,
+    parent: &Option<String>,
     boot: NextBoot<'_>,
 ) -> Result<bool, AllocError> {
-    let Some(folder) = boot.folder else {
+    let (Some(folder), Some(parent)) = (boot.folder, parent) else {
         return Ok(false);
     };
-    let parent = match path.rsplit_once('/') {
+    let boots = from_root(host, alloc, folder)?;
+    let is_same = parent.as_str() == boots.as_str();
+    drop(boots);
+    Ok(is_same)
+}
+
+// The folder that a file is in, by its path.
+fn parent_of(path: &str) -> &str {
+    match path.rsplit_once('/') {
         Some((parent, _)) if !parent.is_empty() => parent,
         Some(_) => "/",
         None => ".",
-    };
-    let own = from_root(host, alloc, parent)?;
-    let boots = from_root(host, alloc, folder)?;
-    let is_same = own.as_str() == boots.as_str();
-    drop(own);
-    drop(boots);
-    Ok(is_same)
+    }
 }
 
 // Why a boot would leave all files of the folder out; empty, if it would not.
@@ -227,6 +232,7 @@ fn filed_of(
     alloc: Global,
     found: &Found,
     folder: Option<usize>,
+    parent: &Option<String>,
 ) -> Result<Option<Filed>, AllocError> {
     let path = found.path.as_str();
     let contents = match found.kind {
@@ -235,7 +241,11 @@ fn filed_of(
         Kind::Unlisted(kind) => unread(alloc, &Error::from(kind))?,
         Kind::File => read_at(host, alloc, path)?,
     };
-    Ok(Some(filed_with(alloc, path, folder, contents)?))
+    let mut filed = filed_with(alloc, path, folder, contents)?;
+    if let Some(parent) = parent {
+        filed.parent = Some(String::from_str(alloc, parent.as_str())?);
+    }
+    Ok(Some(filed))
 }
 
 fn filed_with(
@@ -258,6 +268,7 @@ fn filed_with(
     Ok(Filed {
         path: String::from_str(alloc, path)?,
         folder,
+        parent: None,
         label,
         digest,
         standing,

@@ -42,6 +42,8 @@ pub(crate) struct AwaitedJob {
 pub(crate) struct Progress {
     pub(crate) ending: Ending,
     pub(crate) has_changed: bool,
+    /// A file is left out, since another one decides its label.
+    pub(crate) has_twice: bool,
     /// A file that differs has a warning.
     pub(crate) has_warning: bool,
     /// The places of the files whose definitions are loaded.
@@ -60,6 +62,7 @@ impl Progress {
         Progress {
             ending: Ending::well(),
             has_changed: false,
+            has_twice: false,
             has_warning: false,
             in_effect: Vec::new(alloc),
             tried: Vec::new(alloc),
@@ -78,7 +81,7 @@ pub(crate) fn apply_once(
     scene: &Scene<'_>,
     progress: &mut Progress,
 ) -> Result<(), Stop> {
-    progress.ending.has_left = false;
+    progress.ending.has_left = progress.has_twice;
     progress.awaited.clear();
     let verdicts = verdicts_of(alloc, scene.files)?;
     let loaded = loaded_of(alloc, scene.jobs)?;

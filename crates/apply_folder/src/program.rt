@@ -350,7 +350,7 @@ fn round(
 ) -> Result<bool, Stop> {
     let (host, alloc) = (ground.host, ground.alloc);
     let mut look = look_at(host, alloc, client, ground.path, ground.places)?;
-    mark_applied(alloc, gathered, applied, look.jobs.as_mut_slice())?;
+    mark_applied(host, alloc, gathered, applied, look.jobs.as_mut_slice())?;
     find_before(
         host,
         alloc,
@@ -531,7 +531,7 @@ fn show_left_out(
     for file in scene.files {
         let label = file.label.as_str();
         if !file.is_named() && named.binary_search(&label).is_ok() {
-            progress.ending.has_left = true;
+            progress.has_twice = true;
             let reason = format!(in alloc; "{label}.json decides; {} is left out", file.name())?;
             let line = Line {
                 word: "twice",
