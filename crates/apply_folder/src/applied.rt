@@ -43,14 +43,16 @@ impl Applied {
         }
     }
 
-    /// The label under which this file of this folder was loaded.
-    pub(crate) fn label_of(&self, folder: &str, name: &str) -> Option<&str> {
-        for file in &self.files {
-            if file.folder.as_str() == folder && file.name.as_str() == name {
-                return Some(file.label.as_str());
+    /// Where this file of this folder stands among them. It is looked for at this place first, where it is if files are asked for in their order.
+    pub(crate) fn place_of(&self, at: usize, folder: &str, name: &str) -> Option<usize> {
+        if let Some(file) = self.files.get(at) {
+            if is_file(file, folder, name) {
+                return Some(at);
             }
         }
-        None
+        self.files
+            .iter()
+            .position(|file| is_file(file, folder, name))
     }
 
     /// The definition with this digest, if it is kept.
@@ -68,7 +70,11 @@ impl Applied {
     }
 }
 
-// The digest of a line that keeps a definition.
+fn is_file(file: &AppliedFile, folder: &str, name: &str) -> bool {
+    file.name.as_str() == name && file.folder.as_str() == folder
+}
+
+/// The digest of a line that keeps a definition.
 pub(crate) fn digest_in(line: &str) -> Option<&str> {
     let (digest, _) = line.strip_prefix(DEFINITION)?.split_once('"')?;
     Some(digest)

@@ -24,8 +24,12 @@ pub(crate) fn mark_applied(
         }
     }
     let Gathered { files, folders } = gathered;
+    let mut next: usize = 0;
     for file in files.iter_mut() {
-        mark_file(host, alloc, file, folders.as_slice(), applied, jobs)?;
+        if let Some(place) = place_in(file, folders.as_slice(), applied, next) {
+            next = place.saturating_add(1);
+            mark_file(host, alloc, file, applied, place, jobs)?;
+        }
     }
     Ok(())
 }
@@ -47,26 +51,29 @@ fn mark_job(jobs: &mut [Job], label: &str) {
     }
 }
 
+// Where the file stands among those that were applied; it may be at this place.
+fn place_in(file: &Filed, folders: &[String], applied: &Applied, next: usize) -> Option<usize> {
+    let folder = match (file.folder, &file.parent) {
+        (Some(number), _) => folders.get(number)?,
+        (None, Some(parent)) => parent,
+        (None, None) => return None,
+    };
+    applied.place_of(next, folder.as_str(), file.name())
+}
+
 fn mark_file(
     host: &HostRuntime,
     alloc: Global,
     file: &mut Filed,
-    folders: &[String],
     applied: &Applied,
+    place: usize,
     jobs: &mut [Job],
 ) -> Result<(), AllocError> {
-    let folder = match (file.folder, &file.parent) {
-        (Some(number), _) => folders.get(number),
-        (None, Some(parent)) => Some(parent),
-        (None, None) => None,
-    };
-    let Some(folder) = folder else {
+    let Some(known) = applied.files.get(place) else {
         return Ok(());
     };
-    let folder = folder.as_str();
-    let Some(label) = applied.label_of(folder, file.name()) else {
-        return Ok(());
-    };
+    let (folder, label) = (known.folder.as_str(), known.label.as_str());
+    file.former = None;
     if label == file.label.as_str() {
         return Ok(());
     }

@@ -113,12 +113,11 @@ fn look_once(
     places: &Option<Places>,
     asked: &io::Result<SystemTime>,
 ) -> Result<Option<Look>, Stop> {
-    let is_current = is_current(host, path, asked);
-    let standing = standing_at(host, alloc, path)?;
-    check_launcher(host, path, &standing, places)?;
-    if !is_current {
+    if !is_current(host, path, asked) {
         return Ok(None);
     }
+    let standing = standing_at(host, alloc, path)?;
+    check_launcher(host, path, &standing, places)?;
     let jobs = jobs_of(alloc, standing.jobs())?;
     let replied = client.list(host, alloc)?;
     if !have_labels(jobs.as_slice(), replied.text.as_str()) {
@@ -145,9 +144,12 @@ fn tell_trouble(host: &HostRuntime, path: &str, trouble: Trouble) -> Stop {
 
 // Whether all that was so when it was asked is in the file: it was written after that, or so long ago that it would have been written anew.
 fn is_current(host: &HostRuntime, path: &str, asked: &io::Result<SystemTime>) -> bool {
-    let (Ok(asked), Ok(data), Ok(now)) = (asked, fs::metadata(host, path), SystemTime::now(host))
-    else {
+    let (Ok(asked), Ok(now)) = (asked, SystemTime::now(host)) else {
         return false;
+    };
+    // What keeps it from being read is told by who reads it.
+    let Ok(data) = fs::metadata(host, path) else {
+        return true;
     };
     let Ok(written) = data.modified() else {
         return false;
