@@ -175,8 +175,8 @@ def each_command_makes_its_request(stage):
     for words, asked in [
         (["start", "a"], '{"job":"a","req":"start"}\n'),
         (["stop", "a b"], '{"job":"a b","req":"stop"}\n'),
-        (["enable", "gui/501/a"], '{"job":"a","req":"enable"}\n'),
-        (["disable", "system/a"], '{"job":"a","req":"disable"}\n'),
+        (["enable", "gui/501/a"], '{"job":"a","req":"enable"}\n' + LISTED),
+        (["disable", "system/a"], '{"job":"a","req":"disable"}\n' + LISTED),
         (["kickstart", "a"], '{"job":"a","k":false,"req":"kickstart"}\n'),
         (["kickstart", "-k", "a"], '{"job":"a","k":true,"req":"kickstart"}\n'),
         (["list"], LISTED),
@@ -194,13 +194,42 @@ def each_command_makes_its_request(stage):
         expect(stage, words, replies=DONE, asked=asked, name="s" if "s" in words else "jobd.sock")
 
 
+def a_label_that_is_not_loaded_names_those_near_it(stage):
+    """What is asked of a label that is not loaded names those near it, and says what becomes of a setting. The status is as without that."""
+    listed = '{"code":0,"text":"PID\\tStatus\\tLabel\\n-\\t0\\tnginx\\n7\\t-\\tpostgres\\n"}\n'
+    refusal = '{"code":3,"text":"no such job\\n"}\n'
+    kept = "is not loaded: the setting is kept for a later load"
+    for words, request, reply, status, told in [
+        (["stop", "ngnix"], '{"job":"ngnix","req":"stop"}\n', refusal, 3, ["no such job", "jobctl: ngnix is not loaded; near it: nginx"]),
+        (["stop", "other"], '{"job":"other","req":"stop"}\n', refusal, 3, ["no such job"]),
+        (["enable", "ngnix"], '{"job":"ngnix","req":"enable"}\n', DONE, 0, [f"jobctl: ngnix {kept}; near it: nginx"]),
+        (["enable", "nginx"], '{"job":"nginx","req":"enable"}\n', DONE, 0, []),
+        (["disable", "other"], '{"job":"other","req":"disable"}\n', DONE, 0, [f"jobctl: other {kept}"]),
+        (["disable", "nginx"], '{"job":"nginx","req":"disable"}\n', DONE, 0, ["jobctl: nginx is loaded, and goes on until it is unloaded"]),
+    ]:
+        expect(stage, words, replies=reply + listed, status=status, asked=request + LISTED, told=told)
+
+
+def a_job_is_unloaded_by_its_label(stage):
+    """A word of an unload that is no path, and of which no file has the name, is the label of a loaded job; else it is a file that is missing."""
+    printed = '{"job":"web","req":"print"}\n'
+    shown = '{"code":0,"text":"web = {\\n\\tstate = idle\\n"}\n'
+    unload = '{"job":"web","req":"unload","w":false}\n'
+    expect(stage, ["unload", "web"], replies=shown + DONE, asked=printed + unload)
+    absent = '{"code":3,"text":"no such job\\n"}\n'
+    expect(stage, ["unload", "web"], replies=absent, status=65, asked=printed, told=["jobctl: web: "])
+    for path in ("web.json", "./web", "web.plist"):
+        expect(stage, ["unload", path], status=65, told=[f"jobctl: {path}: "])
+
+
 def texts_are_printed(stage):
     """A reply of code 0 is printed, and a refusal told. One file's note has no name before it."""
     make_files(stage)
     text = '{"code":0,"text":"PID\\tStatus\\tLabel\\n"}\n'
     expect(stage, ["list"], replies=text, asked=LISTED, printed="PID\tStatus\tLabel\n")
     refusal = '{"code":3,"text":"no such job\\n"}\n'
-    expect(stage, ["start", "a"], replies=refusal, status=3, asked='{"job":"a","req":"start"}\n', told=["no such job"])
+    asked = '{"job":"a","req":"start"}\n' + LISTED
+    expect(stage, ["start", "a"], replies=refusal, status=3, asked=asked, told=["no such job"])
     note = '{"code":0,"text":"not acted on: X\\n"}\n'
     expect(stage, ["load", "@/one.json"], replies=note, asked=load(FILES["one.json"]), printed="not acted on: X\n")
 
@@ -473,7 +502,8 @@ def a_terminal_is_told_what_says_where(stage):
 
 
 SCENES = [
-    each_command_makes_its_request, texts_are_printed, a_folder_stands_for_its_files, a_folder_of_many_files, a_file_may_be_faulty, a_reply_may_not_come,
+    each_command_makes_its_request, a_label_that_is_not_loaded_names_those_near_it, a_job_is_unloaded_by_its_label, texts_are_printed,
+    a_folder_stands_for_its_files, a_folder_of_many_files, a_file_may_be_faulty, a_reply_may_not_come,
     what_comes_may_be_no_reply, nobody_may_listen, words_may_be_no_command, the_output_may_be_refused, the_outputs_reader_may_have_gone,
     no_answer_may_come, the_launcher_may_have_no_room, the_environment_is_read, a_word_that_is_none_is_named,
     a_request_and_its_record_have_at_most_262144_bytes, the_longest_record_fits_a_line, a_reply_has_at_most_1048576_bytes,

@@ -7,7 +7,7 @@ use crate::forms::{Argument, Form, Subcommand, with_subcommands};
 use std::alloc::{AllocError, Global};
 
 const EXIT_HELP: &str =
-    "Exit status: 0 done; or the launcher's first refusal: 1 no memory, 2 bad request or too many clients, 3 no such job, 4 already loaded, 5 disabled, 6 being removed, 7 not running, 8 bad definition, 9 store refused, 10 too many jobs, 11 socket refused, 15 shutting down; or 64 these words are no command, 65 a file can't be read or used, 69 no answer from the launcher, 74 the reply can't be printed, 141 its reader has gone.\n\nWhy a job does not run: jobscope why LABEL. Manual pages: jobctl(1), jobscope(1), jobd.json(5), jobd(8).";
+    "Files and folders are brought into effect by jobctl apply PATH..: jobctl apply --help.\n\nExit status: 0 done; or the launcher's first refusal: 1 no memory, 2 bad request or too many clients, 3 no such job, 4 already loaded, 5 disabled, 6 being removed, 7 not running, 8 bad definition, 9 store refused, 10 too many jobs, 11 socket refused, 15 shutting down; or 64 these words are no command, 65 a file can't be read or used, 69 no answer from the launcher, 74 the reply can't be printed, 141 its reader has gone.\n\nWhy a job does not run: jobscope why LABEL. Manual pages: jobctl(1), jobscope(1), jobd.json(5), jobd(8).";
 
 const SEE_EXIT: &str = "jobctl --help has the exit statuses.";
 

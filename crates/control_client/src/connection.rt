@@ -12,8 +12,9 @@ use std::time::Duration;
 /// How many bytes a reply has at most before its newline.
 pub const REPLY: usize = 1_048_576;
 
+/// A connection to a launcher's control socket.
 #[derive(Drop)]
-pub(crate) struct Connection {
+pub struct Connection {
     reader: BufReader<UnixStream>,
     // The longest wait for a part of an answer, in seconds; 0 for ever.
     patience: u32,
@@ -22,7 +23,7 @@ pub(crate) struct Connection {
 impl Connection {
     /// Connects to the launcher whose socket is at the path. An answer is waited for so many seconds, or for ever if they
     /// are 0.
-    pub(crate) fn open<R: Net>(
+    pub fn open<R: Net>(
         rt: &R,
         alloc: Global,
         socket: &str,
@@ -36,7 +37,7 @@ impl Connection {
 
     /// Sends a request's line, and waits for its reply. A launcher that has no room for a client says so and ends the
     /// connection, so what it said is heard also if the request can't be sent.
-    pub(crate) fn ask(&mut self, alloc: Global, request: &[u8]) -> Result<Replied, Fault> {
+    pub fn ask(&mut self, alloc: Global, request: &[u8]) -> Result<Replied, Fault> {
         let sent = self.reader.get_mut().write_all(request);
         match sent {
             Ok(()) => self.hear_in_time(alloc),

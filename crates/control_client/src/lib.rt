@@ -4,15 +4,17 @@
 
 mod connection;
 mod fault;
+mod labels;
 mod program;
 mod reply;
 mod request;
 mod session;
 mod settings;
 
-pub use connection::{REPLY, hear};
+pub use connection::{Connection, REPLY, hear};
 pub use ctl_protocol::LINE_LIMIT;
 pub use fault::Fault;
-pub use program::jobctl;
+pub use program::{PACKAGED, SOCKET, jobctl, tell_setting};
 pub use reply::Replied;
 pub use request::request_of;
+pub use settings::{SettingFault, Settings, settings_of};

@@ -1,6 +1,7 @@
 //! One run of the control program.
 
 use crate::fault::{Fault, tell};
+use crate::labels::tell_about;
 use crate::request::{label_of, text_at};
 use crate::session::Session;
 use crate::settings::{SettingFault, Settings, settings_of};
@@ -8,28 +9,35 @@ use ctl_protocol::{LoadRequest, Request};
 use exit_status::{NO_MEMORY, USAGE};
 use files_and_process::own_process::MARK;
 use files_and_process::path_files::{Found, Kind, files_at};
-use history_model::{Ask, KeyName, Reason, Refusal, Text, TextRef};
+use history_model::{Ask, KeyName, Reason, Refusal, Text, TextRef, is_label};
 use launchctl_words::{Command, Paths, WordFault, Words, explain, read_words, read_words_beside};
 use plain_text::plain;
 use std::alloc::Global;
-use std::fs::{Files, metadata};
+use std::fs::{Files, metadata, symlink_metadata};
 use std::io::{self, ErrorKind, IsTerminal};
 use std::net::Net;
 use std::rt::Env;
 
-/// The control socket if nothing names one, and that of the package.
-const SOCKET: &str = "jobd.sock";
+/// The control socket if nothing names one.
+pub const SOCKET: &str = "jobd.sock";
 
-const PACKAGED: &str = "/run/jobd/jobd.sock";
+/// That of the package.
+pub const PACKAGED: &str = "/run/jobd/jobd.sock";
 
-/// Whether somebody reads at once what is told on the standard error.
+/// Whether somebody reads at once what is told on the standard error, and what is printed on the standard output.
 pub trait Watched {
     fn is_watched(&self) -> bool;
+
+    fn is_shown(&self) -> bool;
 }
 
 impl Watched for HostRuntime {
     fn is_watched(&self) -> bool {
         self.stderr().is_terminal()
+    }
+
+    fn is_shown(&self) -> bool {
+        self.stdout().is_terminal()
     }
 }
 
@@ -104,6 +112,8 @@ fn task_of(command: &Command) -> Task<'_> {
 /// there are several. Below that of a faulty definition a terminal is told what says where the fault is. A fault is one line on the standard error that names what it is about, and the reason. If the standard
 /// output's reader has gone, nothing is told and the status is [`crate::READER_GONE`].
 ///
+/// A word of an unload that is no path, and of which no file has the name, is the label of a loaded job, if there is one.
+///
 /// Of the environment, `JOBD_SOCKET` is the control socket if the words name none, and `JOBCTL_TIMEOUT` the seconds for which
 /// an answer is waited (30 if absent, 0 for ever); after them the status is 69. One that can't be read: 64.
 ///
@@ -134,7 +144,11 @@ pub fn jobctl<R: Net + Files + Env + Print + Eprint + Watched + AllocGlobal + Cl
             let mut session = Session::new(socket, patience, is_unnamed);
             match task_of(&command) {
                 Task::Files(deed, paths) => hand_in(rt, alloc, &mut session, deed, paths),
-                Task::Request(request) => session.ask_once(rt, alloc, &request),
+                Task::Request(request) => {
+                    if let Some(code) = session.ask_once(rt, alloc, &request) {
+                        tell_about(rt, alloc, &mut session, &command, code);
+                    }
+                }
             }
             drop(command);
             let status = session.status();
@@ -187,7 +201,8 @@ fn read_by(alloc: Global, settings: &Settings, words: &[String]) -> Result<Words
     }
 }
 
-fn tell_setting<R: Eprint>(rt: &R, fault: SettingFault) -> u8 {
+/// Tells what keeps the environment from being read, and gives the exit status.
+pub fn tell_setting<R: Eprint>(rt: &R, fault: SettingFault) -> u8 {
     let (name, why) = match fault {
         SettingFault::NoMemory => return want_memory(rt),
         SettingFault::Socket => ("JOBD_SOCKET", "not UTF-8"),
@@ -272,7 +287,11 @@ fn hand_in_one<R: Net + Files + Print + Eprint + Watched>(
         Kind::File => {}
     }
     let heading = if is_named { Some(name) } else { None };
-    match text_for(rt, alloc, deed, path) {
+    let read = match word_for(rt, alloc, session, deed, path) {
+        Some(label) => Ok(label),
+        None => text_for(rt, alloc, deed, path),
+    };
+    match read {
         Ok(text) => {
             let answer = session.ask(rt, alloc, &request_with(deed, &text), heading);
             drop(text);
@@ -280,6 +299,43 @@ fn hand_in_one<R: Net + Files + Print + Eprint + Watched>(
             Ok(())
         }
         Err(fault) => Err(fault),
+    }
+}
+
+// The label that the word of an unload is: no file of that name is there, and a job of that label is loaded.
+fn word_for<R: Net + Files>(
+    rt: &R,
+    alloc: Global,
+    session: &mut Session,
+    deed: Deed,
+    path: &str,
+) -> Option<Text> {
+    if !matches!(deed, Deed::Unload { .. }) || !may_be_label(path) || is_there(rt, path) {
+        return None;
+    }
+    let request = Request::Print {
+        job: TextRef::new(path),
+    };
+    let replied = session.look(rt, alloc, &request).ok()?;
+    let is_loaded = replied.code == 0;
+    drop(replied);
+    if is_loaded {
+        Text::copy_of(alloc, path).ok()
+    } else {
+        None
+    }
+}
+
+// Whether a word is a label, and neither a path nor the name of a definition's file.
+fn may_be_label(word: &str) -> bool {
+    let is_file = word.contains('/') || word.ends_with(".json") || word.ends_with(".plist");
+    !is_file && is_label(word)
+}
+
+fn is_there<R: Files>(rt: &R, path: &str) -> bool {
+    match symlink_metadata(rt, path) {
+        Ok(_) => true,
+        Err(error) => error.kind() != ErrorKind::NotFound,
     }
 }
 

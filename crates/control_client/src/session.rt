@@ -2,12 +2,14 @@
 
 use crate::connection::Connection;
 use crate::fault::{Fault, tell, tell_unnamed};
+use crate::program::Watched;
 use crate::reply::Replied;
 use crate::request::request_of;
 use ctl_protocol::Request;
 use exit_status::{BAD_OUTPUT, NO_ANSWER};
 use history_model::Text;
-use std::alloc::Global;
+use plain_text::plain_char;
+use std::alloc::{AllocError, Global};
 use std::net::Net;
 
 /// One connection for all requests, made for the first.
@@ -47,7 +49,7 @@ impl Session {
     }
 
     /// Asks this and prints the reply's text, behind the name if there are both. Gives the reply's code.
-    pub(crate) fn ask<R: Net + Print + Eprint>(
+    pub(crate) fn ask<R: Net + Print + Eprint + Watched>(
         &mut self,
         rt: &R,
         alloc: Global,
@@ -57,21 +59,40 @@ impl Session {
         let line = request_of(alloc, request)?;
         let reply = self.exchange(rt, alloc, line.as_slice())?;
         self.note(reply.code);
-        print(rt, &reply, name)?;
+        print(rt, alloc, &reply, name)?;
         Ok(reply.code)
     }
 
-    /// Asks this, prints the reply's text, and tells what kept the request from its reply.
-    pub(crate) fn ask_once<R: Net + Print + Eprint>(
+    /// Asks this, prints the reply's text, and tells what kept the request from its reply. Gives the reply's code.
+    pub(crate) fn ask_once<R: Net + Print + Eprint + Watched>(
         &mut self,
         rt: &R,
         alloc: Global,
         request: &Request<'_>,
-    ) {
+    ) -> Option<u8> {
         match self.ask(rt, alloc, request, None) {
-            Ok(_) => {}
-            Err(fault) => self.fail(rt, alloc, "request", &fault),
+            Ok(code) => Some(code),
+            Err(fault) => {
+                self.fail(rt, alloc, "request", &fault);
+                None
+            }
         }
+    }
+
+    /// Asks this. The reply is not printed, and makes no difference to the exit status.
+    pub(crate) fn look<R: Net>(
+        &mut self,
+        rt: &R,
+        alloc: Global,
+        request: &Request<'_>,
+    ) -> Result<Replied, Fault> {
+        let line = request_of(alloc, request)?;
+        let replied = self.exchange(rt, alloc, line.as_slice());
+        drop(line);
+        if replied.is_err() {
+            self.connection = None;
+        }
+        replied
     }
 
     fn exchange<R: Net>(&mut self, rt: &R, alloc: Global, line: &[u8]) -> Result<Replied, Fault> {
@@ -103,14 +124,38 @@ impl Session {
 }
 
 // To the standard output at code 0, else to the standard error. The file's name stands before it if there is one, but on the
-// standard output only if something is said.
-fn print<R: Print + Eprint>(rt: &R, reply: &Replied, name: Option<&str>) -> Result<(), Fault> {
-    let text = reply.text.as_str();
+// standard output only if something is said. A terminal gets no control character of it but its newlines and tabs.
+fn print<R: Print + Eprint + Watched>(
+    rt: &R,
+    alloc: Global,
+    reply: &Replied,
+    name: Option<&str>,
+) -> Result<(), Fault> {
+    let is_terminal = if reply.code == 0 {
+        rt.is_shown()
+    } else {
+        rt.is_watched()
+    };
+    if !is_terminal {
+        return print_text(rt, reply.code, reply.text.as_str(), name);
+    }
+    let shown = shown_text(alloc, reply.text.as_str())?;
+    let printed = print_text(rt, reply.code, shown.as_str(), name);
+    drop(shown);
+    printed
+}
+
+fn print_text<R: Print + Eprint>(
+    rt: &R,
+    code: u8,
+    text: &str,
+    name: Option<&str>,
+) -> Result<(), Fault> {
     let (front, name, end) = match name {
-        Some(name) if reply.code != 0 || !text.is_empty() => ("jobctl: ", name, ":\n"),
+        Some(name) if code != 0 || !text.is_empty() => ("jobctl: ", name, ":\n"),
         _ => ("", "", ""),
     };
-    if reply.code != 0 {
+    if code != 0 {
         let _written = eprint!(rt; "{front}{name}{end}{text}");
         return Ok(());
     }
@@ -118,4 +163,17 @@ fn print<R: Print + Eprint>(rt: &R, reply: &Replied, name: Option<&str>) -> Resu
         Ok(()) => Ok(()),
         Err(error) => Err(Fault::Output(error)),
     }
+}
+
+// The text with each hidden character as U+FFFD, but for newlines and tabs.
+fn shown_text(alloc: Global, text: &str) -> Result<String, AllocError> {
+    let mut shown = String::new(alloc);
+    for c in text.chars() {
+        shown.push(if c == '\n' || c == '\t' {
+            c
+        } else {
+            plain_char(c)
+        })?;
+    }
+    Ok(shown)
 }

@@ -9,16 +9,16 @@ const PATIENCE: u32 = 30;
 
 /// What the environment says.
 #[derive(Drop)]
-pub(crate) struct Settings {
+pub struct Settings {
     /// `JOBD_SOCKET`: the launcher's control socket, if the words name none.
-    pub(crate) socket: Option<String>,
+    pub socket: Option<String>,
     /// `JOBCTL_TIMEOUT`: the longest wait for a part of an answer, in seconds; 0 for ever.
-    pub(crate) patience: u32,
+    pub patience: u32,
 }
 
 /// What keeps the environment from being read.
 #[derive(Clone, Copy, Drop)]
-pub(crate) enum SettingFault {
+pub enum SettingFault {
     NoMemory,
     /// `JOBD_SOCKET` is not UTF-8.
     Socket,
@@ -27,7 +27,7 @@ pub(crate) enum SettingFault {
 }
 
 /// What the environment says. A variable that is empty says nothing.
-pub(crate) fn settings_of<R: Env + AllocGlobal>(rt: &R) -> Result<Settings, SettingFault> {
+pub fn settings_of<R: Env + AllocGlobal>(rt: &R) -> Result<Settings, SettingFault> {
     let socket = match said(rt, "JOBD_SOCKET") {
         Ok(socket) => socket,
         Err(VarError::OutOfMemory) => return Err(SettingFault::NoMemory),

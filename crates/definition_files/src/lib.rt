@@ -4,6 +4,7 @@
 pub mod check;
 mod coming;
 pub mod cron;
+mod differing;
 mod files;
 mod folder;
 pub mod lists;
@@ -12,6 +13,7 @@ mod starts;
 mod verdict;
 
 pub use coming::calendar_after;
+pub use differing::changed_keys;
 pub use files::{Asked, Contents, DefinitionSource, HostFiles};
 pub use folder::laid_out;
 pub use starts::{coming_starts, put_start, tell_clockless};

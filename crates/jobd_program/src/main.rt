@@ -4,6 +4,7 @@
 mod stack;
 
 use crate::stack::{PAGES, take_stack};
+use apply_folder::jobctl_apply;
 use control_client::jobctl;
 use files_and_process::own_process::{Programs, run_by_name};
 use jobd::jobd;
@@ -20,7 +21,10 @@ impl Programs for OneFile {
     }
 
     fn jobctl(&self, host: &HostRuntime, words: &[String]) -> u8 {
-        jobctl(host, host.alloc(), words)
+        match jobctl_apply(host, host.alloc(), words) {
+            Some(status) => status,
+            None => jobctl(host, host.alloc(), words),
+        }
     }
 
     fn jobscope<L: Wait>(&self, host: &HostRuntime, waits: &L, words: &[String]) -> u8 {

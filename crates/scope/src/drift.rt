@@ -4,7 +4,7 @@ use crate::journal::reader::OpenJournal;
 use crate::objects::drift::put_drift;
 use calendar_due::Zone;
 use ctl_protocol::LINE_LIMIT;
-use definition_files::{Contents, DefinitionSource, HostFiles};
+use definition_files::{Contents, DefinitionSource, HostFiles, changed_keys};
 use exit_status::{BAD_FILE, DIFFERS};
 use files_and_process::path_files::{Found, files_at};
 use history_model::{KeyName, Text};
@@ -14,7 +14,7 @@ use json_kinds::{json_value, key_name};
 use launchctl_words::ScopeCommand;
 use run_times::telling::{Outcome, tell_of};
 use run_times::{Ink, Page};
-use serde_json::{Map, Value};
+use serde_json::Value;
 use std::alloc::{AllocError, Global};
 
 /// A definition: of a file, or as it is loaded.
@@ -384,37 +384,4 @@ fn put_told(
 fn put_column(ink: &mut Ink, text: &str) {
     ink.put("\t");
     ink.put_plain(text);
-}
-
-// The keys by which the one differs from the other, in byte order of those of the first, and then those that only the second has.
-fn changed_keys<'a>(
-    alloc: Global,
-    one: &'a Value,
-    other: &'a Value,
-) -> Result<Vec<&'a str>, AllocError> {
-    let mut keys = Vec::new(alloc);
-    if let (Some(one), Some(other)) = (one.as_object(), other.as_object()) {
-        add_keys(one, other, true, &mut keys)?;
-        add_keys(other, one, false, &mut keys)?;
-    }
-    Ok(keys)
-}
-
-// Adds the keys of the one that the other lacks, and with `by_value` those whose values differ.
-fn add_keys<'a>(
-    one: &'a Map<String, Value>,
-    other: &Map<String, Value>,
-    by_value: bool,
-    keys: &mut Vec<&'a str>,
-) -> Result<(), AllocError> {
-    for (key, value) in one {
-        let is_other = match other.get(key.as_str()) {
-            Some(found) => by_value && found != value,
-            None => true,
-        };
-        if is_other {
-            keys.push(key.as_str())?;
-        }
-    }
-    Ok(())
 }

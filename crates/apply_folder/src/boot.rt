@@ -1,0 +1,39 @@
+//! What a boot asks of a file before it loads it.
+
+use run_times::Ink;
+use run_times::Piece::{Number, Text};
+use std::alloc::{AllocError, Global};
+use std::fs::Metadata;
+use std::os::unix::fs::{MetadataExt, PermissionsExt};
+
+/// The bits of a mode by which its group and all others may write.
+const OTHERS_WRITE: u32 = 0o022;
+
+/// Whether a boot of the launcher's user leaves out what has this mode and this owner.
+pub fn is_left_at_boot(mode: u32, owner: u32, user: u32) -> bool {
+    mode & OTHERS_WRITE != 0 || (owner != 0 && owner != user)
+}
+
+/// Why it does; empty, if it does not. The front stands before the reason.
+pub(crate) fn left_at_boot(
+    alloc: Global,
+    data: &Metadata,
+    user: u32,
+    front: &str,
+) -> Result<String, AllocError> {
+    let mut ink = Ink::new(alloc);
+    let mode = data.permissions().mode();
+    if is_left_at_boot(mode, data.uid(), user) {
+        put_reason(mode, data.uid(), front, &mut ink);
+    }
+    ink.into_text()
+}
+
+fn put_reason(mode: u32, owner: u32, front: &str, ink: &mut Ink) {
+    ink.put(front);
+    if mode & OTHERS_WRITE != 0 {
+        ink.put("writable by others");
+    } else {
+        ink.put_all(&[Text("owned by user "), Number(u64::from(owner))]);
+    }
+}

@@ -1,0 +1,171 @@
+//! What a load would say of the files that differ from what is loaded, and what is warned of.
+
+use crate::gathered::Filed;
+use crate::loaded::{Job, job_of};
+use definition_files::check::{Change, Checked, Grade, Place, Remark, check_def, finding_line};
+use load_plan::Standing;
+use run_times::Ink;
+use run_times::Piece::{Number, Text};
+use std::alloc::{AllocError, Global};
+
+/// Looks at each file that is no JSON, or that differs from what is loaded. Whether there is a warning; each is told, if that is wanted.
+pub(crate) fn judge_all(
+    host: &HostRuntime,
+    alloc: Global,
+    files: &mut [Filed],
+    jobs: &[Job],
+    changes: &[Change],
+) -> Result<bool, AllocError> {
+    let mut has_warning = false;
+    for file in files.iter_mut() {
+        let is_warned = judge(host, alloc, file, jobs, changes)?;
+        has_warning = has_warning || is_warned;
+    }
+    Ok(has_warning)
+}
+
+/// Whether one of the files is to be looked at.
+pub(crate) fn has_open(files: &[Filed], jobs: &[Job]) -> bool {
+    for file in files {
+        if is_open(file, jobs) {
+            return true;
+        }
+    }
+    false
+}
+
+// Whether a file says something else than what is loaded.
+fn is_open(file: &Filed, jobs: &[Job]) -> bool {
+    if file.text.is_empty() {
+        return false;
+    }
+    match job_of(jobs, file.label.as_str()) {
+        Some(job) => job.digest.as_str() != file.digest.as_str(),
+        None => true,
+    }
+}
+
+fn judge(
+    host: &HostRuntime,
+    alloc: Global,
+    file: &mut Filed,
+    jobs: &[Job],
+    changes: &[Change],
+) -> Result<bool, AllocError> {
+    if !is_open(file, jobs) {
+        return Ok(false);
+    }
+    match check_def(alloc, file.text.as_bytes(), changes)? {
+        Checked::Loads {
+            def,
+            mistakes,
+            remarks,
+        } => {
+            drop(mistakes);
+            let is_disabled = def.disabled();
+            drop(def);
+            let is_warned = tell_warnings(host, alloc, file.path.as_str(), remarks.as_slice());
+            drop(remarks);
+            heed_setting(alloc, file, jobs, is_disabled)?;
+            is_warned
+        }
+        Checked::Refused {
+            place,
+            text,
+            further,
+            ..
+        } => {
+            drop(further);
+            let why = why_refused(alloc, place, text.as_str());
+            drop(text);
+            refuse(file, why?);
+            Ok(false)
+        }
+    }
+}
+
+// A file that is no JSON stays so, and its reason is told better.
+fn refuse(file: &mut Filed, why: String) {
+    if !matches!(file.standing, Standing::Unread) {
+        file.standing = Standing::Refused;
+    }
+    file.why = why;
+}
+
+fn why_refused(alloc: Global, place: Option<Place>, text: &str) -> Result<String, AllocError> {
+    let mut ink = Ink::new(alloc);
+    if let Some(place) = place {
+        ink.put_all(&[
+            Text("line "),
+            Number(place.line as u64),
+            Text(", column "),
+            Number(place.column as u64),
+            Text(": "),
+        ]);
+    }
+    ink.put_plain(text);
+    ink.into_text()
+}
+
+// The load of a file whose job is loaded would be refused, if its label is disabled by then.
+fn heed_setting(
+    alloc: Global,
+    file: &mut Filed,
+    jobs: &[Job],
+    is_disabled: bool,
+) -> Result<(), AllocError> {
+    let Some(job) = job_of(jobs, file.label.as_str()) else {
+        return Ok(());
+    };
+    if !matches!(file.standing, Standing::Good) {
+        return Ok(());
+    }
+    if job.is_disabled || (is_disabled && !job.was_disabled) {
+        file.standing = Standing::Disabled;
+        file.why = String::from_str(
+            alloc,
+            if job.is_disabled {
+                "its label is disabled, so a load would be refused"
+            } else {
+                "it has Disabled, so a load would be refused"
+            },
+        )?;
+    }
+    Ok(())
+}
+
+// Tells the warnings. Whether there is one.
+fn tell_warnings(
+    host: &HostRuntime,
+    alloc: Global,
+    path: &str,
+    remarks: &[Remark],
+) -> Result<bool, AllocError> {
+    let mut is_warned = false;
+    for remark in remarks {
+        if let Grade::Warning = remark.grade {
+            is_warned = true;
+            tell_warning(host, alloc, path, remark)?;
+        }
+    }
+    Ok(is_warned)
+}
+
+fn tell_warning(
+    host: &HostRuntime,
+    alloc: Global,
+    path: &str,
+    remark: &Remark,
+) -> Result<(), AllocError> {
+    let line = finding_line(
+        alloc,
+        path,
+        remark.place,
+        "",
+        Grade::Warning,
+        remark.text.as_str(),
+    )?;
+    let _written = eprint!(host; "{line}");
+    drop(line);
+    Ok(())
+}

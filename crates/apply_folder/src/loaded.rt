@@ -1,0 +1,304 @@
+//! What is loaded, as the launcher's status file says it.
+
+use crate::client::Client;
+use crate::stop::Stop;
+use exit_status::NO_ANSWER;
+use history_model::{JobState, Text};
+use launcher_places::Places;
+use status_file::{DisabledBy, JobStatus, LauncherStatus, StatusFault, StatusLine, state_of};
+use status_page::{Life, Standing, Trouble, named_path, read_standing};
+use std::alloc::{AllocError, Global};
+use std::time::{Duration, SystemTime};
+use std::{fs, io, thread};
+
+/// For how many milliseconds a file may be behind what it tells: it is written within a second of a change, and a round later.
+const BEHIND: u64 = 1_200;
+
+/// How often it is looked at again, and how many milliseconds lie between: three seconds and a half.
+const LOOKS: u32 = 70;
+
+const BETWEEN: u64 = 50;
+
+/// After so many looks a job is taken whose definition is not told, as it is for a moment after a load.
+const UNTOLD: u32 = 40;
+
+/// A loaded job.
+#[derive(Drop)]
+pub(crate) struct Job {
+    pub(crate) label: String,
+    /// Empty, if the launcher does not tell it.
+    pub(crate) digest: String,
+    pub(crate) is_running: bool,
+    pub(crate) is_kept_alive: bool,
+    pub(crate) is_going: bool,
+    /// Whether a setting disables its label.
+    pub(crate) is_disabled: bool,
+    /// Whether an earlier apply of one of the folders loaded it.
+    pub(crate) was_applied: bool,
+    /// The number of its run, and the second in which it began.
+    pub(crate) run: u64,
+    pub(crate) since: u64,
+    /// In seconds; 0 for ever.
+    pub(crate) exit_time_out: u32,
+    /// Whether a file says something else of it, so that its definition is wanted; and that, if it was found.
+    pub(crate) wants_before: bool,
+    pub(crate) before: Option<String>,
+    /// Whether that has `Disabled`.
+    pub(crate) was_disabled: bool,
+}
+
+/// What is loaded, by rising bytes of labels, and the file that told it.
+#[derive(Drop)]
+pub(crate) struct Look {
+    pub(crate) jobs: Vec<Job>,
+    pub(crate) standing: Standing,
+}
+
+/// What is loaded now.
+pub(crate) fn look_at(
+    host: &HostRuntime,
+    alloc: Global,
+    client: &mut Client,
+    path: &str,
+    places: &Option<Places>,
+) -> Result<Look, Stop> {
+    let asked = SystemTime::now(host);
+    for turn in 0..LOOKS {
+        if let Some(look) = look_once(host, alloc, client, path, places, &asked)? {
+            if all_told(look.jobs.as_slice()) {
+                return Ok(look);
+            }
+            if turn >= UNTOLD {
+                return checked(host, path, look);
+            }
+            drop(look);
+        }
+        thread::sleep(host, Duration::from_millis(BETWEEN));
+    }
+    let _written = eprintln!(host;
+        "jobctl: apply: {path} does not say what the launcher has loaded: it was not written anew"
+    );
+    Err(Stop::Told(NO_ANSWER))
+}
+
+// A launcher of an earlier version tells of no job which definition it has.
+fn checked(host: &HostRuntime, path: &str, look: Look) -> Result<Look, Stop> {
+    for job in &look.jobs {
+        if !job.digest.is_empty() {
+            return Ok(look);
+        }
+    }
+    drop(look);
+    match stale(host, path, "its launcher tells no definition") {
+        Ok(()) => Err(Stop::Told(NO_ANSWER)),
+        Err(stop) => Err(stop),
+    }
+}
+
+fn all_told(jobs: &[Job]) -> bool {
+    for job in jobs {
+        if job.digest.is_empty() {
+            return false;
+        }
+    }
+    true
+}
+
+// None: the file may be behind.
+fn look_once(
+    host: &HostRuntime,
+    alloc: Global,
+    client: &mut Client,
+    path: &str,
+    places: &Option<Places>,
+    asked: &io::Result<SystemTime>,
+) -> Result<Option<Look>, Stop> {
+    if !is_current(host, path, asked) {
+        return Ok(None);
+    }
+    let standing = standing_at(host, alloc, path)?;
+    check_launcher(host, path, &standing, places)?;
+    let jobs = jobs_of(alloc, standing.jobs())?;
+    let replied = client.list(host, alloc)?;
+    if !have_labels(jobs.as_slice(), replied.text.as_str()) {
+        return Ok(None);
+    }
+    Ok(Some(Look { jobs, standing }))
+}
+
+fn standing_at(host: &HostRuntime, alloc: Global, path: &str) -> Result<Standing, Stop> {
+    match read_standing(host, alloc, path, &[]) {
+        Ok(standing) => Ok(standing),
+        Err(trouble) => Err(tell_trouble(host, path, trouble)),
+    }
+}
+
+fn tell_trouble(host: &HostRuntime, path: &str, trouble: Trouble) -> Stop {
+    let _written = match trouble {
+        Trouble::NoMemory | Trouble::Line(_, StatusFault::NoMemory) => return Stop::NoMemory,
+        Trouble::Read(error) => eprintln!(host; "jobctl: apply: {path}: {error}"),
+        _ => eprintln!(host; "jobctl: apply: {path}: it is no whole status file"),
+    };
+    Stop::Told(NO_ANSWER)
+}
+
+// Whether all that was so when it was asked is in the file: it was written after that, or so long ago that it would have been written anew.
+fn is_current(host: &HostRuntime, path: &str, asked: &io::Result<SystemTime>) -> bool {
+    let (Ok(asked), Ok(now)) = (asked, SystemTime::now(host)) else {
+        return false;
+    };
+    // What keeps it from being read is told by who reads it.
+    let Ok(data) = fs::metadata(host, path) else {
+        return true;
+    };
+    let Ok(written) = data.modified() else {
+        return false;
+    };
+    if written.duration_since(*asked).is_ok() {
+        return true;
+    }
+    match now.duration_since(written) {
+        Ok(age) => age >= Duration::from_millis(BEHIND),
+        Err(_) => false,
+    }
+}
+
+// The file has to be that of a launcher that lives, and of the one at the socket.
+fn check_launcher(
+    host: &HostRuntime,
+    path: &str,
+    standing: &Standing,
+    places: &Option<Places>,
+) -> Result<(), Stop> {
+    let Some(launcher) = standing.launcher() else {
+        return stale(host, path, "it names no launcher");
+    };
+    if let Life::Gone = standing.life {
+        return stale(host, path, "the launcher that wrote it has ended");
+    }
+    match places {
+        Some(places) if !is_of(places, &launcher) => {
+            stale(host, path, "it is of another launcher")
+        }
+        _ => Ok(()),
+    }
+}
+
+fn is_of(places: &Places, launcher: &LauncherStatus<'_>) -> bool {
+    places.pid == launcher.pid && places.began == launcher.began
+}
+
+fn stale(host: &HostRuntime, path: &str, why: &str) -> Result<(), Stop> {
+    let _written = eprintln!(host;
+        "jobctl: apply: {path}: {why}, so it does not say what is loaded"
+    );
+    Err(Stop::Told(NO_ANSWER))
+}
+
+// Whether the lines of a list, each with its label behind the last tab, are those of these jobs.
+fn have_labels(jobs: &[Job], list: &str) -> bool {
+    let mut count: usize = 0;
+    for line in list.lines().skip(1) {
+        let label = match line.rsplit_once('\t') {
+            Some((_, label)) => label,
+            None => line,
+        };
+        if place_of(jobs, label).is_none() {
+            return false;
+        }
+        count = count.saturating_add(1);
+    }
+    count == jobs.len()
+}
+
+/// The place of the job of this label.
+pub(crate) fn place_of(jobs: &[Job], label: &str) -> Option<usize> {
+    let place = jobs.partition_point(|job| job.label.as_str() < label);
+    match jobs.get(place) {
+        Some(job) if job.label.as_str() == label => Some(place),
+        _ => None,
+    }
+}
+
+/// The job of this label.
+pub(crate) fn job_of<'a>(jobs: &'a [Job], label: &str) -> Option<&'a Job> {
+    jobs.get(place_of(jobs, label)?)
+}
+
+fn jobs_of(alloc: Global, lines: &[StatusLine]) -> Result<Vec<Job>, AllocError> {
+    let mut jobs = Vec::new(alloc);
+    for line in lines {
+        add_job(alloc, line, &mut jobs)?;
+    }
+    Ok(jobs)
+}
+
+fn add_job(alloc: Global, line: &StatusLine, jobs: &mut Vec<Job>) -> Result<(), AllocError> {
+    let (Ok(status), Ok(entries)) = (line.job(), line.calendar(alloc)) else {
+        return Err(AllocError);
+    };
+    let has_calendar = !entries.is_empty();
+    drop(entries);
+    let job = job_with(alloc, &status, has_calendar)?;
+    jobs.push(job)?;
+    Ok(())
+}
+
+fn job_with(alloc: Global, status: &JobStatus<'_>, has_calendar: bool) -> Result<Job, AllocError> {
+    let state = state_of(&status.facts.reasons);
+    let since = match status.note.started {
+        Some(at) => at.wall,
+        None => 0,
+    };
+    Ok(Job {
+        label: String::from_str(alloc, status.label)?,
+        digest: String::from_str(alloc, status.note.definition.unwrap_or(""))?,
+        is_running: !matches!(state, JobState::Idle),
+        is_kept_alive: is_kept_alive(status, has_calendar),
+        is_going: matches!(state, JobState::Removing),
+        is_disabled: matches!(status.disabled, Some(DisabledBy::Override)),
+        was_applied: false,
+        run: status.note.run,
+        since,
+        exit_time_out: status.keys.exit_time_out,
+        wants_before: false,
+        before: None,
+        was_disabled: false,
+    })
+}
+
+// Whether something keeps it alive, and no clock starts it.
+fn is_kept_alive(status: &JobStatus<'_>, has_calendar: bool) -> bool {
+    let keys = &status.keys;
+    let has_condition = keys.successful_exit.is_some()
+        || keys.crashed.is_some()
+        || keys.path_state.count > 0;
+    let has_clock = has_calendar || keys.start_interval.is_some();
+    (status.facts.reasons.wants.keep_alive || has_condition) && !has_clock
+}
+
+/// Where the status file is: by the variable, else by the file beside the socket.
+pub(crate) fn status_path(
+    host: &HostRuntime,
+    alloc: Global,
+    socket: &str,
+    places: &Option<Places>,
+) -> Result<String, Stop> {
+    if let Some(path) = named_path(host, &None::<Text>)? {
+        return Ok(path);
+    }
+    match places {
+        Some(
+            Places {
+                status_file: Some(path),
+                ..
+            },
+        ) => Ok(String::from_str(alloc, path.as_str())?),
+        _ => {
+            let _written = eprintln!(host;
+                "jobctl: apply: the launcher at {socket} keeps no status file (JOBD_STATUS_FILE), so nothing tells what is loaded"
+            );
+            Err(Stop::Told(NO_ANSWER))
+        }
+    }
+}

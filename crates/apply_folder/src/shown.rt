@@ -1,0 +1,116 @@
+//! The lines of steps.
+
+use crate::stop::Stop;
+use control_client::Fault;
+use history_model::Reading;
+use json_lines::Value::{Absent, Flag, Json, Text as Said};
+use json_lines::{Field, put_line, put_texts};
+use run_times::{Ink, Page, utc};
+use std::alloc::{AllocError, Global};
+
+/// How wide the word and the label of a line are at least.
+const WIDTH: usize = 10;
+
+/// What is told of a step.
+#[derive(Clone, Copy)]
+pub(crate) struct Line<'a> {
+    pub(crate) word: &'a str,
+    pub(crate) label: &'a str,
+    /// Empty, if no file is meant.
+    pub(crate) file: &'a str,
+    pub(crate) keys: &'a [&'a str],
+    pub(crate) reason: &'a str,
+    pub(crate) done: bool,
+}
+
+/// Writes the line to the standard output, as an object if JSON is wanted.
+pub(crate) fn show(
+    host: &HostRuntime,
+    alloc: Global,
+    is_json: bool,
+    line: &Line<'_>,
+) -> Result<(), Stop> {
+    let text = if is_json {
+        object_of(alloc, line)?
+    } else {
+        text_of(alloc, line)?
+    };
+    put(host, text)
+}
+
+fn put(host: &HostRuntime, text: String) -> Result<(), Stop> {
+    let written = print!(host; "{text}");
+    drop(text);
+    match written {
+        Ok(()) => Ok(()),
+        Err(error) => Err(Stop::Ask(Fault::Output(error))),
+    }
+}
+
+fn text_of(alloc: Global, line: &Line<'_>) -> Result<String, AllocError> {
+    let mut ink = Ink::new(alloc);
+    put_padded(&mut ink, line.word);
+    put_padded(&mut ink, line.label);
+    ink.put_plain(line.reason);
+    ink.put("\n");
+    ink.into_text()
+}
+
+// Adds the text, and as many blanks as it lacks of the width; one at least.
+fn put_padded(ink: &mut Ink, text: &str) {
+    ink.put_plain(text);
+    let count = text.chars().count();
+    for _ in count..WIDTH.max(count.saturating_add(1)) {
+        ink.put(" ");
+    }
+}
+
+fn object_of(alloc: Global, line: &Line<'_>) -> Result<String, AllocError> {
+    let mut keys = Ink::new(alloc);
+    put_texts(&mut keys, line.keys);
+    let keys = keys.into_text()?;
+    let zone = utc();
+    let mut page = Page::new(alloc, &zone, Reading { up: 0, wall: 0 });
+    let file = if line.file.is_empty() {
+        Absent
+    } else {
+        Said(line.file)
+    };
+    let fields = [
+        Field("label", Said(line.label)),
+        Field("file", file),
+        Field("keys", Json(keys.as_str())),
+        Field("reason", Said(line.reason)),
+        Field("done", Flag(line.done)),
+    ];
+    put_line(&mut page, "step", line.word, &fields);
+    let made = page.into_text();
+    drop(zone);
+    drop(keys);
+    made
+}
+
+/// Writes the last line: how many jobs are the same, and whether something changed.
+pub(crate) fn show_same(
+    host: &HostRuntime,
+    alloc: Global,
+    is_json: bool,
+    count: u64,
+    has_changed: bool,
+) -> Result<(), Stop> {
+    let mut ink = Ink::new(alloc);
+    if is_json {
+        ink.put("{\"same\":");
+        ink.put_number(count);
+        ink.put(if has_changed {
+            ",\"changed\":true}\n"
+        } else {
+            ",\"changed\":false}\n"
+        });
+    } else {
+        put_padded(&mut ink, "same");
+        ink.put_number(count);
+        ink.put(if count == 1 { " job\n" } else { " jobs\n" });
+    }
+    put(host, ink.into_text()?)
+}
