@@ -70,7 +70,10 @@ def checked(program, folder, files):
         ran = subprocess.run([*front, *program, "check", "--utc", "--now", "1795602000", *names], cwd=folder, capture_output=True, text=True, check=False)
         for line in ran.stdout.splitlines():
             front, _, rest = line.partition(":")
-            said[front].append(re.sub(r"^(\d+:\d+)?( \(\S*\))?:? ?", "", rest))
+            # (a tip that stands in a line of its own is of the file before it)
+            if front in said:
+                last = front
+            said[last].append(re.sub(r"^(\d+:\d+)?( \(\S*\))?:? ?", "", rest))
     return said
 
 
@@ -84,6 +87,8 @@ def write(folder, name, cases, port):
         text = text.replace("FOLDER", folder).replace("@PORT@", str(port))
         label = f"org.example.{name}{number}"
         # (each file has a label of its own)
+        if re.match(r"\S+ \S+ of [a-z]+: ", title):
+            text = re.sub(r'("Label": ")([^"]*)"', rf'\g<1>\g<2>.{name}{number}"', text)
         text = re.sub(r'("Label": ")(org\.example\.[a-z]*|a|app|deep)"', rf'\g<1>{label}"', text)
         make(folder, file, text.encode(), 0o644)
         names.append(file)
@@ -93,7 +98,7 @@ def write(folder, name, cases, port):
 def main(words):
     shows = "-v" in words
     program = [word for word in words if word != "-v"] or [os.path.join(TOP, "build", "quick", "jobscope")]
-    wrong, right = list(parted("wrong")), list(parted("right"))
+    wrong, right = [*parted("wrong"), *parted("asked"), *parted("fetched")], list(parted("right"))
     with tempfile.TemporaryDirectory() as folder, socket.create_server(("::1", 0), family=socket.AF_INET6) as server:
         os.chmod(folder, 0o755)
         lay_out(folder)
