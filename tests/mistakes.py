@@ -11,10 +11,10 @@ is to name it.
 `asked` has 95 that people ask about, written by somebody who had not read the check. Of 97 at first 85 were told when they were first tried. Then two were
 taken out, since by sh(1) and jobd.json(5) they do no harm, and one expression was mended, which missed the line that named its mistake.
 
-`fetched` has 30 property lists of other projects that do here what their authors did not mean, and 15 lines of units of Debian 12; 23 and 8 were told
+`fetched` has 31 property lists of other projects that do here what their authors did not mean, and 15 lines of units of Debian 12; 24 and 8 were told
 when they were first tried. Of the seven units whose line was not told, each names a program of which the check had no row.
 
-`right` has what is right: 42 property lists of other projects, 55 lines of units of Debian 12, 22 by the manual pages there, and others. Titles name
+`right` has what is right: 43 property lists of other projects, 55 lines of units of Debian 12, 22 by the manual pages there, and others. Titles name
 package, version and file, of a list the suite too; `tests/fetch_lists.py` fetches the lists and compares them. All of these were fetched in
 November 2026. Four had a false alarm when they were first tried: three lists with a path from their WorkingDirectory, and bluetoothd, which never leaves
 the foreground. Titles that end with `from memory` have no such source.
