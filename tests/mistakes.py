@@ -104,7 +104,7 @@ def write(folder, name, cases, port):
         text = text.replace("FOLDER", folder).replace("@PORT@", str(port))
         label = f"org.example.{name}{number}"
         # (each file has a label of its own)
-        if re.match(r"\S+ \S+ of [a-z]+: ", title):
+        if re.match(r"\S+ \S+ (of|in) [a-z]+[:,] ", title):
             text = re.sub(r'("Label": ")([^"]*)"', rf'\g<1>\g<2>.{name}{number}"', text)
         text = re.sub(r'("Label": ")(org\.example\.[a-z]*|a|app|deep)"', rf'\g<1>{label}"', text)
         make(folder, file, text.encode(), 0o644)
