@@ -150,7 +150,7 @@ def jobscope_mistakes(stage):
 
 
 def jobscope_corpus(stage):
-    """Of some two hundred mistakes that people make `jobscope check` tells nine in ten, and it has no false alarm for as many files that are right."""
+    """Of 356 mistakes that people make `jobscope check` tells nine in ten, and it has no false alarm for 291 files that are right."""
     ran = subprocess.run(
         [sys.executable, os.path.join(HERE, "..", "mistakes.py"), "-v", *stage.given.jobscope], capture_output=True, timeout=patience(LONGEST), text=True
     )

@@ -26,7 +26,10 @@ pub(crate) fn add_command(def: &Def, remarks: &mut Remarks<'_>) {
     } else {
         "the program is a relative path, which goes from the job's folder (WorkingDirectory); write the whole path"
     };
-    let is_relative = !is_whole && (program.starts_with('~') || program.contains('/'));
+    // (from a folder that is written whole, a path goes to one place)
+    let goes_from_folder = def.working_directory().unwrap_or("").starts_with('/');
+    let is_relative = !is_whole
+        && (program.starts_with('~') || (program.contains('/') && !goes_from_folder));
     remarks.add_if(is_relative, KeyName::Program, told);
     add_signs(def, remarks);
     match program_of(remarks.alloc, program, def.arguments()) {

@@ -14,6 +14,10 @@ pub(crate) static KEYS: &[Foreign] = &[
         hint: "KeepAlive true, or {\"SuccessfulExit\": false} to start it anew after a failure",
     },
     Foreign {
+        name: "restart",
+        hint: "KeepAlive true, or {\"SuccessfulExit\": false} to start it anew after a failure",
+    },
+    Foreign {
         name: "RestartSec",
         hint: "ThrottleInterval",
     },

@@ -5,11 +5,11 @@ use crate::check::remarks::Remarks;
 use history_model::KeyName;
 use job_defs::Def;
 use json_kinds::key_name;
-use run_times::Piece::Text;
+use run_times::Piece::{Number, Text};
 use std::fs::{Metadata, metadata};
 use std::os::unix::fs::{MetadataExt, PermissionsExt};
 
-/// Adds a warning for each variable that looks like a secret, if others may read the file; and one if a boot leaves the file out, since it is in a folder
+/// Adds a warning for each variable and argument that looks like a secret, if others may read the file; and one if a boot leaves the file out, since it is in a folder
 /// that jobd-run loads and others may write to it.
 pub(crate) fn add_private(host: &HostRuntime, path: &str, def: &Def, remarks: &mut Remarks<'_>) {
     if let Ok(data) = metadata(host, path) {
@@ -33,6 +33,7 @@ fn add_modes(data: &Metadata, path: &str, def: &Def, remarks: &mut Remarks<'_>) 
                 );
             }
         }
+        add_arguments(def, remarks);
     }
     // A folder that jobd-run loads.
     if path.contains("/etc/jobd/") || path.contains("/.config/jobd/") {
@@ -47,6 +48,31 @@ fn add_modes(data: &Metadata, path: &str, def: &Def, remarks: &mut Remarks<'_>) 
             "this file is not root's: root's jobd-run leaves it out; chown root it",
         );
     }
+}
+
+fn add_arguments(def: &Def, remarks: &mut Remarks<'_>) {
+    let key = key_name(KeyName::ProgramArguments);
+    for (index, argument) in def.arguments().iter().enumerate() {
+        if tells_password(argument.as_str()) {
+            let member = index.saturating_add(1);
+            remarks.add_at(
+                &[Step::Key(key), Step::Member(member)],
+                "$: member $ looks like a secret, and every user may read this file; have the program read it from a file of its own",
+                &[Text(key), Number(member.saturating_add(1) as u64)],
+            );
+        }
+    }
+}
+
+// As --password=WORD, or a URL with a password.
+fn tells_password(argument: &str) -> bool {
+    let is_named = match argument.split_once('=') {
+        Some((name, value)) => {
+            name.starts_with("--") && name.ends_with("password") && is_secret(name, value)
+        }
+        None => false,
+    };
+    is_named || has_password(argument)
 }
 
 // Ends of names that secrets have.
