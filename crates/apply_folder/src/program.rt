@@ -21,6 +21,7 @@ use files_and_process::own_files::LockFile;
 use history_model::{MAX_WALL, Text};
 use launcher_places::{Places, PlacesFault, owner_of, places_beside};
 use plain_text::plain;
+use status_page::named_path;
 use std::alloc::{AllocError, Global};
 use std::fs::metadata;
 use std::io::ErrorKind;
@@ -177,13 +178,25 @@ fn user_of(host: &HostRuntime, socket: &str) -> Result<u32, Stop> {
     }
 }
 
+// Without them the status file is known only by the variable.
+fn without_places(host: &HostRuntime) -> Result<Option<Places>, Stop> {
+    match named_path(host, &None::<Text>)? {
+        Some(path) => {
+            drop(path);
+            Ok(None)
+        }
+        None => Err(Stop::Told(NO_ANSWER)),
+    }
+}
+
 fn places_of(host: &HostRuntime, alloc: Global, socket: &str) -> Result<Option<Places>, Stop> {
     match places_beside(host, alloc, socket) {
         Ok(places) => Ok(places),
         Err(PlacesFault::NoMemory) => Err(Stop::NoMemory),
         Err(PlacesFault::Read(error)) => {
             let _written = eprintln!(host; "jobctl: apply: {socket}.places: {error}");
-            Ok(None)
+            drop(error);
+            without_places(host)
         }
         Err(PlacesFault::NotPlaces) => {
             let _written = eprintln!(host;
