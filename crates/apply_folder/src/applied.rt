@@ -9,7 +9,7 @@ use serde_json::Value;
 use std::alloc::{AllocError, Global};
 use std::fs::OpenOptions;
 use std::io::Write;
-use std::os::unix::fs::{MetadataExt, OpenOptionsExt, fchown};
+use std::os::unix::fs::{MetadataExt, OpenOptionsExt};
 use std::{fs, io};
 
 /// So many bytes it may have: a definition for each of the most jobs that a launcher holds.
@@ -201,12 +201,11 @@ pub(crate) fn write_applied(
     alloc: Global,
     path: &str,
     text: &str,
-    user: u32,
 ) -> io::Result<()> {
     let beside = format!(in alloc; "{path}.new")?;
     // An apply that was killed may have left it.
     let _gone = fs::remove_file(host, beside.as_str());
-    let written = write_beside(host, beside.as_str(), text, user);
+    let written = write_beside(host, beside.as_str(), text);
     let put = match written {
         Ok(()) => fs::rename(host, beside.as_str(), path),
         Err(error) => Err(error),
@@ -218,24 +217,11 @@ pub(crate) fn write_applied(
     put
 }
 
-fn write_beside(host: &HostRuntime, path: &str, text: &str, user: u32) -> io::Result<()> {
+fn write_beside(host: &HostRuntime, path: &str, text: &str) -> io::Result<()> {
     let mut options = OpenOptions::new();
     options.write(true).create_new(true).mode(0o600);
     let mut file = options.open(host, path)?;
     let written = file.write_all(text.as_bytes());
-    let given = give(&file, user);
     drop(file);
-    match written {
-        Ok(()) => given,
-        Err(error) => Err(error),
-    }
-}
-
-// Root's apply leaves the file to the launcher's user.
-fn give(file: &fs::File, user: u32) -> io::Result<()> {
-    let data = file.metadata()?;
-    if data.uid() == user {
-        return Ok(());
-    }
-    fchown(file, Some(user), None)
+    written
 }

@@ -4,11 +4,13 @@ use crate::applied::{Applied, AppliedFile, digest_in, put_definition, put_folder
 use crate::gathered::{Filed, Gathered};
 use crate::loaded::{Job, job_of};
 use crate::planned::Progress;
+use files_and_process::own_process::Standing;
 use run_times::Ink;
 use std::alloc::{AllocError, Global};
 use std::io;
 
-/// Writes what the folders have loaded now, if it is another than before.
+/// Writes what the folders have loaded now, if it is another than before. Only the launcher's own user does: what lies in another user's folder may be a link
+/// by the time that it is written.
 pub(crate) fn keep(
     host: &HostRuntime,
     alloc: Global,
@@ -23,10 +25,26 @@ pub(crate) fn keep(
     let kept = if text.as_str() == applied.text.as_str() {
         Ok(())
     } else {
-        write_applied(host, alloc, path, text.as_str(), user)
+        write_own(host, alloc, path, text.as_str(), user)
     };
     drop(text);
     kept
+}
+
+fn write_own(
+    host: &HostRuntime,
+    alloc: Global,
+    path: &str,
+    text: &str,
+    user: u32,
+) -> io::Result<()> {
+    if Standing::read(host).user != Some(user) {
+        return Err(io::Error::new(
+            io::ErrorKind::PermissionDenied,
+            "it is written by the launcher's own user alone",
+        ));
+    }
+    write_applied(host, alloc, path, text)
 }
 
 fn text_of(

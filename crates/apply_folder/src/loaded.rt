@@ -8,6 +8,7 @@ use launcher_places::Places;
 use status_file::{DisabledBy, JobStatus, LauncherStatus, StatusFault, StatusLine, state_of};
 use status_page::{Life, Standing, Trouble, named_path, read_standing};
 use std::alloc::{AllocError, Global};
+use std::io::ErrorKind;
 use std::time::{Duration, SystemTime};
 use std::{fs, io, thread};
 
@@ -76,7 +77,7 @@ pub(crate) fn look_at(
         thread::sleep(host, Duration::from_millis(BETWEEN));
     }
     let _written = eprintln!(host;
-        "jobctl: apply: {path} does not say what the launcher has loaded: it was not written anew"
+        "jobctl: apply: {path}: it is not there, or is behind, so it does not say what is loaded"
     );
     Err(Stop::Told(NO_ANSWER))
 }
@@ -147,9 +148,10 @@ fn is_current(host: &HostRuntime, path: &str, asked: &io::Result<SystemTime>) ->
     let (Ok(asked), Ok(now)) = (asked, SystemTime::now(host)) else {
         return false;
     };
-    // What keeps it from being read is told by who reads it.
-    let Ok(data) = fs::metadata(host, path) else {
-        return true;
+    let data = match fs::metadata(host, path) {
+        Ok(data) => data,
+        // A launcher that begins has not written it yet. What else keeps it from being read is told by who reads it.
+        Err(error) => return error.kind() != ErrorKind::NotFound,
     };
     let Ok(written) = data.modified() else {
         return false;

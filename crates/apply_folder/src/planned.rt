@@ -379,6 +379,7 @@ fn act(
     let task = task_of(scene, step, around.job, file, moved);
     let outcome = carry_out(host, alloc, client, &task)?;
     note_outcome(alloc, scene, step, &outcome, progress)?;
+    note_back(&outcome, moved, progress);
     let other = outcome_text(alloc, &outcome, task.before.is_some())?;
     let is_done = matches!(outcome, Outcome::Done);
     let told_as = Step {
@@ -395,6 +396,17 @@ fn act(
     );
     drop(other);
     shown
+}
+
+// A job that was unloaded, since its file has another label now, may be loaded again.
+fn note_back(outcome: &Outcome, moved: Option<&Job>, progress: &mut Progress) {
+    match (outcome, moved) {
+        (Outcome::Restored(_, _), Some(job)) => {
+            let label = job.label.as_str();
+            progress.unloaded.retain(|other| other.as_str() != label);
+        }
+        _ => {}
+    }
 }
 
 // The operation that a step came to: it may have been left.
