@@ -1,6 +1,6 @@
 //! The exit status of an apply.
 
-ghost use Rattle.std.specs.Prelude.{◌≡◌, ◌||◌, ◌==◌, if◌then◌else◌};
+ghost use Rattle.std.specs.Prelude.{◌≡◌, ◌||◌, false, ◌==◌, if◌then◌else◌};
 ghost use Rattle.exit_status.specs.declared.TheConstants as statuses;
 
 use exit_status::{BAD_FILE, DIFFERS};
@@ -18,7 +18,9 @@ pub struct Ending {
 
 impl Ending {
     /// All is in effect.
-    pub fn well() -> Ending {
+    pub fn well() -> Ending
+        ensures { (result.has_unread ≡ false) × (result.refusal ≡ 0) × (result.has_left ≡ false) }
+    {
         Ending {
             has_unread: false,
             refusal: 0,

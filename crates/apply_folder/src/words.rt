@@ -1,6 +1,6 @@
 //! The words of `jobctl apply`.
 
-ghost use Rattle.std.specs.Prelude.{◌≡◌, ◌||◌};
+ghost use Rattle.std.specs.Prelude.{◌≡◌, ◌||◌, false};
 ghost use Rattle.apply_folder.specs.Wishes.{is_dry_run, is_prune, is_now, is_strict, is_wait, is_json};
 
 use files_and_process::own_process::MARK;
@@ -37,7 +37,10 @@ pub struct ApplyFlags {
 
 impl ApplyFlags {
     /// None stands.
-    pub fn none() -> ApplyFlags {
+    pub fn none() -> ApplyFlags
+        ensures done { (result.dry_run ≡ false) × (result.prune ≡ false) × (result.at_once ≡ false) }
+        ensures shown { (result.strict ≡ false) × (result.wait ≡ false) × (result.json ≡ false) }
+    {
         ApplyFlags {
             dry_run: false,
             prune: false,
