@@ -91,7 +91,7 @@ tries() {
         [ "$(readlink "$root/$path")" = jobd ] || fail "$1: $path is no link to jobd"
         [ "$stand_ins" -gt 0 ] || "$root/$path" --help | grep "^Usage: ${path#bin/} " >/dev/null || fail "$1: $path does not act by its name"
     done
-    for path in share/man/man1/jobctl.1 share/man/man1/jobctl-reload.1 share/man/man1/jobscope.1 share/man/man5/jobd.json.5 share/man/man5/jobd.journal.5 share/man/man8/jobd.8 share/man/man8/jobd-run.8 share/man/man8/jobd-split-users.8 \
+    for path in share/man/man1/jobctl.1 share/man/man1/jobscope.1 share/man/man5/jobd.json.5 share/man/man5/jobd.journal.5 share/man/man8/jobd.8 share/man/man8/jobd-run.8 share/man/man8/jobd-split-users.8 \
         share/bash-completion/completions/{jobctl,jobd,jobscope} share/fish/vendor_completions.d/{jobctl,jobd,jobscope}.fish \
         share/zsh/site-functions/{_jobctl,_jobd,_jobscope} share/doc/jobd/contrib/{jobd.service,jobd@.service,jobd-user.service,jobd.logrotate,Containerfile} \
         share/doc/jobd/{README.md,SECURITY.md,CHANGELOG.md,LICENSE-MIT,LICENSE-APACHE,OPERATING.md,WHY-NOT-RUNNING.md,DIFFERENCES.md} \
