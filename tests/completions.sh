@@ -68,7 +68,7 @@ CASES = [
     ("jobctl load ", ["web.json", "old.plist", "jobs.d"], []),
     ("jobctl load -", ["-w", "-F"], []),
     ("jobctl unload -", ["-w"], ["-F"]),
-    ("jobctl unload org.example.w", ["org.example.web"], ["org.example.backup"]),
+    ("jobctl unload org.example.", ["org.example.web", "org.example.backup"], ["local.poll"]),
     ("jobctl apply ", ["web.json", "old.plist", "jobs.d"], []),
     ("jobctl apply --", ["--dry-run", "--prune", "--now", "--strict", "--wait", "--json"], ["--socket"]),
     ("jobctl kickstart -", ["-k"], []),

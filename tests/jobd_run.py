@@ -94,7 +94,7 @@ class Place:
     def reload(self, **more):
         """Runs `jobd-run reload`: its status, and what it told."""
         words = [options.shell, SCRIPT, "reload"]
-        run = subprocess.run(words, env=self.environment(**more), capture_output=True, text=True, timeout=MOST, stdin=subprocess.DEVNULL)
+        run = subprocess.run(words, env=self.environment(**more), capture_output=True, text=True, errors="replace", timeout=MOST, stdin=subprocess.DEVNULL)
         return run.returncode, run.stdout + run.stderr
 
     def control(self, *words):
@@ -127,7 +127,7 @@ class Place:
         return found
 
     def told(self):
-        return open(self.log).read()
+        return open(self.log, errors="replace").read()
 
     def check_told(self, text):
         check(text in self.told(), f"not told: {text!r} in {self.told()!r}")
@@ -1163,7 +1163,7 @@ def many_definitions(place):
         place.define(f"j{number:03}", KeepAlive=False, **({"Nice": 1} if number % 100 == 7 else {}))
     for number in (3, 150, 249):
         with open(f"{place.jobs}/j{number:03}.json", "w") as it:
-            it.write('{"Label":"x"}')
+            it.write('{"Label":"x%d"}' % number)
     os.unlink(f"{place.jobs}/j120.json")
     os.symlink("nowhere", f"{place.jobs}/j120.json")
     # A stand-in that writes each call down and makes it.
