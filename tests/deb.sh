@@ -141,6 +141,10 @@ is_off() {
     inside jobctl load /root/off.json >/dev/null 2>&1 || code=$?
     [ "$code" = 5 ] || fail "a label that was disabled is loaded $1: $code"
 }
+# The status file, which is found without a variable, says that the job runs.
+stands() {
+    inside jobscope status | grep "^$1 .*running"
+}
 # With the older package two jobs run, and a label is disabled; then the newer one is installed.
 upgrade() {
     inside apt-get -qq install -y --no-install-recommends --allow-downgrades /root/old.deb >"$root/root/log" 2>&1 || fail "$(cat "$root/root/log")"
@@ -159,10 +163,7 @@ upgrade() {
     fi
     inside jobctl print asked | grep -x '.state = running' >/dev/null || fail "the new jobctl is not answered"
     inside jobscope why --journal /var/lib/jobd/journal.jsonl asked | grep '^asked is running' >/dev/null || fail "the new jobscope does not read the old journal"
-    inside jobscope status >"$root/root/standing" 2>&1 || fail "the new jobscope does not find the old status file: $(cat "$root/root/standing")"
-    for label in hello asked; do
-        grep -q "^$label .*running" "$root/root/standing" || fail "jobscope status: $label: $(cat "$root/root/standing")"
-    done
+    for label in hello asked; do until_true stands $label; done
     inside jobscope metrics | grep '^jobd_job_running.*asked.* 1$' >/dev/null || fail "jobscope metrics: $(inside jobscope metrics | grep asked)"
     is_off "by the launcher of before"
 }
@@ -175,7 +176,7 @@ for pid in $before; do
 done
 start /usr/libexec/jobd-run
 cmp "/proc/$(launcher)/exe" "$root/usr/bin/jobd" || fail "a start after the upgrade has another program"
-inside jobscope status | grep '^hello .*running' >/dev/null || fail "after the start: $(inside jobscope status 2>&1)"
+until_true stands hello
 [ -f "$root/run/jobd/status.jsonl" ] || fail "no status file in /run/jobd"
 [ ! -e "$root/var/lib/jobd/status.jsonl" ] || fail "the status file of before is left"
 is_off "after an upgrade and a start"

@@ -86,10 +86,11 @@ stop)
     ;;
 reboot)
     machine_in systemctl reboot --no-wall || true
+    # bash says that a child was hung up.
     for _ in $(seq $((seconds + 120))); do
-        kill -0 "$machine_keeper" 2>/dev/null || break
+        kill -0 "$machine_keeper" || break
         sleep 1
-    done
+    done 2>/dev/null
     if kill -0 "$machine_keeper" 2>/dev/null; then fail "the machine does not go down"; fi
     ;;
 reload)

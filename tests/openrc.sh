@@ -67,10 +67,6 @@ until_true runs web
 inside rc-service jobd status 2>&1 | grep started >/dev/null || fail "its status: $(inside rc-service jobd status 2>&1)"
 grep -q '^jobd-run: 1 jobs loaded, 0 not$' "$tree/var/log/jobd.log" || fail "its words are not in its log"
 if grep -q JOBD_STOP_WAIT "$tree/var/log/jobd.log"; then fail "a wait that is long enough is told"; fi
-until_true test -s "$tree/root/variables"
-for row in HOME=/root USER=root LOGNAME=root SHELL=/bin/bash; do
-    grep -qx "$row" "$tree/root/variables" || fail "a job has no $row: $(cat "$tree/root/variables")"
-done
 # Its group may read the status file, and pass through the folder to it; other users may not.
 oncall() {
     inside setpriv --reuid=games --regid=games --groups="$1" -- env -i PATH=/usr/bin:/bin HOME=/ "${@:2}"
@@ -86,6 +82,10 @@ until_true inside test -f /run/jobd/jobd.sock.places
 oncall adm jobscope status | grep '^web .*running' >/dev/null || fail "adm: $(oncall adm jobscope status 2>&1)"
 if oncall adm jobctl --socket /run/jobd/jobd.sock list >"$scratch/log" 2>&1; then fail "adm may speak to the launcher"; fi
 if oncall games jobscope status >"$scratch/log" 2>&1; then fail "others read the status file"; fi
+until_true test -s "$tree/root/variables"
+for row in HOME=/root USER=root LOGNAME=root SHELL=/bin/bash; do
+    grep -qx "$row" "$tree/root/variables" || fail "a job has no $row: $(cat "$tree/root/variables")"
+done
 inside rc-service jobd stop >"$scratch/log" 2>&1 || fail "it does not stop: $(cat "$scratch/log")"
 [ "$(cat "$tree/root/ends")" = TERM ] || fail "the job was not ended in order"
 if inside pgrep -x jobd; then fail "a stop left the launcher"; fi

@@ -398,6 +398,7 @@ group_is 12 "640 $(machine_in getent group 12 | cut -d : -f 1)"
 group_is '' '600 root'
 if said 'JOBD_STATUS_GROUP'; then fail "told, though no group is named: $(told | grep JOBD_STATUS_GROUP)"; fi
 group_is nobodys '600 root'
+group_is 4294967295 '600 root'
 said 'JOBD_STATUS_GROUP is nobodys: no such group, so nobody else may read the status file' -p warning || fail "an unknown group is not told: $(told | tail)"
 rm -r "$tree/etc/jobd/bad.json" "$tree/etc/systemd/system/jobd.service.d"
 machine_in systemctl daemon-reload
