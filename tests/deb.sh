@@ -44,6 +44,7 @@ inside apt-get -qq install -y --no-install-recommends python3-minimal libpython3
 
 # What an earlier run left.
 inside dpkg -P jobd >/dev/null 2>&1 || true
+rm -rf "$root/etc/jobd"
 # Each file of the system, but for what apt and dpkg write down.
 files() {
     (cd "$root" && find . -xdev \( -path ./proc -o -path ./sys -o -path ./dev -o -path ./tmp -o -path ./root -o -path ./var/cache -o \

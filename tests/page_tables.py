@@ -178,7 +178,7 @@ for code, text in TEXTS.items():
 # ---- the environment: what a program reads stands in its page, and what its words read in its help
 READS = {
     "man/jobctl.1": (["control_client"], set()),
-    "man/jobd.8": (["startup"], {"JOBD_STATUS_FILE", "JOBD_STATUS_GROUP"}),
+    "man/jobd.8": (["startup"], {"JOBD_STATUS_FILE"}),
     "man/jobscope.1": (["scope", "status_page", "run_times", "definition_files"], set()),
 }
 for page, (crates, others) in READS.items():
