@@ -142,6 +142,9 @@ grep -qx 'jobd: ready' "$scratch/out" || fail "the launcher's own word did not c
 grep -qx "webd $webd begins" "$scratch/out" && grep -qx "webd $webd complains" "$scratch/out" || fail "/proc/1/fd/1 is not the container's output: $(cat "$scratch/out")"
 grep -qx 'by /dev/stdout' "$scratch/out" || fail "/dev/stdout is not the container's output: $(cat "$scratch/out")"
 inside jobctl list >/dev/null || fail "HEALTHCHECK"
+# No group is named here, so all is this user's alone.
+[ "$(inside stat -c %a /run/jobd)" = 700 ] || fail "the folder: $(inside stat -c '%a %G' /run/jobd)"
+[ -z "$(inside find /run/jobd -mindepth 1 -perm /077)" ] || fail "others may read: $(inside find /run/jobd -mindepth 1 -perm /077)"
 grep -q 'a job may take 20 seconds to end (ExitTimeOut), and the supervisor gives KILL 10 seconds after TERM: 11 too early' "$scratch/err" ||
     fail "an engine's time to stop that is too short is not told"
 sleep 8

@@ -1,7 +1,8 @@
 #!/usr/bin/env bash
 # The Debian package in a Debian made by debootstrap: it is installed, README's first job is typed there, jobd-run keeps a job of
 # /etc/jobd, the units pass systemd-analyze, and after a removal and a purge nothing is left. lintian finds no error. An upgrade from
-# OLD.deb leaves the launcher and its jobs their process ids, and the new jobctl and jobscope are answered by the old launcher. No systemd
+# OLD.deb, as of the release before, leaves the launcher and its jobs their process ids, and the new jobctl and jobscope are answered by the old
+# launcher; the next start is that of the new one, which keeps what was disabled. No systemd
 # runs here (units.sh has one): a removal ends the launcher of jobd-run, also one that runit keeps, and tells one that goes on. It is run
 # by hand, as root, after `make deb`: deb.sh FOLDER [OLD.deb], where FOLDER is taken for the new system, or is one made before. MIRROR
 # names the mirror. Without OLD.deb the upgrade is from the package itself, with a lower version.
@@ -43,6 +44,7 @@ inside apt-get -qq install -y --no-install-recommends python3-minimal libpython3
 
 # What an earlier run left.
 inside dpkg -P jobd >/dev/null 2>&1 || true
+rm -rf "$root/etc/jobd"
 # Each file of the system, but for what apt and dpkg write down.
 files() {
     (cd "$root" && find . -xdev \( -path ./proc -o -path ./sys -o -path ./dev -o -path ./tmp -o -path ./root -o -path ./var/cache -o \
@@ -122,31 +124,69 @@ else
     dpkg-deb -b "$root/root/old" "$root/root/old.deb" >/dev/null
     rm -rf "$root/root/old"
 fi
-inside apt-get -qq install -y --no-install-recommends --allow-downgrades /root/old.deb >"$root/root/log" 2>&1 || fail "$(cat "$root/root/log")"
 echo '{"Label": "asked", "ProgramArguments": ["/bin/sleep", "3000"]}' >"$root/root/asked.json"
-start /usr/libexec/jobd-run
-inside jobctl load /root/asked.json
-inside jobctl start asked
+echo '{"Label": "off", "ProgramArguments": ["/bin/sleep", "3000"]}' >"$root/root/off.json"
+old_version=$(dpkg-deb -f "$root/root/old.deb" Version)
 asked() {
     pid_of asked | grep .
 }
-until_true asked
 launcher() {
     cut -d ' ' -f 2 "$root/var/lib/jobd/mark"
 }
 state() {
     echo "$(launcher) $(pid_of hello) $(pid_of asked)"
 }
-before=$(state)
-inside apt-get -qq install -y --no-install-recommends /root/jobd.deb >"$root/root/log" 2>&1 || fail "$(cat "$root/root/log")"
-[ "$(state)" = "$before" ] || fail "the upgrade ended something: $before, then $(state)"
-case $before in *' '[0-9]*' '[0-9]*) ;; *) fail "not all ran before the upgrade: $before" ;; esac
-if ! cmp -s "/proc/$(launcher)/exe" "$root/usr/bin/jobd"; then
-    grep -q "^jobd: the launcher goes on as version .*; a restart by its supervisor ends its jobs and starts version $version" "$root/root/log" ||
-        fail "the upgrade is not told: $(cat "$root/root/log")"
-fi
-inside jobctl print asked | grep -x '.state = running' >/dev/null || fail "the new jobctl is not answered"
-inside jobscope why --journal /var/lib/jobd/journal.jsonl asked | grep '^asked is running' >/dev/null || fail "the new jobscope does not read the old journal"
+# What the store has of the label: a load is refused.
+is_off() {
+    local code=0
+    inside jobctl load /root/off.json >/dev/null 2>&1 || code=$?
+    [ "$code" = 5 ] || fail "a label that was disabled is loaded $1: $code"
+}
+# The status file, which is found without a variable, says that the job runs.
+stands() {
+    inside jobscope status | grep "^$1 .*running"
+}
+# With the older package two jobs run, and a label is disabled; then the newer one is installed.
+upgrade() {
+    inside apt-get -qq install -y --no-install-recommends --allow-downgrades /root/old.deb >"$root/root/log" 2>&1 || fail "$(cat "$root/root/log")"
+    start /usr/libexec/jobd-run
+    inside jobctl load /root/asked.json
+    inside jobctl start asked
+    inside jobctl disable off
+    until_true asked
+    before=$(state)
+    inside apt-get -qq install -y --no-install-recommends /root/jobd.deb >"$root/root/log" 2>&1 || fail "$(cat "$root/root/log")"
+    [ "$(state)" = "$before" ] || fail "the upgrade ended something: $before, then $(state)"
+    case $before in *' '[0-9]*' '[0-9]*) ;; *) fail "not all ran before the upgrade: $before" ;; esac
+    if ! cmp -s "/proc/$(launcher)/exe" "$root/usr/bin/jobd"; then
+        grep -q "^jobd: the launcher goes on as version $old_version; a restart by its supervisor ends its jobs and starts version $version" "$root/root/log" ||
+            fail "the upgrade is not told: $(cat "$root/root/log")"
+    fi
+    inside jobctl print asked | grep -x '.state = running' >/dev/null || fail "the new jobctl is not answered"
+    inside jobscope why --journal /var/lib/jobd/journal.jsonl asked | grep '^asked is running' >/dev/null || fail "the new jobscope does not read the old journal"
+    for label in hello asked; do until_true stands $label; done
+    inside jobscope metrics | grep '^jobd_job_running.*asked.* 1$' >/dev/null || fail "jobscope metrics: $(inside jobscope metrics | grep asked)"
+    is_off "by the launcher of before"
+}
+upgrade
+# The next start is that of the new program.
+kill -TERM "$keeper"
+wait "$keeper" || fail "jobd-run of the older package ended with $?: $(cat "$root/root/told")"
+for pid in $before; do
+    [ ! -d "/proc/$pid" ] || fail "the older jobd-run left $pid: $(tr '\0' ' ' <"/proc/$pid/cmdline")"
+done
+start /usr/libexec/jobd-run
+cmp "/proc/$(launcher)/exe" "$root/usr/bin/jobd" || fail "a start after the upgrade has another program"
+until_true stands hello
+[ -f "$root/run/jobd/status.jsonl" ] || fail "no status file in /run/jobd"
+[ ! -e "$root/var/lib/jobd/status.jsonl" ] || fail "the status file of before is left"
+is_off "after an upgrade and a start"
+inside jobscope why --journal /var/lib/jobd/journal.jsonl.1 asked | grep '^asked ' >/dev/null || fail "the journal of before is not kept"
+kill -TERM "$keeper"
+wait "$keeper" || fail "jobd-run ended with $?: $(cat "$root/root/told")"
+keeper=
+echo "deb: an upgrade from $old_version with running jobs: none was touched"
+upgrade
 
 # A removal ends what runs, and tells what goes on.
 mkdir -p "$root/root/spool"
@@ -174,6 +214,12 @@ mkdir -p "$root/root/sv"
 cp "$root/usr/share/doc/jobd/contrib/jobd.runit" "$root/root/sv/run"
 start runsv /root/sv
 before=$(state)
+is_off "after a removal and a new install"
+until_true test -f "$root/run/jobd/status.jsonl.boot"
+[ "$(stat -c '%a %g' "$root/run/jobd")" = '710 4' ] || fail "the folder is not passable for adm: $(stat -c '%a %G' "$root/run/jobd")"
+for file in status.jsonl status.jsonl.boot; do
+    [ "$(stat -c '%a %g' "$root/run/jobd/$file")" = '640 4' ] || fail "adm may not read $file: $(stat -c '%a %G' "$root/run/jobd/$file")"
+done
 inside apt-get -qq remove -y jobd >"$root/root/log" 2>&1 || fail "$(cat "$root/root/log")"
 for pid in $before; do
     [ "$pid" = - ] || [ ! -d "/proc/$pid" ] || fail "the removal left $pid: $(tr '\0' ' ' <"/proc/$pid/cmdline")"

@@ -111,6 +111,21 @@ first_process() {
         exec /usr/bin/env -i \"\$@\"" sh "${machine_words[@]}" "${@:2}"
 }
 
+# readable_by IN.. -- FOLDER..: which of the files below these folders can be read, sorted, and which can be written, with `write` before it. IN.. is a command that
+# runs another one as a user in a machine; root lists the files there by the function machine_list.
+readable_by() {
+    local command=() path
+    while [ "$1" != -- ]; do
+        command+=("$1")
+        shift
+    done
+    shift
+    for path in $(machine_list "$@" -mindepth 1 ! -name '*.new' | sort); do
+        if "${command[@]}" test -r "$path"; then echo "$path"; fi
+        if "${command[@]}" test -w "$path"; then echo "write $path"; fi
+    done
+}
+
 # page_definition LABEL: the definition of this label as docs/OPERATING.md has it.
 page_definition() {
     sed -n "s/^    \({\"Label\": \"$1\",.*}\)\$/\1/p" docs/OPERATING.md | grep .

@@ -67,6 +67,21 @@ until_true runs web
 inside rc-service jobd status 2>&1 | grep started >/dev/null || fail "its status: $(inside rc-service jobd status 2>&1)"
 grep -q '^jobd-run: 1 jobs loaded, 0 not$' "$tree/var/log/jobd.log" || fail "its words are not in its log"
 if grep -q JOBD_STOP_WAIT "$tree/var/log/jobd.log"; then fail "a wait that is long enough is told"; fi
+# Its group may read the status file, and pass through the folder to it; other users may not.
+oncall() {
+    inside setpriv --reuid=games --regid=games --groups="$1" -- env -i PATH=/usr/bin:/bin HOME=/ "${@:2}"
+}
+machine_list() {
+    inside find "$@"
+}
+until_true inside test -f /run/jobd/jobd.sock.places
+[ "$(inside stat -c '%a %U %G' /run/jobd)" = '710 root adm' ] || fail "the folder: $(inside stat -c '%a %U %G' /run/jobd)"
+[ "$(readable_by oncall adm -- /run/jobd /var/lib/jobd | tr '\n' ' ')" = '/run/jobd/jobd.sock.places /run/jobd/status.jsonl /run/jobd/status.jsonl.boot ' ] ||
+    fail "adm may read: $(readable_by oncall adm -- /run/jobd /var/lib/jobd)"
+[ -z "$(readable_by oncall games -- /run/jobd /var/lib/jobd)" ] || fail "others may read: $(readable_by oncall games -- /run/jobd /var/lib/jobd)"
+oncall adm jobscope status | grep '^web .*running' >/dev/null || fail "adm: $(oncall adm jobscope status 2>&1)"
+if oncall adm jobctl --socket /run/jobd/jobd.sock list >"$scratch/log" 2>&1; then fail "adm may speak to the launcher"; fi
+if oncall games jobscope status >"$scratch/log" 2>&1; then fail "others read the status file"; fi
 until_true test -s "$tree/root/variables"
 for row in HOME=/root USER=root LOGNAME=root SHELL=/bin/bash; do
     grep -qx "$row" "$tree/root/variables" || fail "a job has no $row: $(cat "$tree/root/variables")"

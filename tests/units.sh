@@ -386,6 +386,66 @@ machine_in systemctl restart jobd
 until_true runs kept
 echo "units: a minute that passed while no launcher ran was made up for, once"
 
+# ---- who may read the status file
+
+# as USER CMD..: without a variable of a launcher. oncall is in the group adm, and stranger in none.
+machine_in sh -c 'useradd -r -M -N -g nogroup -G adm -s /bin/sh oncall && useradd -r -M -N -g nogroup -s /bin/sh stranger'
+as() {
+    machine_in setpriv --reuid="$1" --regid=nogroup --init-groups -- env -i PATH=/usr/bin:/bin HOME=/ TERM=dumb COLUMNS=200 "${@:2}"
+}
+# A terminal, as script makes one.
+typed() {
+    as "$1" script -qec "$2" /dev/null
+}
+machine_list() {
+    machine_in find "$@"
+}
+define etc/jobd/bad.json '{"Label": "bad"}'
+machine_in systemctl restart jobd
+until_true runs kept
+shared='/run/jobd/jobd.sock.places /run/jobd/status.jsonl /run/jobd/status.jsonl.boot '
+looks() { [ "$(readable_by as oncall -- /run/jobd /var/lib/jobd | tr '\n' ' ')" = "$shared" ]; }
+until_true looks
+[ -z "$(readable_by as stranger -- /run/jobd /var/lib/jobd)" ] || fail "a stranger may read: $(readable_by as stranger -- /run/jobd /var/lib/jobd)"
+# shellcheck disable=SC2086
+[ "$(machine_in stat -c '%a %U %G' $shared | sort -u)" = '640 root adm' ] || fail "modes: $(machine_in stat -c '%a %U %G %n' $shared)"
+[ "$(machine_in stat -c '%a %U %G' /run/jobd)" = '711 root root' ] || fail "the folder of the users' launchers: $(machine_in stat -c '%a %U %G' /run/jobd)"
+as oncall jobscope status | grep '^kept .*running' >/dev/null || fail "oncall: jobscope status: $(as oncall jobscope status 2>&1)"
+as oncall jobscope metrics | grep -x 'jobd_definitions_not_loaded 1' >/dev/null || fail "oncall: jobscope metrics: $(as oncall jobscope metrics 2>&1 | grep -v '^#')"
+typed oncall 'jobscope why kept' | tr -d '\r' >"$scratch/why"
+grep -q '^kept is running' "$scratch/why" && grep -q '^jobscope: /run/jobd/status.jsonl: read, since no journal is named' "$scratch/why" || fail "oncall: jobscope why: $(cat "$scratch/why")"
+typed oncall 'jobscope why --failing' | grep '^/etc/jobd/bad.json: not loaded at the boot' >/dev/null || fail "oncall: jobscope why --failing: $(typed oncall 'jobscope why --failing')"
+if as oncall jobctl --socket /run/jobd/jobd.sock list >"$scratch/refused" 2>&1; then fail "oncall may speak to the launcher"; fi
+grep -q 'Permission denied' "$scratch/refused" || fail "oncall: jobctl list: $(cat "$scratch/refused")"
+if as stranger jobscope status >"$scratch/refused" 2>&1; then fail "a stranger reads the status file"; fi
+grep -q 'Permission denied' "$scratch/refused" || fail "stranger: $(cat "$scratch/refused")"
+# Another group, none, and one that does not exist.
+group_is() {
+    mkdir -p "$tree/etc/systemd/system/jobd.service.d"
+    printf '[Service]\nEnvironment=JOBD_STATUS_GROUP=%s\n' "$1" >"$tree/etc/systemd/system/jobd.service.d/override.conf"
+    machine_in systemctl daemon-reload
+    machine_in systemctl restart jobd
+    until_true runs kept
+    # shellcheck disable=SC2086
+    until_true machine_in stat $shared
+    # shellcheck disable=SC2086
+    [ "$(machine_in stat -c '%a %G' $shared | sort -u)" = "$2" ] || fail "with JOBD_STATUS_GROUP=$1: $(machine_in stat -c '%a %G %n' $shared)"
+}
+group_is staff '640 staff'
+group_is 12 "640 $(machine_in getent group 12 | cut -d : -f 1)"
+group_is '' '600 root'
+if said 'JOBD_STATUS_GROUP'; then fail "told, though no group is named: $(told | grep JOBD_STATUS_GROUP)"; fi
+group_is nobodys '600 root'
+group_is 4294967295 '600 root'
+said 'JOBD_STATUS_GROUP is nobodys: no such group, so nobody else may read the status file' -p warning || fail "an unknown group is not told: $(told | tail)"
+rm -r "$tree/etc/jobd/bad.json" "$tree/etc/systemd/system/jobd.service.d"
+machine_in systemctl daemon-reload
+machine_in systemctl restart jobd
+until_true runs kept
+machine_in userdel oncall 2>/dev/null
+machine_in userdel stranger 2>/dev/null
+echo "units: a user of the group adm reads the status file, and nothing else"
+
 # ---- a user's own systemd
 
 user=$(machine_in sh -c 'useradd -m -s /bin/sh someone && id -u someone')

@@ -25,7 +25,7 @@ pub(crate) const FAILS: u8 = DIFFERS;
 
 /// The path of the file that is asked of, if one is. Of `status` and `metrics` it is that of the words, else that of `JOBD_STATUS_FILE`, else the package's;
 /// of `why` that of the words, else that of `JOBD_STATUS_FILE`, if neither a journal nor a moment of one is named; of `next` the same, if besides no journal
-/// is found, and then that of the package in the place of a terminal, which is told.
+/// is found. Of both it is then that of the package in the place of a terminal, if no journal is found there, which is told.
 pub(crate) fn file_asked(host: &HostRuntime, of: &ScopeCommand) -> io::Result<Option<String>> {
     let (may_be_journal, is_next) = match of.task {
         Task::Status | Task::Metrics => (false, false),
@@ -43,10 +43,7 @@ pub(crate) fn file_asked(host: &HostRuntime, of: &ScopeCommand) -> io::Result<Op
     }
     match named_path(host, &of.status_file) {
         Ok(None) if !may_be_journal => packages(host),
-        Ok(None) if is_next && stands_in(host, packages_file(host)) => {
-            tell_of(host, packages_file(host), &NONE_NAMED);
-            packages(host)
-        }
+        Ok(None) => packages_in_terminal(host),
         Ok(path) => Ok(path),
         Err(error) => Err(io::Error::from(error)),
     }
@@ -55,6 +52,16 @@ pub(crate) fn file_asked(host: &HostRuntime, of: &ScopeCommand) -> io::Result<Op
 // Whether the words name a journal, or ask what no status file holds.
 fn names_journal(of: &ScopeCommand) -> bool {
     !of.journals.as_slice().is_empty() || of.moments.at.is_some() || of.is_all
+}
+
+// Where neither a journal nor a file is named: a user who may read the package's file may not be one who may read its journal.
+fn packages_in_terminal(host: &HostRuntime) -> io::Result<Option<String>> {
+    let path = packages_file(host);
+    if finds_journal(host)? || !stands_in(host, path) {
+        return Ok(None);
+    }
+    tell_of(host, path, &NONE_NAMED);
+    packages(host)
 }
 
 fn packages(host: &HostRuntime) -> io::Result<Option<String>> {

@@ -147,9 +147,10 @@ pub enum Trouble {
     Line(u64, StatusFault),
 }
 
-/// The path of the status file of the package's launcher: that of version 0.3.0, if it is there alone, since such a launcher runs on after an upgrade.
+/// The path of the status file of the package's launcher: that of version 0.3.0, if it is there, since such a launcher runs on after an upgrade, and a later
+/// `jobd-run` removes it at its start.
 pub fn packages_file(host: &HostRuntime) -> &'static str {
-    if metadata(host, PACKAGES).is_err() && metadata(host, BEFORE).is_ok() {
+    if metadata(host, BEFORE).is_ok() {
         BEFORE
     } else {
         PACKAGES
