@@ -21,16 +21,16 @@ struct Asked<'a> {
 fn asked_by(command: &Command) -> Option<Asked<'_>> {
     match command {
         Command::Start { label } | Command::Stop { label } | Command::Print { label } => {
-            Some(asked(label, false, false))
+            Some(asked_of(label, false, false))
         }
-        Command::Kickstart { label, .. } => Some(asked(label, false, false)),
-        Command::Enable { label } => Some(asked(label, true, false)),
-        Command::Disable { label } => Some(asked(label, true, true)),
+        Command::Kickstart { label, .. } => Some(asked_of(label, false, false)),
+        Command::Enable { label } => Some(asked_of(label, true, false)),
+        Command::Disable { label } => Some(asked_of(label, true, true)),
         _ => None,
     }
 }
 
-fn asked(label: &Text, is_set: bool, is_disabled: bool) -> Asked<'_> {
+fn asked_of(label: &Text, is_set: bool, is_disabled: bool) -> Asked<'_> {
     Asked {
         label: label.as_str(),
         is_set,
