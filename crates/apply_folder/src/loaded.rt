@@ -4,7 +4,7 @@ use crate::client::Client;
 use crate::stop::Stop;
 use exit_status::NO_ANSWER;
 use history_model::{JobState, Text};
-use launcher_places::Places;
+use launcher_places::{Places, check_own_file};
 use status_file::{DisabledBy, JobStatus, LauncherStatus, StatusFault, StatusLine, state_of};
 use status_page::{Life, Standing, Trouble, named_path, read_standing};
 use std::alloc::{AllocError, Global};
@@ -279,12 +279,26 @@ fn is_kept_alive(status: &JobStatus<'_>, has_calendar: bool) -> bool {
     (status.facts.reasons.wants.keep_alive || has_condition) && !has_clock
 }
 
+// What the file beside the socket names is opened only if it is a plain file of the launcher's user; it may not be there yet.
+fn check_status(host: &HostRuntime, path: &str, user: u32) -> Result<(), Stop> {
+    match check_own_file(host, path, user) {
+        Ok(()) => Ok(()),
+        Err(error) if error.kind() == ErrorKind::NotFound => Ok(()),
+        Err(error) => {
+            let _written = eprintln!(host; "jobctl: apply: {path}: {error}");
+            drop(error);
+            Err(Stop::Told(NO_ANSWER))
+        }
+    }
+}
+
 /// Where the status file is: by the variable, else by the file beside the socket.
 pub(crate) fn status_path(
     host: &HostRuntime,
     alloc: Global,
     socket: &str,
     places: &Option<Places>,
+    user: u32,
 ) -> Result<String, Stop> {
     if let Some(path) = named_path(host, &None::<Text>)? {
         return Ok(path);
@@ -295,7 +309,10 @@ pub(crate) fn status_path(
                 status_file: Some(path),
                 ..
             },
-        ) => Ok(String::from_str(alloc, path.as_str())?),
+        ) => {
+            check_status(host, path.as_str(), user)?;
+            Ok(String::from_str(alloc, path.as_str())?)
+        }
         _ => {
             let _written = eprintln!(host;
                 "jobctl: apply: the launcher at {socket} keeps no status file (JOBD_STATUS_FILE), so nothing tells what is loaded"

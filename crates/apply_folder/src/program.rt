@@ -216,7 +216,7 @@ fn apply_beside(
     user: u32,
 ) -> Result<u8, Stop> {
     let places = places_of(host, alloc, socket)?;
-    let path = status_path(host, alloc, socket, &places)?;
+    let path = status_path(host, alloc, socket, &places, user)?;
     let boot = NextBoot {
         user,
         folder: jobs_in(&places),
