@@ -43,8 +43,9 @@ pub(crate) enum Outcome {
 pub(crate) struct Task<'a> {
     pub(crate) label: &'a str,
     pub(crate) operation: Operation<'a>,
-    /// The definition that is loaded.
+    /// The definition that is loaded, and the path of its file.
     pub(crate) text: &'a str,
+    pub(crate) path: &'a str,
     /// That which was loaded, if it is known.
     pub(crate) before: Option<&'a str>,
     /// That was loaded under another label, and was unloaded for this step.
@@ -180,7 +181,7 @@ fn load(
 ) -> Result<Outcome, Fault> {
     let replied = client.load(host, alloc, task.text)?;
     if replied.code == 0 {
-        tell_notes(host, alloc, task.label, replied.text.as_str())?;
+        tell_notes(host, alloc, task.path, replied.text.as_str())?;
         drop(replied);
         return Ok(Outcome::Done);
     }
@@ -206,6 +207,8 @@ fn left_by(code: u8) -> Option<Reason> {
         Some(Reason::Disabled)
     } else if code == Refusal::Removing.code() {
         Some(Reason::Goes)
+    } else if code == Refusal::ShuttingDown.code() {
+        Some(Reason::ShutsDown)
     } else {
         None
     }
@@ -240,13 +243,13 @@ fn restore(
 }
 
 // What a launcher says of a definition that it took.
-fn tell_notes(host: &HostRuntime, alloc: Global, label: &str, notes: &str) -> Result<(), Fault> {
+fn tell_notes(host: &HostRuntime, alloc: Global, path: &str, notes: &str) -> Result<(), Fault> {
     for note in notes.lines() {
-        let label = plain(alloc, label)?;
+        let path = plain(alloc, path)?;
         let note = plain(alloc, note)?;
-        let _written = eprintln!(host; "jobctl: {label}: {note}");
+        let _written = eprintln!(host; "jobctl: {path}: {note}");
         drop(note);
-        drop(label);
+        drop(path);
     }
     Ok(())
 }

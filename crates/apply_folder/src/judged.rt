@@ -3,6 +3,8 @@
 use crate::gathered::Filed;
 use crate::loaded::{Job, job_of};
 use definition_files::check::{Change, Checked, Grade, Place, Remark, check_def, finding_line};
+use history_model::{KeyName, Reason};
+use json_kinds::{key_name, reason_name};
 use load_plan::Standing;
 use run_times::Ink;
 use run_times::Piece::{Number, Text};
@@ -70,13 +72,18 @@ fn judge(
             is_warned
         }
         Checked::Refused {
+            reason,
+            key,
             place,
             text,
             further,
-            ..
         } => {
             drop(further);
-            let why = why_refused(alloc, place, text.as_str());
+            let why = if matches!(reason, Reason::NotJson) {
+                why_unread(alloc, place, text.as_str())
+            } else {
+                why_refused(alloc, reason, key)
+            };
             drop(text);
             refuse(file, why?);
             Ok(false)
@@ -92,7 +99,19 @@ fn refuse(file: &mut Filed, why: String) {
     file.why = why;
 }
 
-fn why_refused(alloc: Global, place: Option<Place>, text: &str) -> Result<String, AllocError> {
+// As the launcher says it.
+fn why_refused(alloc: Global, reason: Reason, key: KeyName) -> Result<String, AllocError> {
+    let mut ink = Ink::new(alloc);
+    ink.put_all(&[
+        Text("bad definition: "),
+        Text(reason_name(reason)),
+        Text(" "),
+        Text(key_name(key)),
+    ]);
+    ink.into_text()
+}
+
+fn why_unread(alloc: Global, place: Option<Place>, text: &str) -> Result<String, AllocError> {
     let mut ink = Ink::new(alloc);
     if let Some(place) = place {
         ink.put_all(&[

@@ -25,6 +25,8 @@ pub(crate) struct Scene<'a> {
     pub(crate) zone: &'a Zone,
     pub(crate) flags: ApplyFlags,
     pub(crate) has_warning: bool,
+    /// The launcher shuts down.
+    pub(crate) shuts_down: bool,
     /// It is the first plan: what is left is shown.
     pub(crate) is_first: bool,
 }
@@ -103,7 +105,7 @@ fn flags_of(scene: &Scene<'_>) -> Flags {
         at_once: scene.flags.at_once,
         strict: scene.flags.strict,
         has_warning: scene.has_warning,
-        shuts_down: false,
+        shuts_down: scene.shuts_down,
     }
 }
 
@@ -195,6 +197,59 @@ fn is_among(labels: &[String], label: &str) -> bool {
     false
 }
 
+// What ends with the launcher is not waited for.
+fn heeded<'a>(scene: &Scene<'_>, operation: Operation<'a>) -> Operation<'a> {
+    match operation {
+        Operation::Leave(Reason::Goes) if scene.shuts_down => Operation::Leave(Reason::ShutsDown),
+        operation => operation,
+    }
+}
+
+// Whether the line of the job under the former label tells this load too.
+fn is_told_before(scene: &Scene<'_>, step: &Step<'_>, file: Option<&Filed>) -> bool {
+    let former = match (step.operation, file) {
+        (
+            Operation::Load(_),
+            Some(
+                Filed {
+                    former: Some(former),
+                    ..
+                },
+            ),
+        ) => former.as_str(),
+        _ => return false,
+    };
+    job_of(scene.jobs, former).is_some() && !is_named_by(scene.files, former)
+}
+
+fn is_named_by(files: &[Filed], label: &str) -> bool {
+    for file in files {
+        if file.label.as_str() == label {
+            return true;
+        }
+    }
+    false
+}
+
+// The label of a line: of a job that gets another one both; of a file that can't be read its name.
+fn shown_label(
+    alloc: Global,
+    scene: &Scene<'_>,
+    step: &Step<'_>,
+    around: &Around<'_>,
+    file: Option<&Filed>,
+) -> Result<String, AllocError> {
+    let is_unread = matches!(step.operation, Operation::Leave(Reason::Unread));
+    match (around.heir, file) {
+        (Some(heir), _) if scene.flags.json => String::from_str(alloc, heir.label.as_str()),
+        (Some(heir), _) => format!(in alloc; "{} -> {}", step.label, heir.label.as_str()),
+        (None, Some(file)) if is_unread && !scene.flags.json => {
+            String::from_str(alloc, file.name())
+        }
+        _ => String::from_str(alloc, step.label),
+    }
+}
+
 fn take_step(
     host: &HostRuntime,
     alloc: Global,
@@ -206,6 +261,10 @@ fn take_step(
     if is_among(progress.tried.as_slice(), step.label) {
         return Ok(());
     }
+    let step = &Step {
+        label: step.label,
+        operation: heeded(scene, step.operation),
+    };
     let job = job_of(scene.jobs, step.label);
     let file = file_of(scene.files, &step.operation, step.label);
     let around = Around {
@@ -219,7 +278,7 @@ fn take_step(
         },
         waits: scene.flags.wait,
     };
-    let keys = keys_of(alloc, file, job)?;
+    let keys = keys_of(alloc, file.or(around.heir), job)?;
     let told = planned_text(&around, step.label, &step.operation, file, keys.as_slice())?;
     let taken = match step.operation {
         Operation::Leave(why) => {
@@ -249,14 +308,15 @@ fn show_step(
     done: bool,
 ) -> Result<(), Stop> {
     let names = lent(alloc, keys)?;
+    let label = shown_label(alloc, scene, step, around, file)?;
     let shown = show(
         host,
         alloc,
         scene.flags.json,
         &Line {
             word: operation_word(&step.operation, around.heir.is_some()),
-            label: step.label,
-            file: match file {
+            label: label.as_str(),
+            file: match file.or(around.heir) {
                 Some(file) => file.path.as_str(),
                 None => "",
             },
@@ -265,6 +325,7 @@ fn show_step(
             done,
         },
     );
+    drop(label);
     drop(names);
     shown
 }
@@ -275,6 +336,33 @@ fn lent<'a>(alloc: Global, keys: &'a [String]) -> Result<Vec<&'a str>, AllocErro
         names.push(key.as_str())?;
     }
     Ok(names)
+}
+
+// A line for each file of the label, of which none decides.
+fn show_each(
+    host: &HostRuntime,
+    alloc: Global,
+    scene: &Scene<'_>,
+    step: &Step<'_>,
+    around: &Around<'_>,
+    reason: &str,
+) -> Result<(), Stop> {
+    for file in scene.files {
+        if file.label.as_str() == step.label {
+            show_step(
+                host,
+                alloc,
+                scene,
+                step,
+                around,
+                Some(file),
+                &[],
+                reason,
+                false,
+            )?;
+        }
+    }
+    Ok(())
 }
 
 // A step that is left.
@@ -291,7 +379,10 @@ fn leave(
     progress: &mut Progress,
 ) -> Result<(), Stop> {
     progress.ending = progress.ending.and(ending_of(why));
-    if scene.is_first {
+    let is_each = scene.flags.json && matches!(why, Reason::Several);
+    if scene.is_first && is_each {
+        show_each(host, alloc, scene, step, around, told.as_str())?;
+    } else if scene.is_first {
         show_step(
             host,
             alloc,
@@ -306,6 +397,9 @@ fn leave(
     }
     let is_run = matches!(why, Reason::Runs) && scene.flags.wait;
     let is_going = matches!(why, Reason::Goes) && file.is_some();
+    if scene.shuts_down {
+        return Ok(());
+    }
     if is_run || is_going {
         await_job(alloc, step.label, is_run, around.job, progress)?;
     }
@@ -361,8 +455,12 @@ fn act(
     told: &String,
     progress: &mut Progress,
 ) -> Result<(), Stop> {
+    let is_told = is_told_before(scene, step, file);
     if scene.flags.dry_run {
         progress.has_changed = true;
+        if is_told {
+            return Ok(());
+        }
         return show_step(
             host,
             alloc,
@@ -380,8 +478,13 @@ fn act(
     let outcome = carry_out(host, alloc, client, &task)?;
     note_outcome(alloc, scene, step, &outcome, progress)?;
     note_back(&outcome, moved, progress);
-    let other = outcome_text(alloc, &outcome, task.before.is_some())?;
+    let other = outcome_text(alloc, step, &outcome, task.before.is_some())?;
     let is_done = matches!(outcome, Outcome::Done);
+    if is_done && is_told {
+        drop(outcome);
+        drop(other);
+        return Ok(());
+    }
     let told_as = Step {
         label: step.label,
         operation: became(&step.operation, &outcome),
@@ -449,6 +552,10 @@ fn task_of<'a>(
         text: match file {
             Some(file) => file.text.as_str(),
             None => "",
+        },
+        path: match file {
+            Some(file) => file.path.as_str(),
+            None => step.label,
         },
         is_moved: moved.is_some(),
         before: match moved.or(job) {

@@ -7,7 +7,7 @@ use crate::client::Client;
 use crate::gathered::{Filed, Gathered, NextBoot, gather};
 use crate::judged::{has_open, judge_all};
 use crate::kept::keep;
-use crate::loaded::{Look, job_of, look_at, status_path};
+use crate::loaded::{Job, Look, job_of, look_at, status_path};
 use crate::locked::lock_beside;
 use crate::planned::{Progress, Scene, apply_once, awaited_in};
 use crate::shown::{Line, show, show_same};
@@ -18,7 +18,7 @@ use control_client::{Fault, PACKAGED, SOCKET, Settings, settings_of, tell_settin
 use definition_files::check::{Change, changes_ahead};
 use exit_status::{NO_ANSWER, NO_MEMORY, READER_GONE, USAGE};
 use files_and_process::own_files::LockFile;
-use history_model::{MAX_WALL, Text};
+use history_model::{MAX_WALL, Refusal, Text};
 use launcher_places::{Places, PlacesFault, owner_of, places_beside};
 use plain_text::plain;
 use status_page::named_path;
@@ -215,6 +215,9 @@ fn apply_beside(
     socket: &str,
     user: u32,
 ) -> Result<u8, Stop> {
+    // A launcher writes its places before its first reply.
+    let listed = client.list(host, alloc)?;
+    drop(listed);
     let places = places_of(host, alloc, socket)?;
     let path = status_path(host, alloc, socket, &places, user)?;
     let boot = NextBoot {
@@ -377,12 +380,14 @@ fn round(
     if is_first {
         progress.has_warning = judged(ground, gathered, &look, &zone)?;
     }
+    let shuts_down = is_shutting_down(host, alloc, client, look.jobs.as_slice())?;
     let scene = Scene {
         files: gathered.files.as_slice(),
         jobs: look.jobs.as_slice(),
         zone: &zone,
         flags: ground.words.flags,
         has_warning: progress.has_warning,
+        shuts_down,
         is_first,
     };
     progress.in_effect.clear();
@@ -398,6 +403,27 @@ fn round(
     noted?;
     kept?;
     wait_on(ground, client, progress)
+}
+
+// Whether the launcher shuts down. It is asked where all jobs are being removed, by a load that it refuses in any case: for the shutdown first.
+fn is_shutting_down(
+    host: &HostRuntime,
+    alloc: Global,
+    client: &mut Client,
+    jobs: &[Job],
+) -> Result<bool, Fault> {
+    if jobs.is_empty() {
+        return Ok(false);
+    }
+    for job in jobs {
+        if !job.is_going {
+            return Ok(false);
+        }
+    }
+    let replied = client.load(host, alloc, "{}")?;
+    let shuts_down = replied.code == Refusal::ShuttingDown.code();
+    drop(replied);
+    Ok(shuts_down)
 }
 
 // Of the first plan alone, since files are read once.

@@ -7,10 +7,13 @@ use calendar_due::Zone;
 use definition_files::changed_keys;
 use history_model::MAX_WALL;
 use json_kinds::json_value;
-use load_plan::{FileVerdict, Operation, Reason, reason_text};
+use load_plan::{FileVerdict, Operation, Reason, Step, reason_text};
 use run_times::Piece::{Number, Text};
 use run_times::{Ink, time_text};
 use std::alloc::{AllocError, Global};
+
+/// The key of a label.
+const LABEL: &str = "Label";
 
 /// What is known around a step.
 #[derive(Clone, Copy)]
@@ -113,10 +116,9 @@ pub(crate) fn planned_text(
         }
         Operation::Replace(_) => {
             put_keys(keys, &mut ink);
-            ink.put(": unload, load ");
-            put_name(file, &mut ink);
+            ink.put(": unload, load");
         }
-        Operation::Unload => put_unload(around, &mut ink),
+        Operation::Unload => put_unload(around, label, keys, &mut ink),
         Operation::Leave(why) => put_left(around, label, *why, file, keys, &mut ink),
     }
     ink.into_text()
@@ -139,14 +141,34 @@ fn put_keys(keys: &[String], ink: &mut Ink) {
         ink.put_plain(key.as_str());
         between = ", ";
     }
-    ink.put(" changed");
 }
 
-fn put_unload(around: &Around<'_>, ink: &mut Ink) {
+// The keys that differ but the label, by which an old definition has another label now.
+fn put_other_keys(keys: &[String], ink: &mut Ink) {
+    let mut between = "";
+    for key in keys {
+        if key.as_str() != LABEL {
+            ink.put(between);
+            ink.put_plain(key.as_str());
+            between = ", ";
+        }
+    }
+    if between.is_empty() {
+        ink.put(if keys.is_empty() {
+            "its file has another label now"
+        } else {
+            "the same definition under another label"
+        });
+    }
+}
+
+fn put_unload(around: &Around<'_>, label: &str, keys: &[String], ink: &mut Ink) {
     match around.heir {
         Some(heir) => {
-            put_name(Some(heir), ink);
-            ink.put(" has another label now: unload, and load ");
+            put_other_keys(keys, ink);
+            ink.put(": unload ");
+            ink.put_plain(label);
+            ink.put(", load ");
             ink.put_plain(heir.label.as_str());
         }
         None => ink.put("its file is gone since the last apply of this folder: unload"),
@@ -177,6 +199,9 @@ fn put_left(
 fn put_running(around: &Around<'_>, file: Option<&Filed>, keys: &[String], ink: &mut Ink) {
     if file.is_some() {
         put_keys(keys, ink);
+        if !keys.is_empty() {
+            ink.put(" changed");
+        }
     } else {
         ink.put("its file is gone");
     }
@@ -205,15 +230,21 @@ fn put_clock(around: &Around<'_>, second: u64, ink: &mut Ink) {
 }
 
 fn put_several(files: &[Filed], label: &str, ink: &mut Ink) {
-    let mut between = "";
+    let mut count: u64 = 0;
     for file in files {
         if file.label.as_str() == label {
-            ink.put(between);
+            if count > 0 {
+                ink.put(" and ");
+            }
             ink.put_plain(name_in(file.path.as_str()));
-            between = " and ";
+            count = count.saturating_add(1);
         }
     }
-    ink.put(" name it, and not one alone is named for it: left");
+    ink.put(if count == 2 {
+        " both name it: left"
+    } else {
+        " all name it: left"
+    });
 }
 
 fn put_at_boot(file: Option<&Filed>, ink: &mut Ink) {
@@ -226,16 +257,21 @@ fn put_at_boot(file: Option<&Filed>, ink: &mut Ink) {
 }
 
 fn put_fault(why: Reason, file: Option<&Filed>, ink: &mut Ink) {
+    let is_unread = matches!(why, Reason::Unread);
+    let mut is_of_folder = false;
     match file {
         Some(file) if !file.why.is_empty() => {
-            ink.put_plain(file.name());
-            ink.put(": ");
+            is_of_folder = file.folder.is_some();
+            if !is_unread {
+                ink.put_plain(file.name());
+                ink.put(": ");
+            }
             ink.put_plain(file.why.as_str());
         }
         _ => ink.put(reason_text(why)),
     }
-    ink.put(if matches!(why, Reason::Unread) {
-        ": nothing is pruned"
+    ink.put(if is_unread && is_of_folder {
+        ": nothing of this folder is pruned"
     } else {
         ": left"
     });
@@ -244,6 +280,7 @@ fn put_fault(why: Reason, file: Option<&Filed>, ink: &mut Ink) {
 /// What is told of a step that did not go as planned. None: it did.
 pub(crate) fn outcome_text(
     alloc: Global,
+    step: &Step<'_>,
     outcome: &Outcome,
     has_before: bool,
 ) -> Result<Option<String>, AllocError> {
@@ -254,17 +291,24 @@ pub(crate) fn outcome_text(
         Outcome::Late => ink.put(
             "it has not ended in time, and is still being removed: apply again",
         ),
-        Outcome::Refused(code, text) => put_refused(*code, text.as_str(), &mut ink),
+        Outcome::Refused(code, text) => {
+            let is_load = matches!(step.operation, Operation::Load(_));
+            ink.put(if is_load { "load " } else { "unload " });
+            put_refused(*code, text.as_str(), &mut ink);
+        }
         Outcome::Restored(code, text) => {
+            ink.put("load ");
             put_refused(*code, text.as_str(), &mut ink);
             ink.put("; its definition of before is loaded again");
         }
         Outcome::Down(code, text) => {
+            ink.put_plain(step.label);
+            ink.put(" is DOWN: load ");
             put_refused(*code, text.as_str(), &mut ink);
             ink.put(if has_before {
-                "; it is DOWN: its definition of before was refused too"
+                "; its definition of before was refused too"
             } else {
-                "; it is DOWN: its definition of before is not known"
+                "; its definition of before is not known"
             });
         }
     }

@@ -9,7 +9,9 @@ use run_times::{Ink, Page, utc};
 use std::alloc::{AllocError, Global};
 
 /// How wide the word and the label of a line are at least.
-const WIDTH: usize = 10;
+const WORD_WIDTH: usize = 10;
+
+const LABEL_WIDTH: usize = 11;
 
 /// What is told of a step.
 #[derive(Clone, Copy)]
@@ -49,18 +51,18 @@ fn put(host: &HostRuntime, text: String) -> Result<(), Stop> {
 
 fn text_of(alloc: Global, line: &Line<'_>) -> Result<String, AllocError> {
     let mut ink = Ink::new(alloc);
-    put_padded(&mut ink, line.word);
-    put_padded(&mut ink, line.label);
+    put_padded(&mut ink, line.word, WORD_WIDTH);
+    put_padded(&mut ink, line.label, LABEL_WIDTH);
     ink.put_plain(line.reason);
     ink.put("\n");
     ink.into_text()
 }
 
 // Adds the text, and as many blanks as it lacks of the width; one at least.
-fn put_padded(ink: &mut Ink, text: &str) {
+fn put_padded(ink: &mut Ink, text: &str, width: usize) {
     ink.put_plain(text);
     let count = text.chars().count();
-    for _ in count..WIDTH.max(count.saturating_add(1)) {
+    for _ in count..width.max(count.saturating_add(1)) {
         ink.put(" ");
     }
 }
@@ -108,7 +110,7 @@ pub(crate) fn show_same(
             ",\"changed\":false}\n"
         });
     } else {
-        put_padded(&mut ink, "same");
+        put_padded(&mut ink, "same", WORD_WIDTH);
         ink.put_number(count);
         ink.put(if count == 1 { " job\n" } else { " jobs\n" });
     }
