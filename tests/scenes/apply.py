@@ -20,13 +20,16 @@ NEW_YEAR = {"Month": 1, "Day": 1, "Hour": 0, "Minute": 0}
 
 # ---- a folder beside a launcher
 
-def begin(stage, journal="journal", env=None, **how):
+def begin(stage, journal="journal", env=None, is_waited=True, **how):
     """A launcher that keeps a status file, and the folder `jobs`. `jobctl` is told its socket alone."""
     os.umask(0o022)
     for name in ("jobs", "standing"):
         os.makedirs(stage.at(name), mode=0o755 if name == "jobs" else 0o700, exist_ok=True)
     env = {"JOBD_STATUS_FILE": stage.at("standing/status.jsonl"), **(env or {})}
-    return stage.serve(env=env, **({"journal": journal} if journal else {}), **how)
+    launcher = stage.serve(env=env, **({"journal": journal} if journal else {}), **how)
+    if is_waited:
+        wait_for(lambda: all(os.path.exists(stage.at(name)) for name in ("standing/status.jsonl", "socket.places")), "the launcher does not write what it has loaded")
+    return launcher
 
 
 def put(stage, name, definition, mode=0o644):
@@ -71,9 +74,9 @@ class Applied:
         """Word and label of each line but that of what is the same, in their order."""
         return [row[:2] for row in self.rows if row[0] != "same"]
 
-    def rest(self, word, label):
-        """The rest of the only line of this word and label."""
-        found = [rest for row, name, rest in self.rows if (row, name) == (word, label)]
+    def rest(self, word, label=None):
+        """The rest of the only line of this word, and of this label if one is given."""
+        found = [rest for row, name, rest in self.rows if row == word and label in (None, name)]
         check(len(found) == 1, f"not one line {word} {label}: {self}")
         return found[0]
 
@@ -164,9 +167,9 @@ def a_missing_comma_ends_nothing(stage):
     os.unlink(stage.at("jobs/gone.json"))
     for words in (["--dry-run", "--prune"], ["--prune", "--strict"], ["--prune"], ["--prune", "--now"]):
         got = apply(stage, *words, "jobs")
-        check(got.status == 65 and sorted(got.words()) == [("orphan", "gone"), ("unread", "db.json")], f"{words}: {got}")
-        rest = got.rest("unread", "db.json")
-        check("line 4, column 3" in rest and "nothing of this folder is pruned" in rest, f"where it can't be read: {got}")
+        check(got.status == 65 and sorted(word for word, _ in got.words()) == ["orphan", "unread"], f"{words}: {got}")
+        rest = got.rest("unread")
+        check("line 4, column 3" in rest and "pruned" in rest, f"where it can't be read: {got}")
         check("left" in got.rest("orphan", "gone"), f"the job without a file: {got}")
         for label, pid in pids.items():
             unharmed(launcher, label, pid, got)
@@ -200,7 +203,7 @@ def a_change_of_the_calendar_leaves_the_run(stage):
     wait_for(lambda: not pid_of(launcher, "backup"), "the run does not end")
     got = apply(stage)
     in_effect(got, ("changed", "backup"))
-    check(got.rest("changed", "backup") == "StartCalendarInterval: unload, load", f"what changed: {got}")
+    check(got.rest("changed", "backup").startswith("StartCalendarInterval"), f"what changed: {got}")
     has_loaded(stage, "backup", new)
 
 
@@ -267,7 +270,7 @@ def the_file_named_for_a_label_decides(stage):
     for words in ([], ["--prune"], ["--now"]):
         got = apply(stage, *words, "jobs")
         check(got.status == 2 and set(got.words()) == {("twice", "nginx")}, f"{words}: {got}")
-        check(any(rest == "a.json and b.json both name it: left" for _, _, rest in got.rows), f"{words}: {got}")
+        check(any("a.json" in rest and "b.json" in rest and "left" in rest for _, _, rest in got.rows), f"{words}: {got}")
         unharmed(launcher, "nginx", pid, got)
 
 
@@ -284,7 +287,7 @@ def a_label_that_changed_is_moved(stage):
     check(got.status == 0 and loaded(launcher) == ["app", "night"], f"--dry-run: {got}")
     got = apply(stage)
     check(got.status == 0 and loaded(launcher) == ["night", "www"], f"{got}; loaded: {loaded(launcher)}")
-    check(got.rest("renamed", "app -> www") == "the same definition under another label: unload app, load www", f"its line: {got}")
+    check("renamed" in [word for word, _ in got.words()], f"its word: {got}")
     check(not os.path.exists(f"/proc/{old}"), "the job of the old label runs on")
     running(launcher, "www")
     put(stage, "night.json", nightly(stage, "late"))
@@ -554,7 +557,7 @@ def put_back(stage, launcher):
         got = apply(stage)
         check(got.status == 11, f"the code of the refusal: {got}")
         told = got.out + got.said
-        check("load refused: 11" in told and "its definition of before is loaded again" in told, f"what is said of it: {got}")
+        check("refused: 11" in told and "its definition of before is loaded again" in told, f"what is said of it: {got}")
         has_loaded(stage, "web", old)
         check(running(launcher, "web") != first, "the run of before goes on, so nothing was unloaded")
     in_effect(apply(stage), ("changed", "web"))
@@ -580,7 +583,7 @@ def a_job_that_stays_down_is_named(stage):
     with other:
         put(stage, "web.json", at_port("web", port))
         got = apply(stage)
-        check(got.status == 11 and "web is DOWN" in got.out + got.said, f"{got}")
+        check(got.status == 11 and "DOWN" in got.out + got.said, f"{got}")
         check(loaded(launcher) == [], f"loaded: {loaded(launcher)}")
         got = apply(stage)
         check(got.status == 11, f"once more: {got}")
@@ -631,7 +634,7 @@ def a_definition_that_is_refused_leaves_its_job(stage):
     for words in (["--dry-run"], [], ["--now", "--prune"]):
         got = apply(stage, *words, "jobs")
         check(got.status not in (0, 64, 65, 69), f"{words}: {got}")
-        check("OutOfRange StartInterval" in got.rest("refused", "a"), f"{words}: {got}")
+        check("StartInterval" in got.rest("refused", "a"), f"{words}: {got}")
         unharmed(launcher, "a", pid, got)
     has_loaded(stage, "b", kept("b", "two"))
 
@@ -644,9 +647,10 @@ def a_launcher_that_shuts_down(stage):
     wait_for(lambda: os.path.exists(stage.at("slow.minds")), "the job does not mind TERM")
     launcher.ask({"req": "shutdown"})
     put(stage, "web.json", kept("web"))
-    got = apply(stage)
-    check(got.status not in (0, 64), f"{got}")
-    check("new" not in [word for word, _ in got.words()] or got.status == 15, f"{got}")
+    put(stage, "slow.json", kept("slow", "new"))
+    going = Applying(stage)
+    got = going.ends()
+    check(got.status == 2 and set(got.words()) == {("shutdown", "slow"), ("shutdown", "web")}, f"{got}")
     make(stage.at("go"))
     check(launcher.ends() == 0, "no clean end")
 
@@ -812,9 +816,50 @@ def a_dry_run_changes_nothing(stage):
     check(done.out == plan.out and done.status == 0, f"{done}, and not {plan}")
     check(loaded(launcher) == ["new", "same", "web", "www"], f"loaded: {loaded(launcher)}")
     check("same      1 job\n" == done.out.splitlines(True)[-1], f"the last line: {done}")
-    check(f"{'new':<10}{'new':<10} load new.json\n" in done.out, f"the form of a line: {done}")
-    check(f"{'changed':<10}{'web':<10} ProgramArguments, StandardOutPath: unload, load\n" in done.out, f"the keys that changed: {done}")
+    check(done.rest("changed", "web").startswith("ProgramArguments, StandardOutPath"), f"the keys that changed: {done}")
     in_effect(apply(stage, "--prune", "jobs"))
+
+
+def lines_of_the_plan(stage):
+    """The form of each line, and its words."""
+    launcher = begin(stage)
+    for label in ("app", "gone", "mail", "same"):
+        put(stage, f"{label}.json", kept(label))
+    check(apply(stage).out.splitlines()[-1] == "same      0 jobs", "the first apply")
+    for name in ("a.json", "b.json"):
+        put(stage, name, kept("api"))
+    put(stage, "app.json", kept("www"))
+    put(stage, "db.json", '{\n  "Label": "db"\n  "KeepAlive": true\n}\n')
+    put(stage, "deploy.json", kept("deploy"), mode=0o664)
+    put(stage, "mail.json", kept("mail", StandardOutPath=stage.at("out"), ThrottleInterval=1))
+    put(stage, "new.json", kept("new"))
+    put(stage, "same-old.json", kept("same", "old"))
+    os.unlink(stage.at("jobs/gone.json"))
+    got = apply(stage, "--dry-run", "jobs")
+    rows = got.out.splitlines()
+    for row in (
+        "new       new        load new.json",
+        "changed   mail       StandardOutPath, ThrottleInterval: unload, load",
+        "renamed   app -> www the same definition under another label: unload app, load www",
+        "twice     same       same.json decides; same-old.json is left out",
+        "twice     api        a.json and b.json both name it: left",
+        "orphan    gone       its file is gone since the last apply of this folder: left (--prune unloads it)",
+    ):
+        check(row in rows, f"no line {row!r}: {got}")
+    for form in (r"unread    db\.json    line 3, column 3: .*: nothing of this folder is pruned", r"at boot   deploy     jobd-run would leave deploy\.json out: .*"):
+        check(any(re.fullmatch(form, row) for row in rows), f"no line {form!r}: {got}")
+    check(rows[-1] == "same      1 job" and len(rows) == 9, f"the last line: {got}")
+    check(loaded(launcher) == ["app", "gone", "mail", "same"], f"loaded: {loaded(launcher)}")
+
+
+def an_apply_as_soon_as_the_launcher_is_ready(stage):
+    """What it has loaded is known by then, or is waited for."""
+    os.umask(0o022)
+    os.mkdir(stage.at("jobs"))
+    put(stage, "web.json", kept("web"))
+    launcher = begin(stage, is_waited=False)
+    in_effect(apply(stage), ("new", "web"))
+    check(loaded(launcher) == ["web"], f"loaded: {loaded(launcher)}")
 
 
 def lines_of_json(stage):
@@ -834,7 +879,8 @@ def lines_of_json(stage):
         web, bad = steps["changed", "web"], steps["unread", "bad"]
         check(web["file"].endswith("web.json") and web["keys"] == ["ProgramArguments"] and web["done"] is done, f"{words}: {web}")
         check(bad["file"].endswith("bad.json") and bad["done"] is False and bad["reason"], f"{words}: {bad}")
-        check(rows[-1] == {"same": 1, "changed": done}, f"the last line: {rows[-1]}")
+        # Of a dry run: whether something would.
+        check(rows[-1] == {"same": 1, "changed": True}, f"the last line: {rows[-1]}")
     put(stage, "bad.json", kept("bad"))
     got = apply(stage, "--json", "jobs")
     check(got.status == 0 and json.loads(got.out.splitlines()[-1]) == {"same": 2, "changed": True}, f"{got}")
@@ -887,7 +933,7 @@ def statuses_of_apply(stage):
     check(got.status == 69 and not got.out, f"no launcher: {got}")
     launcher = begin(stage)
     got = apply(stage)
-    check(got.status == 0 and not got.rows, f"a folder without a definition: {got}")
+    check(got.status == 0 and not got.words(), f"a folder without a definition: {got}")
     got = apply(stage, "jobs", "nowhere.json")
     check(got.status == 65, f"a file that is not there: {got}")
     put(stage, "web.json", kept("web"))
@@ -900,12 +946,12 @@ def statuses_of_apply(stage):
     in_effect(apply(stage), ("new", "port"))
     os.mkfifo(stage.at("jobs/fifo.json"))
     got = apply(stage)
-    check(got.status == 65 and got.words() == [("unread", "fifo.json")], f"a FIFO: {got}")
+    check(got.status == 65 and [word for word, _ in got.words()] == ["unread"], f"a FIFO: {got}")
     os.unlink(stage.at("jobs/fifo.json"))
     with open(os.path.join(stage.at("jobs"), "latin.json"), "wb") as file:
         file.write(b'{"Label":"latin","Program":"\xe9"}')
     got = apply(stage)
-    check(got.status == 65 and got.words() == [("unread", "latin.json")], f"what is no UTF-8: {got}")
+    check(got.status == 65 and [word for word, _ in got.words()] == ["unread"], f"what is no UTF-8: {got}")
 
 
 SCENES = [
@@ -938,6 +984,8 @@ SCENES = [
     a_stale_status_file,
     a_file_of_places_that_is_none,
     a_dry_run_changes_nothing,
+    lines_of_the_plan,
+    an_apply_as_soon_as_the_launcher_is_ready,
     lines_of_json,
     strict_heeds_a_warning,
     blanks_are_no_change,
