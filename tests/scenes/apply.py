@@ -356,24 +356,6 @@ def an_apply_that_was_killed_is_taken_up(stage):
     running(launcher, "slow")
 
 
-def what_a_run_left_behind_is_named(stage):
-    """A shell that waits for its program is ended alone: the program goes on, and is named."""
-    launcher = begin(stage)
-    put(stage, "www.json", shell_job("www", f"sleep 1000 & echo $! >{stage.at('left')}; wait", KeepAlive=True, ThrottleInterval=0))
-    in_effect(apply(stage), ("new", "www"))
-    left = int(wait_for(lambda: text_at(stage.at("left")).strip(), "the program does not start"))
-    first = pid_of(launcher, "www")
-    wait_for(lambda: text_at(f"/proc/{left}/comm") == "sleep\n", "the program does not run")
-    put(stage, "www.json", kept("www"))
-    try:
-        got = apply(stage)
-        check(got.status == 0 and ("changed", "www") in got.words(), f"{got}")
-        check(not os.path.exists(f"/proc/{first}") and os.path.exists(f"/proc/{left}"), "the shell was not ended alone")
-        check(f"process {left} (sleep) of run 1 of www still runs" in got.out + got.said, f"what is left is not named: {got}")
-    finally:
-        end_process(left)
-
-
 def one_variable_is_enough(stage):
     """JOBD_SOCKET alone, and a launcher without a journal. The options may stand behind the paths, and `--` ends them."""
     launcher = begin(stage, journal=None)
@@ -614,7 +596,9 @@ def a_disabled_label_is_left(stage):
     put(stage, "other.json", kept("other"))
     for words in (["--dry-run"], [], ["--now"]):
         got = apply(stage, *words, "jobs")
-        check(got.status == 2 and sorted(got.words()) == [("disabled", "other"), ("disabled", "web")], f"{words}: {got}")
+        # (of a label that is not loaded only the load's refusal says that it is disabled)
+        other = "new" if "--dry-run" in words else "disabled"
+        check(got.status == 2 and sorted(got.words()) == sorted([(other, "other"), ("disabled", "web")]), f"{words}: {got}")
         unharmed(launcher, "web", pid, got)
     for label in ("web", "other"):
         launcher.ask({"req": "enable", "job": label})
@@ -964,7 +948,6 @@ SCENES = [
     what_a_boot_would_leave_out_is_not_loaded,
     a_replacement_waits_as_long_as_the_old_job_has,
     an_apply_that_was_killed_is_taken_up,
-    what_a_run_left_behind_is_named,
     one_variable_is_enough,
     labels_that_nobody_has,
     a_start_between_the_look_and_the_step,
