@@ -41,7 +41,9 @@ put() {
     for name in jobctl jobscope; do
         ln -sfn jobd "$root/bin/$name"
     done
-    install -m 644 man/jobctl.1 man/jobctl-reload.1 man/jobscope.1 "$root/share/man/man1"
+    install -m 644 man/jobctl.1 man/jobscope.1 "$root/share/man/man1"
+    # The page of a version before.
+    rm -f "$root/share/man/man1/jobctl-reload.1"
     install -m 644 man/jobd.json.5 man/jobd.journal.5 "$root/share/man/man5"
     install -m 644 man/jobd.8 man/jobd-run.8 man/jobd-split-users.8 "$root/share/man/man8"
     install -m 644 completions/bash/jobctl completions/bash/jobd completions/bash/jobscope "$root/share/bash-completion/completions"

@@ -60,7 +60,7 @@ RUNS = [
 ]
 # A command line that ends where TAB is pressed, what is offered, and what is not.
 CASES = [
-    ("jobctl ", ["load", "unload", "start", "stop", "enable", "disable", "kickstart", "list", "print", "shutdown"], []),
+    ("jobctl ", ["load", "unload", "apply", "start", "stop", "enable", "disable", "kickstart", "list", "print", "shutdown"], []),
     ("jobctl st", ["start", "stop"], ["load"]),
     ("jobctl stop ", ["org.example.web", "org.example.backup", "local.poll", "--"], ["far.away", "-dash.job"]),
     ("jobctl kickstart -k org.example.", ["org.example.web", "org.example.backup"], ["local.poll"]),
@@ -68,6 +68,9 @@ CASES = [
     ("jobctl load ", ["web.json", "old.plist", "jobs.d"], []),
     ("jobctl load -", ["-w", "-F"], []),
     ("jobctl unload -", ["-w"], ["-F"]),
+    ("jobctl unload org.example.", ["org.example.web", "org.example.backup"], ["local.poll"]),
+    ("jobctl apply ", ["web.json", "old.plist", "jobs.d"], []),
+    ("jobctl apply --", ["--dry-run", "--prune", "--now", "--strict", "--wait", "--json"], ["--socket"]),
     ("jobctl kickstart -", ["-k"], []),
     ("jobctl --socket ./oth", ["other.sock"], []),
     ("jobd ", ["serve", "replay", "overrides"], []),

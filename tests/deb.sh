@@ -107,8 +107,8 @@ pid_of() {
 start /usr/libexec/jobd-run
 child=$(running)
 sed -i 's/1000/2000/' "$root/etc/jobd/hello.json"
-inside jobctl-reload /etc/jobd/hello.json
-[ "$(running)" != "$child" ] || fail "jobctl-reload did not replace the job"
+inside jobctl apply /etc/jobd >/dev/null || fail "jobctl apply ended with $?"
+[ "$(running)" != "$child" ] || fail "jobctl apply did not replace the job"
 kill -TERM "$keeper"
 wait "$keeper" || fail "jobd-run ended with $?: $(cat "$root/root/told")"
 keeper=

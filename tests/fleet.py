@@ -30,8 +30,7 @@ def packages():
 def bring(machine, programs):
     """What the package brings."""
     machine.shell(f"install {programs}/jobd {programs}/jobctl {programs}/jobscope /usr/local/bin; mkdir -p /usr/libexec {DOC}/contrib {DOC}/examples /etc/jobd")
-    for name in ("jobctl-reload", "jobd-metrics"):
-        machine.write(f"/usr/local/bin/{name}", read(f"{TOP}/contrib/{name}"), 0o755)
+    machine.write("/usr/local/bin/jobd-metrics", read(f"{TOP}/contrib/jobd-metrics"), 0o755)
     machine.write("/usr/libexec/jobd-run", read(f"{TOP}/contrib/jobd-run").replace("@PREFIX@", "/usr/local"), 0o755)
     machine.write(f"{DOC}/contrib/ansible/jobd/tasks/main.yml", read(f"{TOP}/contrib/ansible/jobd/tasks/main.yml"))
     for name in ("jobd.rules.yml", "jobd.rules.test.yml"):

@@ -87,11 +87,13 @@ tries() {
     for path in bin/jobd bin/jobctl bin/jobscope bin/jobctl-reload bin/jobd-split-users libexec/jobd-run share/doc/jobd/contrib/jobd.openrc share/doc/jobd/contrib/jobd.runit; do
         [ -x "$root/$path" ] || fail "$1: no program $path"
     done
+    if "$root/bin/jobctl-reload" --all /etc/jobd 2>"$scratch/told"; then fail "$1: jobctl-reload does something"; else [ $? = 64 ] || fail "$1: the status of jobctl-reload"; fi
+    grep -q 'jobctl apply' "$scratch/told" || fail "$1: jobctl-reload does not say what took its place: $(cat "$scratch/told")"
     for path in bin/jobctl bin/jobscope; do
         [ "$(readlink "$root/$path")" = jobd ] || fail "$1: $path is no link to jobd"
         [ "$stand_ins" -gt 0 ] || "$root/$path" --help | grep "^Usage: ${path#bin/} " >/dev/null || fail "$1: $path does not act by its name"
     done
-    for path in share/man/man1/jobctl.1 share/man/man1/jobctl-reload.1 share/man/man1/jobscope.1 share/man/man5/jobd.json.5 share/man/man5/jobd.journal.5 share/man/man8/jobd.8 share/man/man8/jobd-run.8 share/man/man8/jobd-split-users.8 \
+    for path in share/man/man1/jobctl.1 share/man/man1/jobscope.1 share/man/man5/jobd.json.5 share/man/man5/jobd.journal.5 share/man/man8/jobd.8 share/man/man8/jobd-run.8 share/man/man8/jobd-split-users.8 \
         share/bash-completion/completions/{jobctl,jobd,jobscope} share/fish/vendor_completions.d/{jobctl,jobd,jobscope}.fish \
         share/zsh/site-functions/{_jobctl,_jobd,_jobscope} share/doc/jobd/contrib/{jobd.service,jobd@.service,jobd-user.service,jobd.logrotate,Containerfile} \
         share/doc/jobd/{README.md,SECURITY.md,CHANGELOG.md,LICENSE-MIT,LICENSE-APACHE,OPERATING.md,WHY-NOT-RUNNING.md,DIFFERENCES.md} \
@@ -103,7 +105,8 @@ tries() {
     names_what_is_there "$root" || fail "$1: a page names what is not installed"
     if grep -r '@PREFIX@' "$scratch/root" >&2; then fail "$1: a place is not filled in"; fi
     for path in jobd.service jobd@.service; do
-        grep -q "ExecStart=$1/libexec/jobd-run" "$root/share/doc/jobd/contrib/$path" || fail "$1: $path starts another program"
+        grep -qx "ExecStart=$1/libexec/jobd-run" "$root/share/doc/jobd/contrib/$path" || fail "$1: $path starts another program"
+        grep -qx "ExecReload=$1/libexec/jobd-run reload" "$root/share/doc/jobd/contrib/$path" || fail "$1: $path has no reload"
     done
     "$way" install "$1" >"$scratch/log" 2>&1 || fail "again: $(cat "$scratch/log")"
     "$way" uninstall "$1" >"$scratch/log" 2>&1 || fail "$(cat "$scratch/log")"

@@ -91,6 +91,12 @@ class Place:
         self.started.append(child)
         return child
 
+    def reload(self, **more):
+        """Runs `jobd-run reload`: its status, and what it told."""
+        words = [options.shell, SCRIPT, "reload"]
+        run = subprocess.run(words, env=self.environment(**more), capture_output=True, text=True, errors="replace", timeout=MOST, stdin=subprocess.DEVNULL)
+        return run.returncode, run.stdout + run.stderr
+
     def control(self, *words):
         run = subprocess.run(
             [f"{options.programs}/jobctl", "--socket", f"{self.run}/jobd.sock", *words], capture_output=True, text=True, timeout=60
@@ -121,7 +127,7 @@ class Place:
         return found
 
     def told(self):
-        return open(self.log).read()
+        return open(self.log, errors="replace").read()
 
     def check_told(self, text):
         check(text in self.told(), f"not told: {text!r} in {self.told()!r}")
@@ -187,13 +193,189 @@ def int_ends_in_order(place):
 
 
 @scene
-def hup_ends_in_order(place):
-    ends_in_order(place, signal.SIGHUP)
+def quit_ends_in_order(place):
+    ends_in_order(place, signal.SIGQUIT)
+
+
+# ---- the folder applied again
+
+
+def define_night(place, **keys):
+    """A job whose run goes on and that nothing keeps alive."""
+    place.define("night", KeepAlive=False, RunAtLoad=True, **keys)
+
+
+def body_of(place, label):
+    """What the job's run was started with."""
+    pid = place.child_of(label)
+    return open(f"/proc/{pid}/environ", "rb").read().decode() if pid else ""
+
+
+def define_body(place, label, body, **keys):
+    place.define(label, EnvironmentVariables={"BODY": body}, **keys)
+
+
+def is_body(place, label, body):
+    try:
+        return f"BODY={body}\0" in body_of(place, label)
+    except OSError:
+        return False
 
 
 @scene
-def quit_ends_in_order(place):
-    ends_in_order(place, signal.SIGQUIT)
+def hup_applies_the_folder(place):
+    """What is new is loaded, what changed and is kept alive replaced; a run that goes on, and a job whose file is gone, are left. It never ends all jobs."""
+    for label in "abc":
+        define_body(place, label, "one")
+    define_night(place)
+    keeper = place.start()
+    before = {label: place.running(label) for label in ("a", "b", "c", "night")}
+    wait_for(lambda: "jobs loaded" in place.told(), "the loads")
+    define_body(place, "a", "two")
+    define_body(place, "d", "new")
+    define_night(place, ExitTimeOut=33)
+    os.unlink(f"{place.jobs}/c.json")
+    keeper.send_signal(signal.SIGHUP)
+    wait_for(lambda: is_body(place, "a", "two") and is_body(place, "d", "new"), f"the folder is applied: {place.told()}")
+    wait_for(lambda: place.told().count("jobs loaded") == 2, f"that it is told: {place.told()}")
+    for label in ("b", "c", "night"):
+        check(place.child_of(label) == before[label], f"the run of {label} was ended: {place.told()}")
+    for form in (r"jobd-run: a: changed: ", r"jobd-run: d: new: ", r"jobd-run: c: orphan: ", r"jobd-run: night: running: "):
+        check(re.search(f"^{form}", place.told(), re.M), f"not told: {form}: {place.told()}")
+    check(keeper.poll() is None and len(place.launchers()) == 1, "it ended at HUP")
+    # Several at once: what is there after the last one is in effect.
+    for number in range(3):
+        define_body(place, "a", f"n{number}")
+        keeper.send_signal(signal.SIGHUP)
+    wait_for(lambda: is_body(place, "a", "n2"), f"the last of three: {place.told()}")
+    place.check_once()
+    keeper.terminate()
+    check(keeper.wait(MOST) == 0, f"status {keeper.returncode}: {place.told()}")
+    place.check_nothing_left()
+
+
+@scene
+def hup_before_ready_is_heeded(place):
+    place.define("a")
+    keeper = place.start()
+    wait_for(place.launchers, "a launcher")
+    keeper.send_signal(signal.SIGHUP)
+    place.running("a")
+    wait_for(lambda: place.told().count("jobs loaded") == 2, f"that it is applied again: {place.told()}")
+    check(keeper.poll() is None, f"it ended at HUP: {place.told()}")
+
+
+@scene
+def reload_waits_and_says_how_it_went(place):
+    status, told = place.reload()
+    check(status == 1 and "no launcher has its socket there" in told, f"without a launcher: {status} {told}")
+    define_body(place, "a", "one")
+    define_night(place)
+    keeper = place.start()
+    place.running("a")
+    night = place.running("night")
+    wait_for(lambda: "jobs loaded" in place.told(), "the loads")
+    define_body(place, "a", "two")
+    status, told = place.reload()
+    check(status == 0 and "jobd-run: a: changed: " in told and "jobd-run: 2 jobs loaded, 0 not" in told, f"{status} {told}")
+    wait_for(lambda: is_body(place, "a", "two"), "the new one")
+    define_night(place, ExitTimeOut=33)
+    status, told = place.reload()
+    check(status == 0 and "night: running: " in told and place.child_of("night") == night, f"a run that is left: {status} {told}")
+    open(f"{place.jobs}/bad.json", "w").write("{")
+    status, told = place.reload()
+    check(status == 65 and f"{place.jobs}/bad.json: not loaded: " in told, f"a file that can't be read: {status} {told}")
+    check(f"{place.jobs}/bad.json: not loaded at the boot: " in scope(place, "why", "--failing")[1], f"seen: {scope(place, 'why', '--failing')}")
+    os.unlink(f"{place.jobs}/bad.json")
+    status, told = place.reload()
+    check(status == 0 and "not loaded at the boot" not in scope(place, "why", "--failing")[1], f"mended: {status} {told} {scope(place, 'why', '--failing')}")
+    check(place.reload(JOBD_JOBS=f"{place.folder}/none")[0] == 65, "no folder")
+    os.chmod(place.run, 0o777)
+    status, told = place.reload()
+    check(status == 1 and "another user owns it or may write to it" in told, f"a folder of others: {status} {told}")
+    os.chmod(place.run, 0o700)
+    run = subprocess.run([options.shell, SCRIPT, "other"], env=place.environment(), capture_output=True, text=True, timeout=MOST)
+    check(run.returncode == 1 and "jobd-run [reload]" in run.stderr, f"another word: {run}")
+    keeper.terminate()
+    check(keeper.wait(MOST) == 0, f"status {keeper.returncode}: {place.told()}")
+
+
+@scene
+def patience_follows_a_reload(place):
+    """The greatest ExitTimeOut is that of what is loaded by now."""
+    place.define("a")
+    place.start()
+    place.running("a")
+    wait_for(lambda: "jobs loaded" in place.told(), "the loads")
+    check(open(f"{place.state}/patience").read() == "20\n", "at first")
+    place.define("b", ExitTimeOut=77)
+    check(place.reload()[0] == 0, "no reload")
+    check(open(f"{place.state}/patience").read() == "77\n", "after the reload")
+
+
+@scene
+def the_file_named_for_a_label_decides_at_a_boot(place):
+    """And the others are named. Without such a file none is loaded."""
+    for name, label, body in (("web", "web", "right"), ("web-old", "web", "copy"), ("zz", "web", "copy"), ("one", "other", "x"), ("two", "other", "y")):
+        define_body(place, label, body)
+        os.rename(f"{place.jobs}/{label}.json", f"{place.folder}/{name}.json")
+    for name in ("web", "web-old", "zz", "one", "two"):
+        os.rename(f"{place.folder}/{name}.json", f"{place.jobs}/{name}.json")
+    place.start()
+    place.running("web")
+    wait_for(lambda: "jobs loaded" in place.told(), "the loads")
+    check(is_body(place, "web", "right"), f"another one was loaded: {place.told()}")
+    check(place.child_of("other") is None, "of two files one was loaded")
+    failing = scope(place, "why", "--failing")[1]
+    for name in ("web-old", "zz", "one", "two"):
+        place.check_told(f"{place.jobs}/{name}.json: not loaded: ")
+        check(f"{place.jobs}/{name}.json: not loaded at the boot: " in failing, f"{name}: {failing}")
+    place.check_told("jobd-run: 1 jobs loaded, 4 not")
+
+
+@scene
+def names_that_are_no_text(place):
+    """A name that is not UTF-8 keeps no other file from being loaded, at a boot and later, and is named."""
+    place.define("a")
+    place.define("b")
+    os.chmod(f"{place.jobs}/b.json", 0o664)
+    folder = place.jobs.encode()
+    open(folder + b"/\xff.json", "w").write('{"Label":"strange","Program":"/bin/true"}')
+    open(folder + b"/notes-\xe9", "w").close()
+    place.start()
+    place.running("a")
+    wait_for(lambda: "1 jobs loaded, 2 not" in open(place.log, errors="replace").read(), "the loads")
+    told = open(place.log, "rb").read()
+    check(folder + b"/\xff.json: not loaded: its name is not UTF-8\n" in told, f"{told}")
+    check(folder + b"/b.json: not loaded: another user owns it or may write to it\n" in told, f"{told}")
+    rows = [json.loads(row) for row in open(f"{place.run}/status.jsonl.boot").read().splitlines()]
+    check(rows[0]["boot"]["pid"] == place.launchers()[0] and len(rows) == 3, f"{rows}")
+    place.define("c")
+    status, _ = place.reload()
+    check(status == 0 and place.running("c"), f"status {status}")
+
+
+@scene
+def no_status_file_is_wanted(place):
+    """jobctl has one all the same, and nothing is written of the boot."""
+    place.define("a")
+    open(f"{place.jobs}/b.json", "w").write("{")
+    keeper = place.start(JOBD_STATUS_FILE="")
+    place.running("a")
+    wait_for(lambda: "1 jobs loaded, 1 not" in place.told(), f"the loads: {place.told()}")
+    check(not [name for name in os.listdir(place.run) if name.startswith("status") or name.endswith(".boot")], f"{os.listdir(place.run)}")
+    keeper.terminate()
+    check(keeper.wait(MOST) == 0, f"status {keeper.returncode}: {place.told()}")
+
+
+@scene
+def the_launcher_names_the_folder(place):
+    place.define("a")
+    place.start()
+    place.running("a")
+    places = json.load(open(f"{place.run}/jobd.sock.places"))
+    check(places["jobs"] == place.jobs and places["status_file"] == f"{place.run}/status.jsonl", f"{places}")
+    check(places["journal"] == f"{place.state}/journal.jsonl", f"{places}")
 
 
 @scene
@@ -980,12 +1162,12 @@ def watchdog_of_another_process_is_left(place):
 
 @scene
 def many_definitions(place):
-    """Some hundred at a time, in byte order; each text belongs to its file."""
+    """In one call, in byte order; each text belongs to its file. What a load would refuse is not asked for."""
     for number in range(250):
         place.define(f"j{number:03}", KeepAlive=False, **({"Nice": 1} if number % 100 == 7 else {}))
     for number in (3, 150, 249):
         with open(f"{place.jobs}/j{number:03}.json", "w") as it:
-            it.write('{"Label":"x"}')
+            it.write('{"Label":"x%d"}' % number)
     os.unlink(f"{place.jobs}/j120.json")
     os.symlink("nowhere", f"{place.jobs}/j120.json")
     # A stand-in that writes each call down and makes it.
@@ -994,8 +1176,8 @@ def many_definitions(place):
     place.start(JOBD_PROGRAMS=f"{place.folder}/bin")
     wait_for(lambda: "jobs loaded" in place.told(), f"that all are loaded: {place.told()}")
     place.check_told("jobd-run: 246 jobs loaded, 4 not\n")
-    calls = [row for row in open(f"{place.folder}/calls") if " load " in row]
-    check(len(calls) == 3, f"{len(calls)} calls for 250 definitions")
+    calls = [row for row in open(f"{place.folder}/calls") if " load " in row or " apply " in row]
+    check(len(calls) == 1, f"{len(calls)} calls for 250 definitions")
     rows = [row.split(f"{place.jobs}/")[-1] for row in place.told().splitlines() if f"{place.jobs}/" in row]
     bad = "not loaded: bad definition: Missing ProgramArguments"
     named = "not acted on: Nice"
@@ -1007,7 +1189,7 @@ def many_definitions(place):
     check(sum(row.startswith("j120.json: not loaded: ") for row in rows) == 1, f"{rows}")
     journal = [json.loads(row) for row in open(f"{place.state}/journal.jsonl").read().splitlines()]
     loads = [json.loads(row["def"])["Label"] for row in journal if row.get("ev") == "load"]
-    check(loads == [f"j{number:03}" if number not in (3, 150, 249) else "x" for number in range(250) if number != 120], "not in byte order")
+    check(loads == [f"j{number:03}" for number in range(250) if number not in (3, 120, 150, 249)], "not in byte order")
 
 
 @scene
@@ -1104,7 +1286,8 @@ def bad_definitions_are_told(place):
     wait_for(lambda: "z.json" in place.told(), "the key that is not acted on")
     for row in (
         f"{place.jobs}/b.json: not loaded: bad definition: Missing ProgramArguments",
-        f"{place.jobs}/c d.plist: not loaded: bad definition: NotJson -",
+        f"{place.jobs}/c d.plist: not loaded: ",
+        f"{place.jobs}/f.json: not loaded: ",
         f"{place.jobs}/e.json: not loaded: ",
         f"{place.jobs}/z.json: not acted on: Nice",
     ):
@@ -1140,8 +1323,9 @@ def what_was_not_loaded_is_seen(place):
         code, text, told = scope(place, *words)
         check(row in text and code == (2 if "--failing" in words else 0) and not told, f"{words}: {code} {text} {told}")
     code, text, _ = scope(place, "why", "--failing")
-    for name, why in (("shared", "another user owns it or may write to it"), ("twice", "already loaded"), ('a "b\\', "bad definition: NotJson -")):
+    for name, why in (("shared", "another user owns it or may write to it"), ("twice", "good.json decides; twice.json is left out")):
         check(f"{place.jobs}/{name}.json: not loaded at the boot: {why}\n" in text, f"{name}: {text}")
+    check(re.search(rf'^{place.jobs}/a "b\\\.json: not loaded at the boot: .*no JSON', text, re.M), f"a name with marks: {text}")
     rows = [json.loads(it) for it in scope(place, "why", "--failing", "--json")[1].splitlines()]
     own = [it for it in rows if it.get("file") == bad]
     check(own and own[0]["state"] == "not_loaded" and own[0]["file_label"] == "of-bad", f"objects: {rows}")
@@ -1330,7 +1514,20 @@ def runsv_killed_launcher_then_script(place):
 
 @scene
 def runsv_hup(place):
-    served(place, lambda service, script, launcher: service.sv("hup"))
+    """The folder is applied, and no job is ended."""
+    place.define("a")
+    service = Service(place)
+    try:
+        child, script = place.running("a"), service.script()
+        wait_for(lambda: "jobs loaded" in place.told(), "the loads")
+        place.define("b")
+        service.sv("hup")
+        place.running("b")
+        check(place.child_of("a") == child and service.script() == script, f"HUP ended something: {place.told()}")
+        service.sv("-w", "60", "stop")
+        place.check_nothing_left()
+    finally:
+        service.end()
 
 
 @scene

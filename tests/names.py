@@ -57,7 +57,7 @@ CLAUSE = re.compile(r"^\s*(?:ensures|requires)\*?\s+(\w+)\s*\{", re.M)
 
 # Words before a dot that name no file: keys of a definition, as in `KeepAlive.NetworkState`, words that stand for any name, and what
 # `make dist` writes.
-NO_FILES = {"KeepAlive", "Sockets", "StartCalendarInterval", "NAME", "File", "PROVED"}
+NO_FILES = {"KeepAlive", "Sockets", "StartCalendarInterval", "NAME", "LABEL", "File", "PROVED"}
 
 
 # Pages whose names are of other programs and of jobs that they define; a script types their lines.

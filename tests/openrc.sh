@@ -86,6 +86,11 @@ until_true test -s "$tree/root/variables"
 for row in HOME=/root USER=root LOGNAME=root SHELL=/bin/bash; do
     grep -qx "$row" "$tree/root/variables" || fail "a job has no $row: $(cat "$tree/root/variables")"
 done
+echo '{"Label": "late", "KeepAlive": true, "ProgramArguments": ["/bin/sleep", "1000"]}' >"$tree/etc/jobd/late.json"
+inside rc-service jobd reload >"$scratch/log" 2>&1 || fail "it does not reload: $(cat "$scratch/log")"
+until_true runs late
+[ ! -e "$tree/root/ends" ] || fail "a reload ended a job"
+rm "$tree/etc/jobd/late.json"
 inside rc-service jobd stop >"$scratch/log" 2>&1 || fail "it does not stop: $(cat "$scratch/log")"
 [ "$(cat "$tree/root/ends")" = TERM ] || fail "the job was not ended in order"
 if inside pgrep -x jobd; then fail "a stop left the launcher"; fi

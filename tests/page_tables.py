@@ -135,7 +135,7 @@ def statuses(*names):
 
 def told_by_help(path, name):
     """The statuses that a text of the helps names: 0 and each number behind `Exit status`, a comma or a semicolon."""
-    row = re.search(rf'const {name}: &str =\s+"Exit status: ([^"]*)"', read(WORDS + path))
+    row = re.search(rf'const {name}: &str =\s+"(?:[^"]*\\n)?Exit status: ([^"]*)"', read(WORDS + path))
     if row is None:
         faults.append(f"{WORDS}{path}: there is no {name}")
         return set()

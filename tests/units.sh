@@ -328,6 +328,44 @@ machine_boot "$tree"
 until_true runs kept
 echo "units: a job had 20 seconds at a stop and at a reboot, though the unit waits 8"
 
+# ---- a reload, and what is loaded after a reboot
+
+labels() { machine_in jobctl list | sed 1d | cut -f 3 | sort | tr '\n' ' '; }
+argument_of() { machine_in cat "/proc/$(pid_of "$1")/cmdline" | tr '\0' ' '; }
+sleeps() { define "etc/jobd/$1.json" "{\"Label\": \"$2\", \"KeepAlive\": true, \"ThrottleInterval\": 0, \"ProgramArguments\": [\"/bin/sleep\", \"$3\"]}"; }
+before=$(pid_of kept)
+sleeps named named 1001
+# It stands before the other one in bytes.
+sleeps also-named named 1002
+machine_in systemctl reload jobd || fail "a reload failed: $(told | tail)"
+[ "$(argument_of named)" = '/bin/sleep 1001 ' ] || fail "a reload did not load what is named for the label: $(argument_of named)"
+[ "$(pid_of kept)" = "$before" ] || fail "a reload ended a job"
+said 'named: new: ' || fail "a reload is not told: $(told | tail)"
+sleeps named named 1003
+machine_in jobctl apply /etc/jobd >"$scratch/applied" && fail "a file was left out, and the status is 0: $(cat "$scratch/applied")"
+grep -q '^changed   named ' "$scratch/applied" || fail "apply: $(cat "$scratch/applied")"
+rm "$tree/etc/jobd/also-named.json"
+machine_in jobctl apply --prune --strict /etc/jobd >"$scratch/applied" || [ $? = 2 ] || fail "apply: $(cat "$scratch/applied")"
+before=$(labels)
+machine_in systemctl reboot --no-wall || true
+for _ in $(seq 600); do
+    kill -0 "$machine_keeper" 2>/dev/null || break
+    sleep 0.1
+done
+machine_end
+machine_boot "$tree"
+until_true runs named
+same_labels() { [ "$(labels)" = "$before" ]; }
+until_true same_labels
+[ "$(argument_of named)" = '/bin/sleep 1003 ' ] || fail "after a reboot another definition is loaded: $(argument_of named)"
+echo '{' >"$tree/etc/jobd/named.json"
+machine_in systemctl reload jobd && fail "a file that can't be read, and the reload is well"
+[ "$(argument_of named)" = '/bin/sleep 1003 ' ] && [ "$(machine_in systemctl is-active jobd)" = active ] || fail "a reload ended the job or the unit"
+rm "$tree/etc/jobd/named.json"
+machine_in jobctl unload named
+until_true runs kept
+echo "units: a reload brought the folder into effect, and after an apply and a reboot the same jobs were loaded"
+
 # ---- a minute that passes while no launcher runs
 
 mkdir -p "$tree/etc/systemd/system/jobd.service.d"

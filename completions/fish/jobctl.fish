@@ -55,7 +55,7 @@ function __jobctl_files
     __fish_complete_suffix .plist
 end
 
-set -l subcommands load unload start stop enable disable kickstart list print shutdown help
+set -l subcommands load unload apply start stop enable disable kickstart list print shutdown help
 set -l none "not __fish_seen_subcommand_from $subcommands"
 
 complete -c jobctl -f
@@ -63,6 +63,7 @@ complete -c jobctl -n $none -l socket -r -F -d "The launcher's control socket"
 complete -c jobctl -s h -l help -d 'Print help'
 complete -c jobctl -n $none -a load -d 'Load job definitions'
 complete -c jobctl -n $none -a unload -d 'Stop and remove the jobs of these definitions'
+complete -c jobctl -n $none -a apply -d 'Bring files or folders of definitions into effect'
 complete -c jobctl -n $none -a start -d 'Start a job'
 complete -c jobctl -n $none -a stop -d "Stop a job's running child"
 complete -c jobctl -n $none -a enable -d 'Let a label be loaded, from now on'
@@ -72,10 +73,17 @@ complete -c jobctl -n $none -a list -d 'List the loaded jobs'
 complete -c jobctl -n $none -a print -d 'Show what a job does'
 complete -c jobctl -n $none -a shutdown -d 'Stop every job, then the launcher'
 complete -c jobctl -n $none -a help -d 'Print help'
-complete -c jobctl -n '__fish_seen_subcommand_from load unload' -a '(__jobctl_files)'
+complete -c jobctl -n '__fish_seen_subcommand_from load unload apply' -a '(__jobctl_files)'
+complete -c jobctl -n '__fish_seen_subcommand_from unload' -a '(__jobctl_words)'
 complete -c jobctl -n '__fish_seen_subcommand_from load' -s w -d 'Also enable the label'
 complete -c jobctl -n '__fish_seen_subcommand_from load' -s F -d 'Load a disabled definition too'
 complete -c jobctl -n '__fish_seen_subcommand_from unload' -s w -d 'Also disable the label'
+complete -c jobctl -n '__fish_seen_subcommand_from apply' -l dry-run -d 'Print what would be done'
+complete -c jobctl -n '__fish_seen_subcommand_from apply' -l prune -d 'Unload jobs that the folder had'
+complete -c jobctl -n '__fish_seen_subcommand_from apply' -l now -d 'Stop runs too'
+complete -c jobctl -n '__fish_seen_subcommand_from apply' -l strict -d 'Do nothing if there is a warning'
+complete -c jobctl -n '__fish_seen_subcommand_from apply' -l wait -d 'Wait for the end of runs'
+complete -c jobctl -n '__fish_seen_subcommand_from apply' -l json -d 'Write objects of JSON'
 complete -c jobctl -n '__fish_seen_subcommand_from kickstart' -s k -d 'End a running child by KILL first'
 complete -c jobctl -n '__fish_seen_subcommand_from start stop' -a '(__jobctl_words)'
 complete -c jobctl -n '__fish_seen_subcommand_from enable disable kickstart print' -a '(__jobctl_targets)'

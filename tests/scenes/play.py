@@ -26,6 +26,7 @@ import types
 
 sys.dont_write_bytecode = True
 sys.path.insert(0, os.path.dirname(os.path.abspath(__file__)))
+import apply
 import clients
 import hung
 import jobctl
@@ -42,7 +43,7 @@ import words
 from harness import HERE, Stage, adopt_orphans, children_of, chosen, end_children, end_process, heed_signals, program_words
 from pace import Deadline, Fault, Late, Pace, Probe
 
-FILES = (clients, places, limits, replies, stores, telling, hung, jobs, jobctl, users, words, jobscope, status)
+FILES = (clients, places, limits, replies, stores, telling, hung, jobs, jobctl, users, words, jobscope, status, apply)
 # The longest is begun first.
 SCENES = [scene for file in FILES for scene in file.SCENES]
 SCENES.sort(key=lambda scene: scene is not clients.a_client_still_for_a_minute)

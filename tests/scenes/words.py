@@ -319,9 +319,9 @@ jobctl --socket s show a | jobctl print LABEL
 jobctl cat a | jobscope show LABEL
 jobctl logs a | jobscope log
 jobctl tail a | jobscope log -f
-jobctl reload a | jobctl-reload FILE
+jobctl reload a | jobctl apply FILE
 jobctl restart a | jobctl kickstart -k LABEL
-jobctl daemon-reload | jobctl-reload --all FOLDER
+jobctl daemon-reload | jobctl apply FOLDER
 jobctl bootstrap system a.plist | jobctl load FILE
 jobctl bootout system/a | jobctl unload FILE
 jobctl kill TERM a | jobctl stop LABEL
@@ -339,7 +339,7 @@ jobscope list | jobscope status
 jobscope start a | jobctl start LABEL
 jobscope restart a | jobctl kickstart -k LABEL
 jobscope load a.json | jobctl load FILE
-jobscope reload a.json | jobctl-reload FILE
+jobscope reload a.json | jobctl apply FILE
 jobscope print a | jobscope show LABEL
 jobscope logs | jobscope log
 jobscope validate a.json | jobscope check FILE
