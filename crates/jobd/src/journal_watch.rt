@@ -4,6 +4,8 @@ use child_edge::{Notice, NoticeKind, System};
 use history_model::{SECOND, Text};
 use startup::Plan;
 use std::alloc::Global;
+use std::fs::Metadata;
+use std::io::ErrorKind;
 use std::os::unix::fs::MetadataExt;
 use std::{fs, mem};
 
@@ -57,20 +59,16 @@ pub(crate) fn journal_watch<R: System>(
     }
 }
 
-fn place_at<R: System>(rt: &R, path: &str) -> Option<Place> {
-    match fs::metadata(rt, path) {
-        Ok(data) => Some(Place {
+impl Place {
+    fn of(data: &Metadata) -> Place {
+        Place {
             device: data.dev(),
             inode: data.ino(),
-        }),
-        Err(_) => None,
+        }
     }
-}
 
-fn is_one(first: Place, second: Option<Place>) -> bool {
-    match second {
-        Some(second) => first.device == second.device && first.inode == second.inode,
-        None => false,
+    fn is(self, data: &Metadata) -> bool {
+        self.device == data.dev() && self.inode == data.ino()
     }
 }
 
@@ -78,7 +76,9 @@ impl<R: System> JournalWatch<R> {
     /// What is at the path is the journal, which was just opened. It counts the first time that this is called.
     pub(crate) fn begin(&mut self) {
         if self.own.is_none() && !self.is_told {
-            self.own = place_at(&self.rt, self.path.as_str());
+            if let Ok(data) = fs::metadata(&self.rt, self.path.as_str()) {
+                self.own = Some(Place::of(&data));
+            }
         }
     }
 
@@ -91,7 +91,13 @@ impl<R: System> JournalWatch<R> {
             return;
         }
         self.looked = up;
-        if is_one(own, place_at(&self.rt, self.path.as_str())) {
+        let is_there = match fs::metadata(&self.rt, self.path.as_str()) {
+            Ok(data) => own.is(&data),
+            Err(error) if error.kind() == ErrorKind::NotFound => false,
+            // The system does not tell it, as without a descriptor.
+            Err(_) => return,
+        };
+        if is_there {
             self.is_told = false;
         } else if !self.is_told {
             self.tell();

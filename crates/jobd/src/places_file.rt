@@ -141,8 +141,16 @@ impl<R: System> PlacesFile<R> {
             return;
         }
         self.looked = Some(up);
-        if self.is_begun && fs::metadata(&self.rt, self.path.as_str()).is_err() {
+        if self.is_begun && self.is_gone() {
             self.put();
+        }
+    }
+
+    // What the system does not tell, as without a descriptor, is no reason to write it.
+    fn is_gone(&self) -> bool {
+        match fs::metadata(&self.rt, self.path.as_str()) {
+            Ok(_) => false,
+            Err(error) => error.kind() == ErrorKind::NotFound,
         }
     }
 

@@ -154,7 +154,11 @@ fn group_of<R: System + Env>(rt: &R, plan: &Plan) -> Option<u32> {
     let Ok(word) = env::var(rt, STATUS_GROUP) else {
         return None;
     };
-    let group = word.as_str().parse::<u32>().ok();
+    let group = match word.as_str().parse::<u32>() {
+        // By it chown(2) leaves the group.
+        Ok(u32::MAX) | Err(_) => None,
+        Ok(group) => Some(group),
+    };
     if group.is_none() && !word.is_empty() {
         let level = plan.wishes.level;
         report(
