@@ -91,28 +91,31 @@ fn line_of<R: System + Env>(
     own: OwnProcess,
 ) -> io::Result<Vec<u8>> {
     let places = &plan.places;
-    let journal = match &places.journal {
+    let kept = match &places.journal {
         Some(path) => Some(real_of(rt, alloc, path.as_str())?),
         None => None,
     };
-    let status_file = match status_file {
+    let standing = match status_file {
         Some(path) => Some(real_of(rt, alloc, path)?),
         None => None,
     };
-    let jobs = match env::var(rt, JOBS) {
+    let named = match env::var(rt, JOBS) {
         Ok(path) if !path.is_empty() => Some(real_of(rt, alloc, path.as_str())?),
         _ => None,
     };
     let store = real_of(rt, alloc, places.store.as_str())?;
     let spool = real_of(rt, alloc, places.spool.as_str())?;
+    let journal = lent(&kept);
+    let status_file = lent(&standing);
+    let jobs = lent(&named);
     let told = PlacesTold {
         pid: own.pid,
         began: own.began,
-        journal: lent(&journal),
-        status_file: lent(&status_file),
+        journal,
+        status_file,
         store: store.as_str(),
         spool: spool.as_str(),
-        jobs: lent(&jobs),
+        jobs,
     };
     let line = places_line(alloc, &told)?;
     Ok(line)
