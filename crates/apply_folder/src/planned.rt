@@ -118,6 +118,10 @@ fn verdicts_of<'a>(alloc: Global, files: &'a [Filed]) -> Result<Vec<FileVerdict<
 }
 
 fn verdict_of(place: usize, file: &Filed) -> FileVerdict<'_> {
+    let former = match &file.former {
+        Some(former) => Some(former.as_str()),
+        None => None,
+    };
     FileVerdict {
         place,
         label: file.label.as_str(),
@@ -125,10 +129,7 @@ fn verdict_of(place: usize, file: &Filed) -> FileVerdict<'_> {
         standing: file.standing,
         is_named: file.is_named(),
         is_kept_alive: false,
-        former: match &file.former {
-            Some(former) => Some(former.as_str()),
-            None => None,
-        },
+        former,
     }
 }
 
@@ -261,21 +262,23 @@ fn take_step(
     if is_among(progress.tried.as_slice(), step.label) {
         return Ok(());
     }
+    let operation = heeded(scene, step.operation);
     let step = &Step {
         label: step.label,
-        operation: heeded(scene, step.operation),
+        operation,
     };
     let job = job_of(scene.jobs, step.label);
     let file = file_of(scene.files, &step.operation, step.label);
+    let heir = match step.operation {
+        Operation::Unload => heir_of(scene.files, step.label),
+        _ => None,
+    };
     let around = Around {
         alloc,
         files: scene.files,
         zone: scene.zone,
         job,
-        heir: match step.operation {
-            Operation::Unload => heir_of(scene.files, step.label),
-            _ => None,
-        },
+        heir,
         waits: scene.flags.wait,
     };
     let keys = keys_of(alloc, file.or(around.heir), job)?;
@@ -485,9 +488,10 @@ fn act(
         drop(other);
         return Ok(());
     }
+    let operation = became(&step.operation, &outcome);
     let told_as = Step {
         label: step.label,
-        operation: became(&step.operation, &outcome),
+        operation,
     };
     drop(outcome);
     let reason = match &other {
@@ -546,9 +550,19 @@ fn task_of<'a>(
     file: Option<&'a Filed>,
     moved: Option<&'a Job>,
 ) -> Task<'a> {
+    let operation = step.operation;
+    let before = match moved.or(job) {
+        Some(
+            Job {
+                before: Some(before),
+                ..
+            },
+        ) => Some(before.as_str()),
+        _ => None,
+    };
     Task {
         label: step.label,
-        operation: step.operation,
+        operation,
         text: match file {
             Some(file) => file.text.as_str(),
             None => "",
@@ -558,15 +572,7 @@ fn task_of<'a>(
             None => step.label,
         },
         is_moved: moved.is_some(),
-        before: match moved.or(job) {
-            Some(
-                Job {
-                    before: Some(before),
-                    ..
-                },
-            ) => Some(before.as_str()),
-            _ => None,
-        },
+        before,
         may_end: match job {
             Some(job) => scene.flags.at_once || job.is_kept_alive,
             None => scene.flags.at_once,

@@ -220,10 +220,8 @@ fn apply_beside(
     drop(listed);
     let places = places_of(host, alloc, socket)?;
     let path = status_path(host, alloc, socket, &places, user)?;
-    let boot = NextBoot {
-        user,
-        folder: jobs_in(&places),
-    };
+    let folder = jobs_in(&places);
+    let boot = NextBoot { user, folder };
     let mut gathered = gather(host, alloc, words.paths.as_slice(), boot)?;
     let state = state_path(alloc, &places)?;
     let ground = Ground {
