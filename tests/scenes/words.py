@@ -224,7 +224,12 @@ def words_of_jobctl(stage):
         env = {"JOBD_SOCKET": stage.at("run_s")} if line.startswith("beside ") else None
         asked = requests_of(command)
         words = words_of(stage, line.removeprefix("beside "))
-        expect(stage, words, replies=DONE * len(asked), asked="".join(asked), env=env, name=name.replace("@/", ""))
+        told = []
+        if command.partition(" ")[0] in ("enable", "disable"):
+            # (what is loaded is asked, since a setting of another label is kept for later)
+            asked = [*asked, '{"req":"list"}\n']
+            told = [f"jobctl: {command.partition(' ')[2]} is not loaded: the setting is kept for a later load"]
+        expect(stage, words, replies=DONE * len(asked), asked="".join(asked), env=env, name=name.replace("@/", ""), told=told)
 
 
 def words_that_are_no_command_of_jobctl(stage):
