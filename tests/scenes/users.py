@@ -155,13 +155,13 @@ class User:
         """Runs `jobctl`, and keeps what it was answered: its status, and its text, which is on standard error at a refusal."""
         command = [*self.stage.given.jobctl, "--socket", "socket", *words.split()]
         ran = subprocess.run(command, cwd=self.stage.folder, stdin=subprocess.DEVNULL, capture_output=True, timeout=patience(3 * BOUND), text=True)
-        self.replies.append((ran.returncode, ran.stdout or ran.stderr))
+        self.replies.append((ran.returncode, ran.stderr if ran.returncode else ran.stdout))
         return ran
 
-    def ask(self, words, status=0, text=""):
-        """`jobctl` with these words ends so, and says this."""
+    def ask(self, words, status=0, text="", told=""):
+        """`jobctl` with these words ends so, and says this; and told is on standard error beside a reply."""
         ran = self.jobctl(words)
-        wanted = (status, "", text) if status else (0, text, "")
+        wanted = (status, "", text) if status else (0, text, told)
         got = (ran.returncode, ran.stdout, ran.stderr)
         check(got == wanted, f"jobctl {words} gave {got} and not {wanted}")
 
@@ -283,7 +283,7 @@ def settings_outlive_the_launcher(stage):
     user.make("idle.json", IDLE)
     user.serve()
     user.ask("load -w idle.json")
-    user.ask("disable system/idle", 0, "jobctl: idle is loaded, and goes on until it is unloaded\n")
+    user.ask("disable system/idle", told="jobctl: idle is loaded, and goes on until it is unloaded\n")
     user.ask("load idle.json", 4, "already loaded\n")
     user.ask("shutdown")
     user.ended(0, REMOVED)
@@ -475,7 +475,7 @@ def a_launcher_that_was_killed(stage):
     check(os.path.exists(stage.at("spool/notes")), "a user's own file is gone from the spool")
     user.ask("load lasts.json")
     user.has("lasting", "\n")
-    user.ask("disable idle", 0, "jobctl: idle is not loaded: the setting is kept for a later load\n")
+    user.ask("disable idle", told="jobctl: idle is not loaded: the setting is kept for a later load\n")
     user.ask("enable lasts")
     user.kill(LEFT)
     check(user.is_process("lasting"), "the job's process went with the launcher that was killed")
