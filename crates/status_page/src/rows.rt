@@ -1,6 +1,6 @@
 //! What the table says of each job, as plain data.
 
-ghost use Rattle.std.specs.Prelude.{◌≡◌, ◌≤◌};
+ghost use Rattle.std.specs.Prelude.{◌-◌, ◌≡◌, ◌≤◌};
 ghost use Rattle.history_model.specs.declared.TheConstants.{MAX_UP, MAX_WALL};
 ghost use Rattle.calendar_due.specs.ZoneRules.{minute_at};
 ghost use Rattle.status_page.specs.Rows.{last_refused, last_shown, process_shown, state_shown, state_word, EndsThrottle, TellsNext};
