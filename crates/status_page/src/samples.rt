@@ -1,6 +1,6 @@
 //! What a monitor is told of a launcher and its jobs: the facts of the rows of `status`, as samples.
 
-ghost use Rattle.std.specs.Prelude.{◌≡◌, ◌≤◌, ◌-◌, is_some};
+ghost use Rattle.std.specs.Prelude.{◌≡◌, ◌≤◌, is_some};
 ghost use Rattle.history_model.specs.declared.TheConstants.{MAX_UP, MAX_WALL};
 ghost use Rattle.status_page.specs.Samples.{end_second, journal_flag, next_told};
 
