@@ -1325,7 +1325,7 @@ def what_was_not_loaded_is_seen(place):
     code, text, _ = scope(place, "why", "--failing")
     for name, why in (("shared", "another user owns it or may write to it"), ("twice", "good.json decides; twice.json is left out")):
         check(f"{place.jobs}/{name}.json: not loaded at the boot: {why}\n" in text, f"{name}: {text}")
-    check(re.search(rf'^{place.jobs}/a "b\\\.json: not loaded at the boot: .*no JSON', text, re.M), f"a name with marks: {text}")
+    check(re.search(rf'^{place.jobs}/a "b\\\.json: not loaded at the boot: line 1, column 2: .', text, re.M), f"a name with marks: {text}")
     rows = [json.loads(it) for it in scope(place, "why", "--failing", "--json")[1].splitlines()]
     own = [it for it in rows if it.get("file") == bad]
     check(own and own[0]["state"] == "not_loaded" and own[0]["file_label"] == "of-bad", f"objects: {rows}")
