@@ -11,10 +11,12 @@ use crate::stop::Stop;
 use crate::words::ApplyFlags;
 use calendar_due::Zone;
 use history_model::Refusal;
+use json_lines::put_texts;
 use load_plan::{
     FileVerdict, Flags, LoadedJob, Operation, Reason, Standing, Step, operation_in, operation_word,
     plan,
 };
+use run_times::Ink;
 use std::alloc::{AllocError, Global};
 
 /// What a plan is made of, and how it is carried out.
@@ -251,12 +253,12 @@ fn shown_label(
     }
 }
 
-fn take_step(
+fn take_step<'x>(
     host: &HostRuntime,
     alloc: Global,
     client: &mut Client,
-    scene: &Scene<'_>,
-    step: &Step<'_>,
+    scene: &Scene<'x>,
+    step: &Step<'x>,
     progress: &mut Progress,
 ) -> Result<(), Stop> {
     if is_among(progress.tried.as_slice(), step.label) {
@@ -310,7 +312,7 @@ fn show_step(
     reason: &str,
     done: bool,
 ) -> Result<(), Stop> {
-    let names = lent(alloc, keys)?;
+    let names = keys_text(alloc, keys)?;
     let label = shown_label(alloc, scene, step, around, file)?;
     let shown = show(
         host,
@@ -323,7 +325,7 @@ fn show_step(
                 Some(file) => file.path.as_str(),
                 None => "",
             },
-            keys: names.as_slice(),
+            keys: names.as_str(),
             reason,
             done,
         },
@@ -331,6 +333,15 @@ fn show_step(
     drop(label);
     drop(names);
     shown
+}
+
+// The keys as a list of JSON.
+fn keys_text(alloc: Global, keys: &[String]) -> Result<String, AllocError> {
+    let names = lent(alloc, keys)?;
+    let mut ink = Ink::new(alloc);
+    put_texts(&mut ink, names.as_slice());
+    drop(names);
+    ink.into_text()
 }
 
 fn lent<'a>(alloc: Global, keys: &'a [String]) -> Result<Vec<&'a str>, AllocError> {
@@ -446,14 +457,14 @@ fn await_job(
 }
 
 // A step that is carried out, unless it is only to be shown.
-fn act(
+fn act<'x>(
     host: &HostRuntime,
     alloc: Global,
     client: &mut Client,
-    scene: &Scene<'_>,
-    step: &Step<'_>,
-    around: &Around<'_>,
-    file: Option<&Filed>,
+    scene: &Scene<'x>,
+    step: &Step<'x>,
+    around: &Around<'x>,
+    file: Option<&'x Filed>,
     keys: &[String],
     told: &String,
     progress: &mut Progress,

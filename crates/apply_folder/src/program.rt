@@ -544,7 +544,7 @@ fn show_goes_on(
         word: "disabled",
         label: file.label.as_str(),
         file: file.path.as_str(),
-        keys: &[],
+        keys: "[]",
         reason: "it is loaded, and goes on until it is unloaded",
         done: false,
     };
@@ -574,7 +574,7 @@ fn show_left_out(
                 word: "twice",
                 label,
                 file: file.path.as_str(),
-                keys: &[],
+                keys: "[]",
                 reason: reason.as_str(),
                 done: false,
             };

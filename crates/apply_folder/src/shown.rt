@@ -4,7 +4,7 @@ use crate::stop::Stop;
 use control_client::Fault;
 use history_model::Reading;
 use json_lines::Value::{Absent, Flag, Json, Text as Said};
-use json_lines::{Field, put_line, put_texts};
+use json_lines::{Field, put_line};
 use run_times::{Ink, Page, utc};
 use std::alloc::{AllocError, Global};
 
@@ -20,7 +20,8 @@ pub(crate) struct Line<'a> {
     pub(crate) label: &'a str,
     /// Empty, if no file is meant.
     pub(crate) file: &'a str,
-    pub(crate) keys: &'a [&'a str],
+    /// The keys that differ, as a list of JSON.
+    pub(crate) keys: &'a str,
     pub(crate) reason: &'a str,
     pub(crate) done: bool,
 }
@@ -68,9 +69,6 @@ fn put_padded(ink: &mut Ink, text: &str, width: usize) {
 }
 
 fn object_of(alloc: Global, line: &Line<'_>) -> Result<String, AllocError> {
-    let mut keys = Ink::new(alloc);
-    put_texts(&mut keys, line.keys);
-    let keys = keys.into_text()?;
     let zone = utc();
     let mut page = Page::new(alloc, &zone, Reading { up: 0, wall: 0 });
     let file = if line.file.is_empty() {
@@ -81,14 +79,13 @@ fn object_of(alloc: Global, line: &Line<'_>) -> Result<String, AllocError> {
     let fields = [
         Field("label", Said(line.label)),
         Field("file", file),
-        Field("keys", Json(keys.as_str())),
+        Field("keys", Json(line.keys)),
         Field("reason", Said(line.reason)),
         Field("done", Flag(line.done)),
     ];
     put_line(&mut page, "step", line.word, &fields);
     let made = page.into_text();
     drop(zone);
-    drop(keys);
     made
 }
 
