@@ -22,7 +22,9 @@ const JOURNAL: &[u8] = b"{\"overrides\":{},\"up\":0,\"wall\":1700000000,\"zone\"
 {\"code\":3,\"ev\":\"ended\",\"job\":\"a\",\"run\":1}\n";
 
 /// The first round tells each refusal; the second finds the child's end.
-const TOLD: &str = "jobd: a: run 1: cannot wait for its end: permission denied
+const TOLD: &str =
+    "jobd: no look-out can be started from /proc/self/exe: a path that hangs stops the launcher
+jobd: a: run 1: cannot wait for its end: permission denied
 jobd: cannot look at /w: permission denied
 jobd: a: cannot let a client in: Invalid argument (os error 22)
 jobd: control socket: cannot look at its file: permission denied
