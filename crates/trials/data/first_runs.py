@@ -85,13 +85,15 @@ class Place:
 
 
 def a_launcher_and_jobctl(place):
-    """A list of no job, a start of a job that is not loaded, and a shutdown. A replay of the journal answers the same."""
+    """A list of no job, a start of a job that is not loaded, and a shutdown. A replay of the journal answers the same. After the refusal `jobctl` asks which labels
+    are near, so a list stands there too."""
     place.serve()
     place.jobctl(["list"], 0, "PID\tStatus\tLabel\n")
     place.jobctl(["start", "z"], 3, "", "no such job\n")
     place.jobctl(["shutdown"], 0, "")
     place.ends()
-    wanted = [("list", 0, "PID\tStatus\tLabel\n"), ("start", 3, "no such job\n"), ("shutdown", 0, "")]
+    listed = ("list", 0, "PID\tStatus\tLabel\n")
+    wanted = [listed, ("start", 3, "no such job\n"), listed, ("shutdown", 0, "")]
     got = place.outcomes()
     check(got == wanted, f"the replay answers {got}, wanted {wanted}")
 
