@@ -3,7 +3,7 @@
 
     supervisor_programs.py TREE [COUNT] [--seed SEED]
 
-TREE is a Debian with the package supervisor, whose reader of files (options.py) is used. COUNT files (300 where absent) are made at random: sections, comments, lines that go on,
+TREE is a Debian with the package supervisor, whose reader of files (options.py) is used. The programs of tests/supervisor_files are read first. COUNT files (300 where absent) are made at random: sections, comments, lines that go on,
 quotes, `%(NAME)s` of all kinds, groups, numprocs, files of [include]. For each process both have to have the same words, variables, folder, user, mask, wait before KILL, output files, and
 whether it starts by itself and again. What supervisor refuses from-supervisor may refuse or not. What from-supervisor refuses alone has to be one of `REFUSED`. Status 1 if one differs. It
 needs no program of ours, and is run by hand.
@@ -14,12 +14,13 @@ import json
 import os
 import random
 import shlex
+import shutil
 import subprocess
 import sys
 import tempfile
 
 TOP = os.path.dirname(os.path.dirname(os.path.abspath(__file__)))
-REFUSED = ["nothing here is like it", "is there already, and is left as it is"]
+REFUSED = ["nothing here is like it", "is there already, and is left as it is", "No closing quotation", "No escaped character"]
 TEXTS = ["a", "x y", "%(program_name)s", "%(group_name)s", "%(here)s/x", "%(ENV_KIV)s", "%(host_node_name)s", "%(process_num)02d", "%%", "'q w'", '"q  w"', r"\\n", r'"a\"b"', "é", "a;b", "a#b",
          "$HOME", "~", "--x=1", "-c", "%(numprocs)d"]
 # Of variables that `environment` may set or not, and that nothing sets.
@@ -28,7 +29,11 @@ VALUES = ["1", '"two words"', "'x,y'", "%(ENV_KIV)s", '"%(program_name)s"', "/us
 SHOWN = """
 import json, os, sys
 sys.path.insert(0, sys.argv[1])
+from supervisor import datatypes, options as all_options
 from supervisor.options import ServerOptions, Automatic
+# A folder or a user need not be here.
+datatypes.existing_dirpath = all_options.existing_dirpath = all_options.existing_directory = os.path.expanduser
+all_options.name_to_uid = str
 from supervisor.datatypes import RestartUnconditionally, RestartWhenExitUnexpected
 found = []
 for path in sys.argv[2:]:
@@ -43,7 +48,9 @@ for path in sys.argv[2:]:
     for group in section.process_group_configs:
         for it in group.process_configs:
             again = {RestartUnconditionally: "always", RestartWhenExitUnexpected: "unexpected"}.get(it.autorestart, "never")
-            files = [("AUTO" if file is Automatic else file) for file in (it.stdout_logfile, it.stderr_logfile)]
+            both = ((it.stdout_logfile, it.stdout_syslog), (it.stderr_logfile, it.stderr_syslog))
+            # what goes to syslog there goes to a file here, which is told
+            files = [("AUTO" if file is Automatic or is_syslog else file) for file, is_syslog in both]
             made[it.name] = {"command": it.command, "variables": it.environment, "folder": it.directory, "user": it.uid, "mask": it.umask, "stop": it.stopwaitsecs, "starts": it.autostart,
                              "again": again, "files": files, "is_joined": it.redirect_stderr, "count": made.get(it.name, {}).get("count", 0) + 1}
     found.append({"programs": made, "folder": section.directory, "user": section.user, "mask": section.umask if "umask" in open(path).read().split("[program")[0] else None})
@@ -91,6 +98,8 @@ def file_of(chance):
         rows.append("umask=" + chance.choice(("027", "077")))
     if chance.random() < 0.2:
         rows.append("directory=/var")
+    if chance.random() < 0.1:
+        rows.append("user=daemon")
     if chance.random() < 0.2:
         rows.append("minfds=" + chance.choice(("1024", "65536")))
     rows += ["[include]", "files = extra/*.conf", "[supervisorctl]", "serverurl=unix:///run/x.sock"] if chance.random() < 0.5 else []
@@ -116,11 +125,17 @@ def seen(definition, logs):
             "files": ["AUTO" if file == f"{logs}/{definition['Label']}.log" else file for file in files]}
 
 
+def is_command(text):
+    try:
+        return bool(shlex.split(text))
+    except ValueError:
+        return False
+
+
 def wanted(it, above):
-    import pwd
-    user = it["user"] if it["user"] is not None else None
+    user = it["user"] if it["user"] is not None else above["user"]
     files = [it["files"][0], it["files"][0] if it["is_joined"] else it["files"][1]]
-    return {"words": shlex.split(it["command"]), "variables": it["variables"], "folder": it["folder"] or above["folder"], "user": None if user in (None, 0) else pwd.getpwuid(user).pw_name,
+    return {"words": shlex.split(it["command"]), "variables": it["variables"], "folder": it["folder"] or above["folder"], "user": None if user in (None, "0", "root") else user,
             "mask": it["mask"] if it["mask"] is not None else above["mask"], "stop": max(1, min(it["stop"], 86400)), "starts": it["starts"], "again": it["again"], "files": files}
 
 
@@ -131,7 +146,6 @@ def main():
     words.add_argument("--seed", type=int, default=5)
     given = words.parse_args()
     chance = random.Random(given.seed)
-    import pwd
     faults, compared, refused = 0, 0, 0
     environment = {"PATH": os.environ["PATH"], "KIV": "kiv value", "HOME": "/root"}
     with tempfile.TemporaryDirectory() as folder:
@@ -144,6 +158,10 @@ def main():
                 with open(f"{place}/{name}", "w", encoding="utf-8") as it:
                     it.write(text)
             places.append(place)
+        for path in sorted(glob.glob(f"{TOP}/tests/supervisor_files/*.conf")):
+            places.append(f"{folder}/{os.path.basename(path)}")
+            os.mkdir(places[-1])
+            shutil.copy(path, f"{places[-1]}/main.conf")
         shown = subprocess.run([sys.executable, "-c", SHOWN, f"{given.tree}/usr/lib/python3/dist-packages", *(f"{it}/main.conf" for it in places)], capture_output=True, text=True, env=environment,
                                check=False)
         if shown.returncode:
@@ -155,7 +173,6 @@ def main():
                 with open(path, encoding="utf-8") as it:
                     made = json.load(it)
                 own = seen(made, "/l")
-                own["user"] = pwd.getpwuid(int(own["user"])).pw_name if (own["user"] or "").isdecimal() else own["user"]
                 label = made["Label"]
                 names = [name for name in (theirs or {"programs": {}})["programs"] if label == name or label.endswith(f".{name}")]
                 ours[max(names, key=len, default=label)] = own
@@ -164,7 +181,8 @@ def main():
                 continue
             if any(it["count"] > 1 for it in theirs["programs"].values()):
                 continue
-            them = {name: wanted(it, theirs) for name, it in theirs["programs"].items()}
+            # a command that has no end of a quote supervisor takes, and never starts
+            them = {name: wanted(it, theirs) for name, it in theirs["programs"].items() if is_command(it["command"])}
             compared += len(them)
             bad = [row for row in ran.stderr.splitlines() if "error:" in row and not any(it in row for it in REFUSED)]
             if ours != them or bad or "Traceback" in ran.stderr:
