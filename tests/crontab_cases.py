@@ -5,8 +5,9 @@
 
 TREE is a Debian with the package cron. Of each line of each case: `crontab -n` there takes it exactly if the case has a definition of it, but for what `STRICTER`
 names; the entries of the case match exactly the minutes that crontab(5) gives its fields, over each day of a month, weekday and minute; and cron itself, started
-there with the line's command behind @reboot, hands the shell the command that the case has, with the case's variables, in its working folder. No program of ours
-runs. A definition with a guard is not looked at but for its command (`guards.py` does). Status 1 if one differs. It is run by hand, as root.
+there with the line's command behind @reboot, hands the shell the command that the case has, with the case's variables, in its working folder. Of a definition with a guard
+the command runs at exactly the minutes of the fields too, over a week of minutes: the guard of the case is run by a shell, as in `guards.py`. No program of ours
+runs. Status 1 if one differs. It is run by hand, as root.
 """
 import json
 import os
@@ -16,6 +17,8 @@ import sys
 import time
 
 sys.dont_write_bytecode = True
+import guards
+
 TOP = os.path.dirname(os.path.dirname(os.path.abspath(__file__)))
 NAMES = {"@yearly": "0 0 1 1 *", "@annually": "0 0 1 1 *", "@monthly": "0 0 1 * *", "@weekly": "0 0 * * 0", "@daily": "0 0 * * *", "@midnight": "0 0 * * *", "@hourly": "0 * * * *"}
 MONTHS = "jan feb mar apr may jun jul aug sep oct nov dec".split()
@@ -143,7 +146,7 @@ def run_cron(tree, tabs):
 
 
 def main(tree):
-    faults, looked, tabs, wanted = [], [0, 0, 0], {}, {}
+    faults, looked, tabs, wanted = [], [0, 0, 0, 0], {}, {}
     for name, parts in cases():
         lines, is_system = lines_of(parts)
         made = [json.loads(it) for it in parts.get("output", [])]
@@ -181,6 +184,11 @@ def main(tree):
                 both = minutes_of(fields), entries_minutes(own[0]["StartCalendarInterval"])
                 if any(both[0](*it) != both[1](*it) for it in ((month, day, weekday) for month in range(1, 13) for day in range(1, 32) for weekday in range(7))):
                     faults.append(f"{name}: {line!r}: its entries are of other minutes")
+            else:
+                looked[3] += 1
+                at_each = minutes_of(fields)
+                wrong, _ = guards.faults_of(own[0], lambda at, has=at_each: has(at.month, at.day, at.isoweekday() % 7) >> (at.hour * 60 + at.minute) & 1)
+                faults += [f"{name}: {line!r}: its guard decides otherwise: {it}" for it in wrong[:3]]
             key = f"c{len(tabs)}"
             shells = [it for it in variables if not it.startswith("SHELL")]
             tabs[key] = "".join(f"{it}\n" for it in [*shells, "SHELL=/root/record", f"CASE={key}"]) + f"@reboot root {cut[2]}\n"
@@ -206,7 +214,7 @@ def main(tree):
         if made["EnvironmentVariables"].get("HOME") == variables["HOME"] and os.path.isdir(f"{tree}{variables['HOME']}") and made.get("WorkingDirectory") != folder:
             faults.append(f"{name}: {line!r}: cron runs it in {folder}")
     print("\n".join(faults))
-    print(f"{looked[0]} lines beside crontab -n, {looked[1]} calendars, {looked[2]} commands that cron ran: {len(faults)} differ")
+    print(f"{looked[0]} lines beside crontab -n, {looked[1]} calendars, {looked[3]} guards over a week, {looked[2]} commands that cron ran: {len(faults)} differ")
     return 1 if faults or not all(looked) else 0
 
 

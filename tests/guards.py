@@ -18,7 +18,6 @@ import tempfile
 import zoneinfo
 
 TOP = os.path.dirname(os.path.dirname(os.path.abspath(__file__)))
-PROGRAMS = os.path.abspath(sys.argv[1]) if sys.argv[1:] else f"{TOP}/build"
 ZONE = "Europe/Berlin"
 FIRST, DAYS = datetime.datetime(2026, 3, 26, tzinfo=datetime.timezone.utc), 7
 LINES = ["*/5 8-18 * * 1-5", "0,30 8-18 * * 1-5", "7,37 8-18 * * 1-5", "*/10 8-18 1-29/2 * 1", "0 3 */2 * 1-5", "50 23 */2 * 1-5", "3-59/7 1-4,9-17 26-31 3,4 *", "*/4 * * * 0,6,7",
@@ -109,4 +108,6 @@ def main():
     return int(faults > 0)
 
 
-sys.exit(main())
+if __name__ == "__main__":
+    PROGRAMS = os.path.abspath(sys.argv[1]) if sys.argv[1:] else f"{TOP}/build"
+    sys.exit(main())
