@@ -58,6 +58,7 @@ WORKED = [
     ("kivn.service", {f"{LIB}/kivn.service": service("User=65534", "ExecStart=/bin/probe NAME $HOME")}, []),
     ("kivo.service", {f"{LIB}/kivo.service": service("User=1", "Environment=HOME=/var", "ExecStart=/bin/probe NAME $HOME ${USER}")}, []),
     ("kivp.service", {f"{LIB}/kivp.service": service("User=kiv", "ExecStart=/bin/probe NAME $HOME ${USER} $SHELL")}, []),
+    ("kivq.service", {f"{LIB}/kivq.service": service("User=kiv", "SupplementaryGroups=adm", "ExecStart=/bin/probe NAME")}, []),
     ("kivg.service", {f"{LIB}/kivg.service": service("Group=games", "WorkingDirectory=/var", "ExecStart=/bin/probe NAME $HOME")}, []),
     (r"kiv-h-i@x-y\x2dz.service", {f"{LIB}/kiv-h-i@.service": service("ExecStart=/bin/probe NAME %p %P %i %I %j %J %n %N %%")}, []),
     ("kivj.service", {f"{LIB}/kivj.service": service("User=daemon", "ExecStart=/bin/probe NAME %t %S %C %L %E %h %u %U %g %G %T %V")}, []),
@@ -116,6 +117,7 @@ def main():
     os.chmod(f"{tree}/bin/probe", 0o755)
     if inside(pid, "id", "kiv").returncode:
         inside(pid, "useradd", "-m", "-s", "/bin/sh", "kiv")
+    inside(pid, "usermod", "-aG", "audio,video", "kiv")
     put = []
     for number, (name, files, _) in enumerate(units):
         for path, text in files.items():
