@@ -136,7 +136,7 @@ def kind_of(line):
     if not text or text.startswith("#"):
         return "nothing"
     name = re.match(r"""("[^"]*"|'[^']*'|[^\s=]+)\s*=\s*(.*)""", text)
-    if name and not re.match(r"[*0-9@]", text):
+    if name:
         value = name[2].rstrip()
         if re.fullmatch(r""""[^"]*"|'[^']*'|[^"'\s].*""", value):
             return "variable"

@@ -70,7 +70,7 @@ def faults_of(definition, has):
     if len(entries) > 64:
         return [f"{len(entries)} entries"], 0
     starts = [at for at in all_minutes if any(is_entry(it, at.astimezone(zone)) for it in entries)]
-    late = [end - datetime.timedelta(seconds=1) for end in [*starts[1:], starts[-1] + minute]]
+    late = [end - datetime.timedelta(seconds=1) for end in [*starts[1:], *(it + minute for it in starts[-1:])]]
     wanted = [at for at in all_minutes if has(at.astimezone(zone))]
     is_guarded = "/bin/date" in program[2]
     found = []

@@ -101,8 +101,8 @@ def main():
         line, own = wanted[key]
         if own["ProgramArguments"][-1] != command_run:
             faults.append(f"{line!r}: cron runs {command_run!r}, the definition {own['ProgramArguments'][-1]!r}")
-        # Debian's cron loses the blanks at the end of a quoted value, which crontab(5) says it keeps.
-        found = {it: value.rstrip() for it, value in own["EnvironmentVariables"].items() if it not in OWN}
+        # Debian's cron loses the blanks at the end of a quoted value, which crontab(5) says it keeps; the shell that tells passes on no name that is none of its own.
+        found = {it: value.rstrip() for it, value in own["EnvironmentVariables"].items() if it not in OWN and re.fullmatch(r"[A-Za-z_]\w*", it)}
         if found != {it: value for it, value in around.items() if it not in OWN}:
             faults.append(f"{line!r}: cron gives {around}, the definition {own['EnvironmentVariables']}")
     faults += [f"{line!r}: cron did not run it" for key, (line, _) in wanted.items() if not os.path.exists(f"{tree}/root/told/{key}.env")]
