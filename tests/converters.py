@@ -49,6 +49,11 @@ SYSTEMD = [
      {"ProgramArguments": ["/bin/x", "2", "3", "1", "1"]}, [], []),
     ({"lib/systemd/system/a.service": "[Service]\nExecStart=/bin/x\n", "etc/systemd/system/a.service": "[Service]\nExecStart=/bin/y\n"}, "lib/systemd/system/a.service", None, ["a.service in its place"], []),
     ({"lib/systemd/system/a.service": "[Service]\nExecStart=/bin/x\n", "etc/systemd/system/a.service": "/dev/null"}, "lib/systemd/system/a.service", None, ["masks it"], []),
+    ({"lib/systemd/system/a@.service": "[Service]\nExecStart=/bin/x %i $A\n", "etc/systemd/system/a@b.service.d/c.conf": "[Service]\nEnvironment=A=1\n",
+      "etc/systemd/system/multi-user.target.wants/a@b.service": "->../../../../lib/systemd/system/a@.service"}, "etc/systemd/system/multi-user.target.wants/a@b.service",
+     {"ProgramArguments": ["/bin/x", "b", "1"], "Label": "a@b"}, [], []),
+    ({"lib/systemd/system/a.service": "[Service]\nExecStart=/bin/x\n", "etc/systemd/system/a.service": "[Service]\nExecStart=/bin/y\n",
+      "etc/systemd/system/multi-user.target.wants/a.service": "->../a.service"}, "etc/systemd/system/multi-user.target.wants/a.service", {"ProgramArguments": ["/bin/y"]}, [], []),
     ({"lib/systemd/system/a.service": "[Service]\nExecStart=/bin/x\n", "etc/systemd/system/a.timer": "[Timer]\nOnBootSec=1\n"}, "etc/systemd/system/a.timer", {"RunAtLoad": True}, [], []),
     ({".config/systemd/user/a.service": "[Service]\nExecStart=/bin/x %E\nCacheDirectory=c\n"}, ".config/systemd/user/a.service", {"WorkingDirectory": os.path.expanduser("~")},
      ["CacheDirectory=c: no folder is made for a user's unit"], []),
@@ -89,8 +94,8 @@ def main():
             os.mkdir(place)
             for name, text in files.items():
                 os.makedirs(os.path.dirname(f"{place}/{name}"), exist_ok=True)
-                if text == "/dev/null":
-                    os.symlink(text, f"{place}/{name}")
+                if text == "/dev/null" or text.startswith("->"):
+                    os.symlink(text.removeprefix("->"), f"{place}/{name}")
                     continue
                 with open(f"{place}/{name}", "w", encoding="utf-8") as it:
                     it.write(text.replace("FOLDER", place))
