@@ -37,7 +37,7 @@ put() {
     install -d "$root/bin" "$root/libexec" "$root/share/man/man1" "$root/share/man/man5" "$root/share/man/man8" \
         "$doc/contrib" "$doc/examples" "$root/share/bash-completion/completions" "$root/share/fish/vendor_completions.d" \
         "$root/share/zsh/site-functions"
-    install -m 755 "$programs/jobd" contrib/jobctl-reload contrib/jobd-split-users "$root/bin"
+    install -m 755 "$programs/jobd" contrib/jobctl-reload contrib/jobd-group contrib/jobd-split-users "$root/bin"
     for name in jobctl jobscope; do
         ln -sfn jobd "$root/bin/$name"
     done
@@ -73,7 +73,7 @@ put() {
 
 # The folder of documents is this project's own; of the others only those that it left empty go.
 remove() {
-    rm -f "$root/bin/jobd" "$root/bin/jobctl" "$root/bin/jobscope" "$root/bin/jobctl-reload" "$root/bin/jobd-split-users" "$root/libexec/jobd-run" \
+    rm -f "$root/bin/jobd" "$root/bin/jobctl" "$root/bin/jobscope" "$root/bin/jobctl-reload" "$root/bin/jobd-group" "$root/bin/jobd-split-users" "$root/libexec/jobd-run" \
         "$root/share/man/man1/jobctl.1" "$root/share/man/man1/jobctl-reload.1" "$root/share/man/man1/jobscope.1" \
         "$root/share/man/man5/jobd.json.5" "$root/share/man/man5/jobd.journal.5" "$root/share/bash-completion/completions/jobscope" \
         "$root/share/fish/vendor_completions.d/jobscope.fish" "$root/share/zsh/site-functions/_jobscope" \
