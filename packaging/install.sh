@@ -41,7 +41,7 @@ put() {
     for name in jobctl jobscope; do
         ln -sfn jobd "$root/bin/$name"
     done
-    install -m 644 man/jobctl.1 man/jobscope.1 "$root/share/man/man1"
+    install -m 644 man/jobctl.1 man/jobd-group.1 man/jobscope.1 "$root/share/man/man1"
     # The page of a version before.
     rm -f "$root/share/man/man1/jobctl-reload.1"
     install -m 644 man/jobd.json.5 man/jobd.journal.5 "$root/share/man/man5"
@@ -74,7 +74,7 @@ put() {
 # The folder of documents is this project's own; of the others only those that it left empty go.
 remove() {
     rm -f "$root/bin/jobd" "$root/bin/jobctl" "$root/bin/jobscope" "$root/bin/jobctl-reload" "$root/bin/jobd-group" "$root/bin/jobd-split-users" "$root/libexec/jobd-run" \
-        "$root/share/man/man1/jobctl.1" "$root/share/man/man1/jobctl-reload.1" "$root/share/man/man1/jobscope.1" \
+        "$root/share/man/man1/jobctl.1" "$root/share/man/man1/jobd-group.1" "$root/share/man/man1/jobctl-reload.1" "$root/share/man/man1/jobscope.1" \
         "$root/share/man/man5/jobd.json.5" "$root/share/man/man5/jobd.journal.5" "$root/share/bash-completion/completions/jobscope" \
         "$root/share/fish/vendor_completions.d/jobscope.fish" "$root/share/zsh/site-functions/_jobscope" \
         "$root/share/man/man8/jobd.8" "$root/share/man/man8/jobd-run.8" "$root/share/man/man8/jobd-split-users.8" "$root/share/bash-completion/completions/jobctl" \
