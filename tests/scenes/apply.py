@@ -389,16 +389,16 @@ def is_there(pid):
 def a_run_has_its_name(stage):
     """JOBD_RUN has the launcher's PID and start, the label and the run; what the definition says of the variable wins."""
     launcher = begin(stage)
-    launcher.load(kept("a b/c"))
+    launcher.load(kept("org.example.web"))
     launcher.load(kept("own", EnvironmentVariables={"JOBD_RUN": "mine", "OTHER": "1"}))
     name = f"{launcher.pid}.{began_of(launcher.pid)}"
-    first = running(launcher, "a b/c")
-    check(variable_of(first) == f"{name}/a b/c/1", f"its name: {variable_of(first)}")
+    first = running(launcher, "org.example.web")
+    check(variable_of(first) == f"{name}/org.example.web/1", f"its name: {variable_of(first)}")
     own = running(launcher, "own")
     check((variable_of(own), variable_of(own, "OTHER")) == ("mine", "1"), f"its own value: {variable_of(own)}")
     os.kill(first, 9)
-    second = wait_for(lambda: pid_of(launcher, "a b/c") not in (None, first) and pid_of(launcher, "a b/c"), "it is not started again")
-    check(variable_of(second) == f"{name}/a b/c/2", f"the name of its second run: {variable_of(second)}")
+    second = wait_for(lambda: pid_of(launcher, "org.example.web") not in (None, first) and pid_of(launcher, "org.example.web"), "it is not started again")
+    check(variable_of(second) == f"{name}/org.example.web/2", f"the name of its second run: {variable_of(second)}")
 
 
 def what_a_run_left_behind_is_named(stage):
