@@ -10,11 +10,11 @@ use std::alloc::{AllocError, Global};
 #[derive(Drop)]
 pub(crate) struct EndedJob {
     label: String,
-    // When it was gone, and not loaded again, in clock ticks since the boot.
+    // When it was removed, and not loaded again, in clock ticks since the boot.
     at: u64,
 }
 
-/// Notes that the job is gone now, if it was unloaded.
+/// Notes that the job is removed now, if it was unloaded.
 pub(crate) fn note_ended(
     host: &HostRuntime,
     alloc: Global,
@@ -31,8 +31,8 @@ pub(crate) fn note_ended(
     Ok(())
 }
 
-/// Reports on standard error each process that a run of these jobs left running. It is not known which those are where the launcher has no
-/// places file.
+/// Reports on standard error each process that a run of these jobs left running. Without the launcher's places file it reports nothing, since these
+/// processes are not known.
 pub(crate) fn report_left(
     host: &HostRuntime,
     alloc: Global,

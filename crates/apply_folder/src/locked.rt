@@ -9,17 +9,17 @@ use std::io::ErrorKind;
 use std::thread;
 use std::time::Duration;
 
-/// What stands behind the path of the socket in that of the lock.
+/// What the path of the lock has after that of the socket.
 const BEHIND: &str = ".apply";
 
-/// How many milliseconds lie between two tries.
+/// How many milliseconds are between two tries.
 const BETWEEN: u64 = 50;
 
-/// How often it is tried at most for a launcher of another user, who may hold the lock for ever: a minute.
+/// How often it is tried at most for a launcher of another user, who may hold the lock for any time: a minute.
 const FOREIGN_TRIES: u64 = 1_200;
 
-/// The lock, once nobody else has it. None: it can't be had, which is logged, and nobody is waited for. `user` is the launcher's user: if that is another
-/// one than this process has, the wait ends after a minute, with status 69.
+/// The lock, once nobody else has it. If it can't be taken, it reports that, waits for nobody and returns None. `user` is the launcher's user. If
+/// that is not this process's user, the wait ends after a minute, with status 69.
 pub(crate) fn lock_beside(
     host: &HostRuntime,
     alloc: Global,

@@ -55,10 +55,10 @@ pub(crate) struct Progress {
     pub(crate) in_effect: Vec<usize>,
     /// The labels whose step is not tried again.
     pub(crate) tried: Vec<String>,
-    /// The labels that were unloaded for good.
+    /// The labels that were unloaded permanently.
     pub(crate) unloaded: Vec<String>,
     pub(crate) awaited: Vec<AwaitedJob>,
-    /// The jobs that were unloaded, for good or to be loaded again.
+    /// The jobs that were unloaded, permanently or to be loaded again.
     pub(crate) ended: Vec<EndedJob>,
     pub(crate) same: u64,
 }
@@ -212,7 +212,7 @@ fn heeded<'a>(scene: &Scene<'_>, operation: Operation<'a>) -> Operation<'a> {
     }
 }
 
-// Whether the line of the job under the former label tells this load too.
+// Whether the line of the job under the former label covers this load too.
 fn is_told_before(scene: &Scene<'_>, step: &Step<'_>, file: Option<&Filed>) -> bool {
     let former = match (step.operation, file) {
         (
@@ -304,7 +304,7 @@ fn take_step<'x>(
     taken
 }
 
-// The word of a step, and its line.
+// The name of a step, and its line.
 fn show_step(
     host: &HostRuntime,
     alloc: Global,
@@ -356,7 +356,7 @@ fn lent<'a>(alloc: Global, keys: &'a [String]) -> Result<Vec<&'a str>, AllocErro
     Ok(names)
 }
 
-// A line for each file of the label, of which none decides.
+// A line for each file of the label, if none of them decides.
 fn show_each(
     host: &HostRuntime,
     alloc: Global,

@@ -47,10 +47,11 @@ A line for each step is printed: what is new is loaded, what changed is unloaded
 Exit status: 0 in effect, 2 something was left or waits, 65 a file can't be read; else the launcher's first refusal, 64 these words are no command, 69 no answer from the launcher.
 ";
 
-/// What stands in the folder of the launcher's store.
+/// The name of the file in the folder of the launcher's store.
 const APPLIED: &str = "applied.jsonl";
 
-/// Does what the words ask, the program's own name being the first, if they ask for `apply`, and answers the exit status. None: they ask for something else.
+/// Does what the arguments ask, if they ask for `apply`, and returns the exit status. The first argument is the program's own name. None: they ask
+/// for something else.
 pub fn jobctl_apply(host: &HostRuntime, alloc: Global, words: &[String]) -> Option<u8> {
     match meaning_of(alloc, words) {
         Ok(Meant::Other) => None,
@@ -116,7 +117,7 @@ fn run_beside(host: &HostRuntime, alloc: Global, words: &ApplyWords, settings: &
     status
 }
 
-// That of the words, else of the environment; else the one here, else the package's.
+// The socket of the arguments, else of the environment; else the one here, else the package's.
 fn socket_of<'a>(host: &HostRuntime, words: &'a ApplyWords, settings: &'a Settings) -> &'a str {
     match (&words.socket, &settings.socket) {
         (Some(socket), _) => socket.as_str(),
@@ -280,7 +281,7 @@ struct Ground<'a> {
     asked: &'a io::Result<SystemTime>,
 }
 
-// Where it stands what applies loaded.
+// The path of the file that keeps what applies loaded.
 fn state_path(alloc: Global, places: &Option<Places>) -> Result<Option<String>, AllocError> {
     let Some(places) = places else {
         return Ok(None);
@@ -434,7 +435,7 @@ fn is_shutting_down(
     Ok(shuts_down)
 }
 
-// Of the first plan alone, since files are read once.
+// Only of the first plan, since files are read once.
 fn judged(
     ground: &Ground<'_>,
     gathered: &mut Gathered,

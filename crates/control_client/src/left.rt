@@ -15,11 +15,11 @@ use std::rt::Clock;
 use std::thread;
 use std::time::Duration;
 
-/// The pauses before each look at the list, in milliseconds: a job that ends at its TERM is gone by the last one.
+/// The pauses before each look at the list, in milliseconds: a job that ends at its TERM is removed by the last one.
 const PAUSES: [u64; 6] = [5, 10, 20, 40, 80, 160];
 
-/// Waits a third of a second at most for the jobs of these labels to be gone, and reports on standard error each process that a run of one that is gone left
-/// running. Nothing is reported if it is not known which process the launcher is, as where there is no `jobd.sock.places`.
+/// Waits a third of a second at most until the jobs of these labels are removed. It reports on standard error each process that runs of the removed jobs left
+/// running. It reports nothing if the launcher's process is not known, as where there is no `jobd.sock.places`.
 pub(crate) fn report_left<R: Net + Files<File = File> + Clock + Eprint + AllocGlobal>(
     rt: &R,
     alloc: Global,

@@ -1,4 +1,4 @@
-//! What the control program `jobctl` does once its words are read: files become requests, requests go to the launcher on its
+//! The control program `jobctl`, once its arguments are read. Files become requests, requests go to the launcher on its
 //! control socket, and replies become texts and an exit status.
 #![tactic(auto)]
 

@@ -22,10 +22,10 @@ use std::rt::{Clock, Env};
 /// The control socket if nothing names one.
 pub const SOCKET: &str = "jobd.sock";
 
-/// That of the package.
+/// The control socket of the package.
 pub const PACKAGED: &str = "/run/jobd/jobd.sock";
 
-/// Whether somebody reads at once what is told on the standard error, and what is printed on the standard output.
+/// Whether standard error, and standard output, is a terminal, so that somebody reads at once what is printed there.
 pub trait Watched {
     fn is_watched(&self) -> bool;
 
@@ -49,7 +49,7 @@ enum Deed {
     Unload { writes_setting: bool },
 }
 
-/// What the words come to.
+/// What the arguments ask for.
 enum Task<'a> {
     Files(Deed, &'a Paths),
     Request(Request<'a>),
@@ -104,22 +104,25 @@ fn task_of(command: &Command) -> Task<'_> {
     }
 }
 
-/// Does what the words ask, the program's own name being the first, and answers the exit status: the first that is not 0 of
-/// the replies' codes and the faults', else 0. Of a fault: 64 the words, 65 a file, 69 the launcher can't be reached or sends
-/// no reply of at most [`crate::REPLY`] bytes, 74 the standard output, 1 want of memory. One request is made for each file,
-/// in their order, and a file's fault leaves out that file alone.
+/// Does what the arguments ask, and returns the exit status. The first argument is the program's own name. The status is the first that is not 0 of
+/// the replies' codes and the faults', else 0. It makes one request for each file, in their order, and a file's fault leaves out that file alone.
 ///
-/// A reply's text goes to the standard output at code 0, else to the standard error, behind a line that names its file if
-/// there are several. Below that of a faulty definition a terminal is told what says where the fault is. A fault is one line on the standard error that names what it is about, and the reason. If the standard
-/// output's reader has gone, nothing is told and the status is [`crate::READER_GONE`].
+/// A fault's status is 64 for the arguments, 65 for a file, 74 for the standard output, and 1 for want of memory. It is 69 if the launcher can't be
+/// reached or sends no reply of at most [`crate::REPLY`] bytes.
 ///
-/// A word of an unload that is no path, and of which no file has the name, is the label of a loaded job, if there is one.
-/// After an unload each process that runs of the job left running is one line on the standard error, if the job is gone within a third of a second.
+/// A reply's text goes to the standard output at code 0, else to the standard error. If there are several files, a line with the file's name comes
+/// first. After the reply to a faulty definition, a terminal gets a hint which command shows where the fault is. A fault is one line on the standard
+/// error that names what it is about, and the reason. If the standard output's reader has closed it, nothing is reported and the status is
+/// [`crate::READER_GONE`].
 ///
-/// Of the environment, `JOBD_SOCKET` is the control socket if the words name none, and `JOBCTL_TIMEOUT` the seconds for which
-/// an answer is waited (30 if absent, 0 for ever); after them the status is 69. One that can't be read: 64.
+/// An argument of an unload may be the label of a loaded job, if it is not a path and no file has this name. After an unload, if the job is removed
+/// within a third of a second, the standard error gets a line for each process that runs of the job left running.
 ///
-/// A word that was not UTF-8 has a [`MARK`] at its end. One that names a file to load or to unload is that file's fault, any other is no command: 64.
+/// In the environment, `JOBD_SOCKET` is the control socket if the arguments name none. `JOBCTL_TIMEOUT` is how many seconds it waits for an answer
+/// (30 if absent; 0 means no limit); after them the status is 69. If a variable can't be read, the status is 64.
+///
+/// An argument that was not UTF-8 has a [`MARK`] at its end. If it names a file to load or to unload, it is that file's fault. Any other makes the
+/// arguments invalid: 64.
 pub fn jobctl<
     R: Net + Files<File = File> + Env + Clock + Print + Eprint + Watched + AllocGlobal + Clone + Drop,
 >(
@@ -165,7 +168,7 @@ pub fn jobctl<
     }
 }
 
-// How many of the words are not UTF-8, the program's own name left out.
+// How many of the arguments are not UTF-8, the program's own name left out.
 fn marks_of(words: &[String]) -> usize {
     let mut count = 0usize;
     for word in words.iter().skip(1) {
@@ -176,7 +179,7 @@ fn marks_of(words: &[String]) -> usize {
     count
 }
 
-// Whether a word is not UTF-8 that names no file to load or to unload.
+// Whether an argument is not UTF-8 and does not name a file to load or to unload.
 fn has_more_marks(words: &[String], command: &Command) -> bool {
     let mut left = marks_of(words);
     match command {
@@ -197,7 +200,7 @@ fn refuse_mark<R: Eprint>(rt: &R) -> u8 {
     USAGE
 }
 
-// What the words mean beside the environment's socket, if it names one.
+// What the arguments mean, given the environment's socket, if it names one.
 fn read_by(alloc: Global, settings: &Settings, words: &[String]) -> Result<Words, WordFault> {
     match &settings.socket {
         Some(socket) => read_words_beside(alloc, words, socket.as_str()),
@@ -205,7 +208,7 @@ fn read_by(alloc: Global, settings: &Settings, words: &[String]) -> Result<Words
     }
 }
 
-/// Tells what keeps the environment from being read, and gives the exit status.
+/// Reports what keeps the environment from being read, and returns the exit status.
 pub fn tell_setting<R: Eprint>(rt: &R, fault: SettingFault) -> u8 {
     let (name, why) = match fault {
         SettingFault::NoMemory => return want_memory(rt),
@@ -274,7 +277,7 @@ fn hand_in<
     drop(unloaded);
 }
 
-// Where there is no memory for it, it is not looked for what its runs left.
+// If there is no memory for it, it does not look for what its runs left.
 fn note_unloaded(label: Text, unloaded: &mut Vec<Text>) {
     let noted = unloaded.push(label);
     drop(noted);
@@ -327,7 +330,7 @@ fn hand_in_one<R: Net + Files + Print + Eprint + Watched>(
     }
 }
 
-// The label that the word of an unload is: no file of that name is there, and a job of that label is loaded.
+// The label that the argument of an unload means, if no file has this name, and a job of this label is loaded.
 fn word_for<R: Net + Files>(
     rt: &R,
     alloc: Global,
@@ -351,7 +354,7 @@ fn word_for<R: Net + Files>(
     }
 }
 
-// Whether a word is a label, and neither a path nor the name of a definition's file.
+// Whether an argument is a label, and neither a path nor the name of a definition's file.
 fn may_be_label(word: &str) -> bool {
     let is_file = word.contains('/') || word.ends_with(".json") || word.ends_with(".plist");
     !is_file && is_label(word)
@@ -364,7 +367,7 @@ fn is_there<R: Files>(rt: &R, path: &str) -> bool {
     }
 }
 
-// A terminal is told what says where a faulty definition has its fault.
+// On a terminal, names the command that shows where a faulty definition has its fault.
 fn point_out<R: Eprint + Watched>(rt: &R, deed: Deed, name: &str, code: u8) {
     let is_faulty = code == Refusal::BadDefinition(Reason::NotJson, KeyName::NoKey).code();
     if is_faulty && matches!(deed, Deed::Load { .. }) && rt.is_watched() {
@@ -372,8 +375,8 @@ fn point_out<R: Eprint + Watched>(rt: &R, deed: Deed, name: &str, code: u8) {
     }
 }
 
-/// What the request for a file says: the text of its definition, or for an unload the label in it. A fault of the file: it can't be read, is
-/// too long for a line, or is not UTF-8; for an unload also if it is no definition, so that its label is not known.
+/// What the request for a file says: the text of its definition, or for an unload the label in it. A fault of the file: it can't be read, is too long
+/// for a line, or is not UTF-8. For an unload it is a fault too if the file is not a definition, so that its label is not known.
 fn text_for<R: Files>(rt: &R, alloc: Global, deed: Deed, path: &str) -> Result<Text, Fault> {
     let text = text_at(rt, alloc, path)?;
     match deed {

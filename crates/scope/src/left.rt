@@ -8,10 +8,10 @@ use status_file::JobStatus;
 use status_page::{Standing, is_asked};
 use std::alloc::{AllocError, Global};
 
-/// For how many clock ticks, of which a second has 100, a status file may lag: it is written within a second of a change, and a pass of the loop later.
+/// For how many clock ticks, of which a second has 100, a status file may lag. It is written within a second of a change, and a pass of the loop later.
 const LAG: u64 = 200;
 
-/// The processes of each job of the file, or of those named, that are not of its present run. Of a launcher that ended there are none.
+/// The processes of each job of the file, or of those named, that are not of its present run. None if the launcher has exited.
 pub(crate) fn left_running(
     host: &HostRuntime,
     alloc: Global,

@@ -1,4 +1,4 @@
-//! What is told of jobs as objects of JSON, a line each, for programs.
+//! What is reported of jobs as objects of JSON, a line each, for programs.
 
 pub(crate) mod causes;
 pub(crate) mod drift;

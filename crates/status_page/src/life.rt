@@ -1,16 +1,16 @@
-//! Whether the launcher of a status file lives.
+//! Whether the launcher of a status file is running.
 
 use files_and_process::processes::process_at;
 use status_file::LauncherStatus;
 use std::alloc::Global;
 
-/// Whether a launcher lives.
+/// Whether a launcher is running.
 #[derive(Clone, Copy)]
 pub enum Life {
     Lives,
-    /// No process has its number, or one that began at another moment.
+    /// No process has its number, or one that began at another time.
     Gone,
-    /// The system shows no process of others.
+    /// The system hides the processes of others.
     Unknown,
 }
 
@@ -24,12 +24,12 @@ impl Life {
     }
 }
 
-/// Whether the process that wrote the file lives: it has the number, and began at the same tick.
+/// Whether the process that wrote the file is running: a process has its number, and began at the same tick.
 pub(crate) fn life_of(host: &HostRuntime, alloc: Global, launcher: &LauncherStatus<'_>) -> Life {
     match process_at(host, alloc, launcher.pid) {
         Some(seen) if seen.began == launcher.began && !seen.has_ended => Life::Lives,
         Some(_) => Life::Gone,
-        // Where not even the first process is shown, the system hides those of others.
+        // If not even the first process is shown, the system hides those of others.
         None if process_at(host, alloc, 1).is_some() => Life::Gone,
         None => Life::Unknown,
     }
