@@ -1,4 +1,4 @@
--- What a child's command has in its environment beside what the launcher has.
+-- What a child's command has in its environment besides what the launcher has.
 use Rattle.std.specs.Prelude.{◌≡◌, ℕ, List, [], ◌∷◌, codes, fold, bytes_eq, Option, Some, None, if◌then◌else◌}
 use Rattle.files_and_process.specs.declared.run_names.LauncherId.{LauncherId}
 use Rattle.files_and_process.specs.RunNames.{name_of_run}
@@ -8,8 +8,8 @@ use Rattle.history_model.specs.declared.definition.parts.Variable.{Variable}
 abbrev pub Said : Type 0
 Said = Option (Option (List ℕ))
 
--- what is said of a name once these variables were set in order, if `before` was said: the last
--- variable of the name counts, and nothing is said of a name that none has
+-- What is said of a name once these variables were set in order, if `before` was said. The last variable of the name
+-- counts, and nothing is said of a name that none has.
 abbrev pub said_after : List ℕ → Said → List Variable → Said
 said_after name before variables =
     fold (λ said v. if bytes_eq v.name name then Some (Some v.value) else said) before variables

@@ -10,9 +10,9 @@ use std::alloc::{AllocError, Global};
 use std::os::unix::process::CommandExt;
 use std::process::Command;
 
-/// The command that the definition says: its program, which is also the child's own name for itself, its arguments, its
-/// directory, or the place where that is held, and its variables in addition to those of the launcher. What the run itself is given is set
-/// first, so that a variable of the definition with that name has the definition's value. It has no streams yet.
+/// The command that the definition says. It has its program, which is also the child's own name for itself, and its
+/// arguments. It has its directory, or the place where that is held, and its variables besides the launcher's. What the
+/// run itself has is set first, so that the definition's value of such a variable counts. It has no streams yet.
 pub(crate) fn command_of(
     alloc: Global,
     def: &Def,
@@ -37,7 +37,7 @@ pub(crate) fn command_of(
     }
 }
 
-// What the definition says beside the program. The command is lent, so that no `?` has to drop it.
+// What the definition says besides the program. The command is lent, so that no `?` has to drop it.
 fn set_up(
     command: &mut Command,
     def: &Def,

@@ -1,5 +1,6 @@
-//! What a process asks of the system's files and of itself: files for one user and locks, the files that paths of a command line stand
-//! for, the file of a listening socket, the processes of the machine and the name of a run among them, and its own words, limits and streams.
+//! What a process asks of the system's files and of itself. Of files: those for one user, locks, those that paths of a
+//! command line name, and the file of a listening socket. Of processes: those of the machine, and the name of a run
+//! among them. Of itself: its own arguments, limits and streams.
 #![tactic(auto)]
 
 pub mod own_files;

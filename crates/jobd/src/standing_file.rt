@@ -1,4 +1,4 @@
-//! The file on how the launcher stands: held by a lock beside it, and put in place whole.
+//! The status file: held by a lock next to it, and put in place whole.
 
 use crate::whole_file::put_whole;
 use child_edge::{Notice, NoticeKind, System};
@@ -7,7 +7,7 @@ use history_model::{Reading, SECOND, Text};
 use std::alloc::Global;
 use std::{io, mem};
 
-/// The file, with its lock, which is held as long as this lives.
+/// The file, with its lock, which is held until this is dropped.
 #[derive(Drop)]
 pub struct StandingFile<R: System> {
     rt: R,
@@ -22,7 +22,7 @@ pub struct StandingFile<R: System> {
     // Something happened since it was written, and it was tried last at this `up`.
     has_changed: bool,
     tried: Option<u64>,
-    // That it can't be written was told, or waits to be.
+    // That it can't be written was logged, or waits to be.
     is_refused: bool,
     untold: Option<Notice>,
 }
@@ -74,7 +74,7 @@ impl<R: System> StandingFile<R> {
         })
     }
 
-    /// Whether it is to be written at this reading: something changed, and it was not tried within a second.
+    /// Whether it must be written at this clock reading: something changed, and it was not tried within a second.
     pub(crate) fn is_due(&mut self, at: Reading, has_changed: bool) -> bool {
         self.has_changed = self.has_changed || has_changed;
         let is_soon = match self.tried {
@@ -84,12 +84,12 @@ impl<R: System> StandingFile<R> {
         self.has_changed && !is_soon
     }
 
-    /// What it tells is another since it was written.
+    /// What it says has changed since it was written.
     pub(crate) fn note_change(&mut self) {
         self.has_changed = true;
     }
 
-    /// Puts the text in the place of the file. What the system refuses is told once, until it is written again.
+    /// Puts the text in the place of the file. What the system refuses is logged once, until it is written again.
     pub(crate) fn put(&mut self, text: &[u8], at: Reading) {
         self.tried = Some(at.up);
         match self.replace(text) {
@@ -138,7 +138,7 @@ impl<R: System> StandingFile<R> {
         }
     }
 
-    /// What is to be told of it.
+    /// What has to be logged of it.
     pub(crate) fn next_notice(&mut self) -> Option<Notice> {
         self.untold.take()
     }
