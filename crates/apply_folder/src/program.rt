@@ -347,7 +347,12 @@ fn rounds(
             break;
         }
     }
-    report_left(ground.host, ground.alloc, ground.places, progress.ended.as_slice())?;
+    report_left(
+        ground.host,
+        ground.alloc,
+        ground.places,
+        progress.ended.as_slice(),
+    )?;
     let flags = ground.words.flags;
     show_same(
         ground.host,

@@ -24,12 +24,7 @@ pub(crate) fn own_variables(
     Ok(own)
 }
 
-fn named(
-    alloc: Global,
-    launcher: LauncherId,
-    label: &str,
-    run: u64,
-) -> Result<Variable, AllocError>
+fn named(alloc: Global, launcher: LauncherId, label: &str, run: u64) -> Result<Variable, AllocError>
     ensures { IfOk result (λ variable. own_of_run (Some launcher) label.now run ≡ variable ∷ []) }
 {
     let name = Text::copy_of(alloc, RUN_VARIABLE)?;

@@ -124,12 +124,17 @@ fn task_of(command: &Command) -> Task<'_> {
 /// An argument that was not UTF-8 has a [`MARK`] at its end. If it names a file to load or to unload, it is that file's fault. Any other makes the
 /// arguments invalid: 64.
 pub fn jobctl<
-    R: Net + Files<File = File> + Env + Clock + Print + Eprint + Watched + AllocGlobal + Clone + Drop,
->(
-    rt: &R,
-    alloc: Global,
-    words: &[String],
-) -> u8 {
+    R: Net
+        + Files<File = File>
+        + Env
+        + Clock
+        + Print
+        + Eprint
+        + Watched
+        + AllocGlobal
+        + Clone
+        + Drop,
+>(rt: &R, alloc: Global, words: &[String]) -> u8 {
     let settings = match settings_of(rt) {
         Ok(settings) => settings,
         Err(fault) => return tell_setting(rt, fault),
@@ -245,13 +250,7 @@ fn explain_words<R: Print + Eprint>(rt: &R, alloc: Global, words: &[String]) -> 
 
 fn hand_in<
     R: Net + Files<File = File> + Clock + Print + Eprint + Watched + AllocGlobal + Clone + Drop,
->(
-    rt: &R,
-    alloc: Global,
-    session: &mut Session,
-    deed: Deed,
-    paths: &Paths,
-) {
+>(rt: &R, alloc: Global, session: &mut Session, deed: Deed, paths: &Paths) {
     let Ok(files) = files_at(rt, paths.as_slice()) else {
         session.note(want_memory(rt));
         return;

@@ -2,8 +2,8 @@
 
 use crate::clock::now;
 use crate::journal::source::{NONE_NAMED, finds_journal, stands_in};
-use crate::objects::status::status_objects;
 use crate::left::left_running;
+use crate::objects::status::status_objects;
 use crate::objects::why::standing_objects;
 use crate::texts::standing::{failing_in, standing_text};
 use crate::texts::standing_next::standing_lines;

@@ -35,9 +35,7 @@ pub(crate) fn left_running(
     for line in standing.jobs() {
         if let Ok(job) = line.job() {
             let since = present_since(host, alloc, &left, &job, oldest);
-            left.retain(|process| {
-                process.label.as_str() != job.label || process.began < since
-            });
+            left.retain(|process| { process.label.as_str() != job.label || process.began < since });
         }
     }
     left.retain(|process| process.began < oldest);
@@ -55,7 +53,10 @@ fn present_since(
     let Some(child) = job.facts.reasons.child else {
         return oldest;
     };
-    if !left.iter().any(|process| process.label.as_str() == job.label) {
+    if !left
+        .iter()
+        .any(|process| process.label.as_str() == job.label)
+    {
         return oldest;
     }
     match process_at(host, alloc, child.pid) {
