@@ -383,7 +383,8 @@ def left_by(stage, label="www"):
 
 
 def is_there(pid):
-    return os.path.exists(f"/proc/{pid}")
+    """Whether the process runs. One that ended stays until this process has waited for it."""
+    return text_at(f"/proc/{pid}/stat").rpartition(") ")[2][:1] not in ("", "Z", "X")
 
 
 def a_run_has_its_name(stage):
