@@ -394,11 +394,10 @@ impl<T: SettingStore, E: RoundEdge, W: Write> LoopHost for RoundLauncher<T, E, W
         }
     }
 
-    // It is the last that each round asks before it tells what there is to tell.
+    // It is the last that each round asks before it tells what there is to tell. After a text that was handed to the file the next pass comes at once.
     fn forward(&mut self) -> bool {
         let may_go_on = self.host.edge().forward();
-        self.write_status();
-        may_go_on
+        may_go_on | self.write_status()
     }
 
     fn let_all_go(&mut self) {

@@ -24,7 +24,7 @@ pub struct StatusEdge<E: RoundEdge, R: System> {
     file: Option<StandingFile<R>>,
     places: Option<PlacesFile<R>>,
     journal: Option<JournalWatch<R>>,
-    // It is out while the text is written.
+    // It is out while the text is made. Its text stays until all of it is in the file.
     keeper: Option<Keeper>,
 }
 
@@ -216,13 +216,24 @@ impl<E: RoundEdge, R: System> RoundEdge for StatusEdge<E, R> {
         self.edge.take(conn, caller)
     }
 
+    // With the next piece of a text that goes out.
     fn forward(&mut self) -> bool {
-        self.edge.forward()
+        let may_go_on = self.edge.forward();
+        let mut is_left = false;
+        if let Some(file) = &mut self.file {
+            if let Some(keeper) = &self.keeper {
+                is_left = file.go_on(keeper.text.as_slice());
+            }
+        }
+        may_go_on | is_left
     }
 
     fn let_all_go(&mut self) {
         self.edge.let_all_go();
-        if let Some(file) = &self.file {
+        if let Some(file) = &mut self.file {
+            if let Some(keeper) = &self.keeper {
+                file.end(keeper.text.as_slice());
+            }
             file.let_go();
         }
         if let Some(places) = &self.places {
@@ -293,13 +304,11 @@ impl<E: RoundEdge, R: System> RoundEdge for StatusEdge<E, R> {
     fn hand(&mut self, keeper: Keeper, is_whole: bool, at: Reading) {
         if let Some(file) = &mut self.file {
             if is_whole {
-                file.put(keeper.text.as_slice(), at);
+                file.begin(keeper.text.as_slice(), at);
             } else {
                 file.put_off(at);
             }
         }
-        let mut keeper = keeper;
-        keeper.text.clear();
         drop(mem::replace(&mut self.keeper, Some(keeper)));
     }
 }
