@@ -221,8 +221,8 @@ impl<T: SettingStore, E: RoundEdge, W: Write> RoundLauncher<T, E, W> {
         ensures asks { (edge : E) × (E.told edge ≡ E.told self.old.host.edge) × (self.new ≡ lent edge self.old) }
         ensures handed { result ≡ true → (text : List ℕ) × (edge : E) × IsStatusText self.old.host.table text × E.Hands text edge self.new.host.edge }
     {
-        let (at, is_active) = (self.at, self.is_active);
-        match self.host.edge().lend_keeper(at, is_active) {
+        let (at, is_short, is_active) = (self.at, self.is_refused, self.is_active);
+        match self.host.edge().lend_keeper(at, is_short, is_active) {
             Some(keeper) => self.write_by(keeper, at),
             None => false,
         }

@@ -5,6 +5,7 @@ ghost use Rattle.std.specs.Prelude.{◌≡◌, ◌≤◌, ℕ, List, Option, Som
 
 use crate::journal_watch::JournalWatch;
 use crate::keeper::Keeper;
+use crate::memory_want::MemoryWant;
 use crate::places_file::PlacesFile;
 use crate::round_edge::{RoundEdge, SleepEdge};
 use crate::standing_file::StandingFile;
@@ -15,12 +16,14 @@ use history_model::definition::Def;
 use history_model::{Ended, JobNo, Obs, Reading, Refusal};
 use live_loop::{Caller, Origin};
 use mio::{Registry, Token};
+use std::alloc::Global;
 use std::mem;
 
 /// The edge, and what keeps the file, if one is kept.
 #[derive(Drop)]
 pub struct StatusEdge<E: RoundEdge, R: System> {
     edge: E,
+    want: MemoryWant,
     file: Option<StandingFile<R>>,
     places: Option<PlacesFile<R>>,
     journal: Option<JournalWatch<R>>,
@@ -31,6 +34,7 @@ pub struct StatusEdge<E: RoundEdge, R: System> {
 impl<E: RoundEdge, R: System> StatusEdge<E, R> {
     /// The edge, with the file and what keeps it, or with none; with the file that tells the launcher's places, and the watch on its journal.
     pub(crate) fn new(
+        alloc: Global,
         edge: E,
         kept: Option<(StandingFile<R>, Keeper)>,
         places: Option<PlacesFile<R>>,
@@ -42,6 +46,7 @@ impl<E: RoundEdge, R: System> StatusEdge<E, R> {
         };
         StatusEdge {
             edge,
+            want: MemoryWant::new(alloc),
             file,
             places,
             journal,
@@ -242,6 +247,9 @@ impl<E: RoundEdge, R: System> RoundEdge for StatusEdge<E, R> {
     }
 
     fn next_notice(&mut self) -> Option<Notice> {
+        if let Some(notice) = self.want.next_notice() {
+            return Some(notice);
+        }
         if let Some(file) = &mut self.file {
             if let Some(notice) = file.next_notice() {
                 return Some(notice);
@@ -286,7 +294,8 @@ impl<E: RoundEdge, R: System> RoundEdge for StatusEdge<E, R> {
         }
     }
 
-    fn lend_keeper(&mut self, at: Reading, has_changed: bool) -> Option<Keeper> {
+    fn lend_keeper(&mut self, at: Reading, is_short: bool, has_changed: bool) -> Option<Keeper> {
+        self.want.note(is_short);
         if let Some(places) = &mut self.places {
             places.keep(at.up);
         }
