@@ -4,6 +4,7 @@
     tests/words.py [PAGE..]     the pages that users read (USERS), or those that are named: one line a breach, and the status is 1 if there is one
     tests/words.py --all        counts breaches in all pages, page by page; the status is 0
     tests/words.py --crates     counts breaches in helps and messages (texts of crates/*/src) and in doc comments, crate by crate; the status is 0
+    tests/words.py --crates NAME..  lists the breaches in the doc comments of these crates: the status is 1 if there is one
 
 A sentence has at most 30 words; code in it counts as one. A coined word has the field's word in its place: the table is COINED. Code, commands,
 what programs print, and file names are not looked at.
@@ -213,7 +214,16 @@ def in_page(path):
     return [f"{path}:{number}: {it}" for number, unit in units(path) for it in breaches(unit)]
 
 
+def in_comments(path):
+    return [f"{path}:{number}: {it}" for kind, number, unit in units_of_source(read(path)) if kind == "comments" for it in breaches(unit)]
+
+
 def main(words):
+    if words[:1] == ["--crates"] and words[1:]:
+        paths = [path for crate in words[1:] for path in sorted(glob.glob(f"crates/{crate}/src/**/*.rt", recursive=True))]
+        faults = [it for path in paths for it in in_comments(path)]
+        print("\n".join([*faults, f"words: {len(paths)} files, {len(faults)} breaches in doc comments"]))
+        return 1 if faults else 0
     if words == ["--crates"]:
         counts = {}
         for path in sorted(glob.glob("crates/*/src/**/*.rt", recursive=True)):

@@ -12,7 +12,7 @@ use std::{fs, io, mem};
 /// As many bytes of the text are written in one pass of the event loop, at most.
 const PIECE: usize = 65_536;
 
-/// The file, with its lock, which is held as long as this lives.
+/// The file, with its lock, which is held until this is dropped.
 #[derive(Drop)]
 pub struct StandingFile<R: System> {
     rt: R,
@@ -31,7 +31,7 @@ pub struct StandingFile<R: System> {
     // Something happened since it was written, and it was tried last at this `up`.
     has_changed: bool,
     tried: Option<u64>,
-    // That it can't be written was told, or waits to be.
+    // That it can't be written was logged, or waits to be.
     is_refused: bool,
     untold: Option<Notice>,
 }
@@ -86,7 +86,7 @@ impl<R: System> StandingFile<R> {
         })
     }
 
-    /// Whether it is to be written at this clock reading: something changed, it was not tried within a second, and no text is on its way.
+    /// Whether it must be written at this clock reading: something changed, it was not tried within a second, and no text is on its way.
     pub(crate) fn is_due(&mut self, at: Reading, has_changed: bool) -> bool {
         self.has_changed = self.has_changed || has_changed;
         let is_soon = match self.tried {
@@ -96,7 +96,7 @@ impl<R: System> StandingFile<R> {
         self.has_changed && !is_soon && !self.is_going
     }
 
-    /// What it tells is another since it was written.
+    /// What it says has changed since it was written.
     pub(crate) fn note_change(&mut self) {
         self.has_changed = true;
     }
@@ -194,7 +194,7 @@ impl<R: System> StandingFile<R> {
         }
     }
 
-    /// What is to be told of it.
+    /// What has to be logged of it.
     pub(crate) fn next_notice(&mut self) -> Option<Notice> {
         self.untold.take()
     }

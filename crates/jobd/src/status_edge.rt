@@ -1,5 +1,5 @@
-//! An edge over another one, by which the file on how the launcher stands is kept: each call is that of the other edge, and what becomes of runs is
-//! noted.
+//! An edge over another one, which keeps the status file. Each call is that of the other edge, and what becomes of runs
+//! is noted.
 
 ghost use Rattle.std.specs.Prelude.{◌≡◌, ◌≤◌, ℕ, List, Option, Some};
 
@@ -32,7 +32,8 @@ pub struct StatusEdge<E: RoundEdge, R: System> {
 }
 
 impl<E: RoundEdge, R: System> StatusEdge<E, R> {
-    /// The edge, with the file and what keeps it, or with none; with the file that tells the launcher's places, and the watch on its journal.
+    /// The edge, with the file and what keeps it, or with none. It has the file that says the launcher's places, and
+    /// the watch on its journal.
     pub(crate) fn new(
         alloc: Global,
         edge: E,
@@ -161,7 +162,7 @@ impl<E: RoundEdge, R: System> SleepEdge for StatusEdge<E, R> {
         self.edge.slept()
     }
 
-    // From now on it is the reading of what is noted.
+    // From now on this clock reading is that of what is noted.
     fn note_time(&mut self, at: Reading) {
         self.edge.note_time(at);
         if let Some(keeper) = &mut self.keeper {
@@ -186,7 +187,7 @@ impl<E: RoundEdge, R: System> RoundEdge for StatusEdge<E, R> {
         self.edge.over_from(job)
     }
 
-    // Each round begins with it: the first one finds all opened that the launcher stands on.
+    // Each pass of the loop begins with it. In the first one all is open that the launcher needs.
     fn register(&mut self, registry: &Registry, token: Token) -> bool {
         if let Some(places) = &mut self.places {
             places.begin();

@@ -6,7 +6,8 @@ use std::io::Write;
 use std::os::unix::fs::{OpenOptionsExt, PermissionsExt, lchown};
 use std::{fs, io};
 
-/// Writes the text beside the path, and puts it there, in the place of what is there. The group, if one is named by its number, may read it.
+/// Writes the text next to the path, and puts it there, in the place of what is there. The group, if one is named by
+/// its number, may read it.
 pub(crate) fn put_whole<R: System>(
     rt: &R,
     path: &str,

@@ -1,4 +1,4 @@
--- The settings that a launcher's store has to hold, as they stand in memory, and what holds of the store at hand.
+-- The settings that a launcher's store must hold, as they are in memory, and what holds of the store at hand.
 use Rattle.std.specs.Prelude.{◌≡◌, ◌≤◌, ℕ, Bool, List, ◌∷◌, map, Option, Some, MatchOption, IsTrue, length, pos, false, ⊤}
 use Rattle.std.specs.List.{filter, list_any}
 use Rattle.sqlite.specs.declared.types.Value.TheVariants.{Int}
@@ -37,7 +37,7 @@ is_known_as label known = is_same label known.setting.label
 abbrev pub found_in : List Known → Label → Option Known
 found_in known label = first (filter (is_known_as label) known)
 
--- the label has no setting, and as many have one as may
+-- the label has no setting, and the most labels have one
 abbrev pub IsOneTooMany : List Known → Label → Type 0
 IsOneTooMany known label =
     (MOST_LABELS ≤ length known) × (list_any (is_known_as label) known ≡ false)
@@ -47,11 +47,11 @@ abbrev pub known_as : Label → Bool → ℕ → Known
 known_as label disabled changed =
     record { setting = record { label = label; disabled = disabled }; changed = changed }
 
--- of each label both lists tell the same
+-- both lists say the same of each label
 abbrev pub TellAlike : List Known → List Known → Type 0
 TellAlike one other = (label : Label) → found_in one label ≡ found_in other label
 
--- the list tells each second of these
+-- the list has each second of these
 abbrev pub TellsStamps : List Known → List Change → Type 0
 TellsStamps known stamps =
     (label : Label) (second : ℕ) → second_in stamps label ≡ Some second →
@@ -74,8 +74,8 @@ pub record HasMade (s : State) (label : List ℕ) (disabled : Bool) (changed : �
 abbrev pub AtHand : {S : Type 0} → Ghosts S → Option (Held S) → List Known → Type 0
 AtHand g store known = MatchOption store ⊤ (λ s. HoldsKnown (state g s) known)
 
--- A launcher's store holds these settings: it has to, and the store at hand does. One that is opened
--- anew is held against the schema of a store.
+-- A launcher's store holds these settings: it must, and the store at hand does. A store that is opened again is
+-- compared with the schema of a store.
 abbrev pub HoldsLast : {S : Type 0} → Ghosts S → Schema → Option (Held S) → List Known →
     List Setting → Type 0
 HoldsLast g pattern store known settings =

@@ -31,12 +31,12 @@ pub enum NotKept {
     NoMemory,
     /// The label has no setting, and `MOST_LABELS` have one.
     TooMany,
-    /// The store refused it, or could not be opened anew.
+    /// The store refused it, or could not be opened again.
     Refused,
 }
 
-/// The store at its place, with the settings that it has to hold. A setting that is refused shuts it. The next one opens it anew, and
-/// what its database then has otherwise is written back before that one is made. Once it is let go, its database is closed whole.
+/// The store at its place, with the settings that it must hold. A refused setting shuts it. The next setting opens it again, and before
+/// that setting is made, what its database then has otherwise is written back. When it is dropped, it closes its database whole.
 pub struct LastingSettings<S: Alter, P: StorePlace<Connection<S>>> {
     alloc: Global,
     pub place: P,
@@ -45,9 +45,9 @@ pub struct LastingSettings<S: Alter, P: StorePlace<Connection<S>>> {
     /// One that a refusal shut. It keeps the place from others.
     shut: Option<OverrideStore<S>>,
     pub known: Vec<Known>,
-    /// The schema of a store, against which one is held that is opened anew.
+    /// The schema of a store. A store that is opened again is compared with it.
     pub pattern: Schema,
-    /// Whether it is told that there are too many labels.
+    /// Whether it has reported that there are too many labels.
     is_full: bool,
 }
 
@@ -71,7 +71,7 @@ impl<S: Alter + Drop, P: StorePlace<Connection<S>> + Drop> Drop for LastingSetti
     }
 }
 
-// Opens the store anew, so that what others did to its files meanwhile is seen and mended, and closes it.
+// Opens the store again, to see and mend what others did to its files meanwhile, and closes it.
 fn settle<S: Alter + Drop, P: StorePlace<Connection<S>>>(
     alloc: Global,
     place: &P,
@@ -140,7 +140,7 @@ pub fn lasting<S: Alter + Drop, P: StorePlace<Connection<S>> + Drop>(
 }
 
 impl<S: Alter + Drop, P: StorePlace<Connection<S>> + Drop> LastingSettings<S, P> {
-    // The store, taken out. It is opened anew if it is shut.
+    // The store, taken out. It is opened again if it is shut.
     fn at_hand(&mut self) -> Result<OverrideStore<S>, StoreFault>
         ensures pattern { self.new.pattern ≡ self.old.pattern }
         ensures known { self.new.known ≡ self.old.known }
@@ -176,7 +176,7 @@ impl<S: Alter + Drop, P: StorePlace<Connection<S>> + Drop> LastingSettings<S, P>
         }
     }
 
-    // Shuts the store, which refused a setting. That is logged, unless its reason was since the store last took one.
+    // Shuts the store, which refused a setting. It reports that, unless it has reported the reason since the store last took one.
     fn shut(&mut self, store: OverrideStore<S>, fault: StoreFault)
         ensures pattern { self.new.pattern ≡ self.old.pattern }
         ensures known { self.new.known ≡ self.old.known }
@@ -186,8 +186,8 @@ impl<S: Alter + Drop, P: StorePlace<Connection<S>> + Drop> LastingSettings<S, P>
         self.shut = Some(store);
     }
 
-    /// Makes the setting in the store, which is opened anew first if it is shut: true, and it lasts. What is known stays as it was, so
-    /// the caller has to note it. False: the store is shut, and the setting may be in its database.
+    /// Makes the setting in the store, which it opens again first if it is shut. True: the setting lasts. What is known stays as it was,
+    /// so the caller must note it. False: the store is shut, and the setting may be in its database.
     fn write(&mut self, label: &str, disabled: bool, changed: u64) -> bool
         requires label { IsTrue (is_label label.now) }
         requires second { changed ≤ MAX_WALL }
@@ -215,7 +215,7 @@ impl<S: Alter + Drop, P: StorePlace<Connection<S>> + Drop> LastingSettings<S, P>
         }
     }
 
-    // Whether the label may have a setting. Room for one more is then there. That there are too many labels is told once.
+    // Whether the label may have a setting. There is room for one more then. It reports once that there are too many labels.
     fn make_room(&mut self, label: &str) -> Result<(), NotKept>
         ensures pattern { self.new.pattern ≡ self.old.pattern }
         ensures store { self.new.store ≡ self.old.store }
@@ -236,9 +236,9 @@ impl<S: Alter + Drop, P: StorePlace<Connection<S>> + Drop> LastingSettings<S, P>
         }
     }
 
-    /// As `set` of `SettingStore`, which is this: once it answers Ok the setting lasts, and the store has all that was set, whatever
-    /// was refused before. Err: nothing of it has to be held, though the database may have it until the store is opened anew. A label is
-    /// one too many exactly if it has no setting and `MOST_LABELS` have one.
+    /// This is `set` of `SettingStore`. Once it returns Ok the setting lasts, and the store has all that was set, whatever was refused
+    /// before. Err: the store need not hold the setting, though the database may have it until the store is opened again. A label is one
+    /// too many exactly if it has no setting and `MOST_LABELS` have one.
     pub fn keep(&mut self, label: &str, disabled: bool, changed: u64) -> Result<(), NotKept>
         requires label { IsTrue (is_label label.now) }
         requires second { changed ≤ MAX_WALL }

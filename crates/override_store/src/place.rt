@@ -1,12 +1,12 @@
-//! Where a launcher's store stands, as the system or a test has it.
+//! The place of a launcher's store, as the system or a test has it.
 
 use crate::StoreFault;
 use std::alloc::Global;
 
-/// What a store has to tell.
+/// What a store reports.
 #[derive(Clone, Copy)]
 pub enum StoreNews {
-    /// A setting was refused, or the store could not be opened anew.
+    /// A setting was refused, or the store could not be opened again.
     Refused(StoreFault),
     /// A setting of a new label was refused: `MOST_LABELS` have one.
     TooMany,
@@ -16,7 +16,7 @@ pub enum StoreNews {
     Anew,
 }
 
-/// Which refusals of an open are told.
+/// Which refusals of an open are reported.
 #[derive(Clone, Copy)]
 pub enum Telling {
     /// Those whose reason was not logged since `StoreNews::Anew`.
@@ -30,7 +30,7 @@ pub trait StorePlace<C> {
     /// A new connection to the database. No other connection that it gave is there any more. No clause says what it finds: the store looks.
     fn open(&self, alloc: Global, telling: Telling) -> Result<C, StoreFault>;
 
-    /// Moves what a log beside the database holds into it, and lets it go.
+    /// Moves what a log next to the database holds into it, and drops the connection.
     fn close(&self, conn: C);
 
     fn tell(&self, news: StoreNews);

@@ -1,4 +1,4 @@
-//! A store that is opened anew: its database is made to have what it has to hold.
+//! A store that is opened again: its database is made to have what it must hold.
 
 ghost use Rattle.std.specs.Prelude.{◌≡◌, ◌⊎◌, IfErr, IfOk, IsTrue, None};
 ghost use Rattle.sqlite_catalog.specs.Listing.{IsSound};
@@ -46,7 +46,7 @@ pub(crate) fn open_all<S: Alter + Drop>(
     }
 }
 
-// A refusal is told.
+// It reports a refusal.
 fn open_at<S: Alter + Drop, P: StorePlace<Connection<S>>>(
     alloc: Global,
     place: &P,
@@ -168,7 +168,8 @@ fn look<S: Alter + Drop, P: StorePlace<Connection<S>>>(
     }
 }
 
-/// The store opened anew, which has what is known, and whether that had to be written back. Nothing is answered before it was read back.
+/// The store opened again, with all that is known, and whether that had to be written back. If so, it reads the store again before it
+/// returns.
 pub(crate) fn renewed<S: Alter + Drop, P: StorePlace<Connection<S>>>(
     alloc: Global,
     place: &P,
@@ -215,7 +216,7 @@ fn look_again<S: Alter + Drop, P: StorePlace<Connection<S>>>(
     }
 }
 
-// Makes a store that has what was found have what is known, and lets it go.
+// Makes a store that has what was found have what is known, and drops it.
 fn mend<S: Alter + Drop>(
     store: OverrideStore<S>,
     known: &[Known],

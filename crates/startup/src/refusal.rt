@@ -1,4 +1,4 @@
-//! Why a store can't be used, and how that is told.
+//! Why a store can't be used, and how that is reported.
 
 use crate::reporting::{Level, refuse, report};
 use exit_status::{NO_MEMORY, STORE};
@@ -97,7 +97,7 @@ fn code_number(code: ErrorCode) -> u32 {
     }
 }
 
-/// The status of the refusal, which is told unless memory was wanting.
+/// Reports the refusal, unless memory ran out, and gives its status.
 pub(crate) fn refuse_store(
     rt: &impl Eprint,
     level: Level,

@@ -1,4 +1,4 @@
-//! The store of a launcher: opened, served from, and settled once the launcher has let go of it.
+//! The store of a launcher: opened, served from, and settled once the launcher has released it.
 
 use crate::connections::{Media, MediaConnection, Task, connection_over, over_files};
 use crate::looking::{Found, copied_connection, look};
@@ -18,10 +18,10 @@ use std::cell::Cell;
 use std::hash::{BuildHasher, RandomState};
 use std::io;
 
-/// As many pages of the store are kept in memory.
+/// How many pages of the store are kept in memory.
 const CACHE_PAGES: usize = 64;
 
-/// The log beside the store is moved into the store once it has so many pages, which is a megabyte.
+/// How many pages the log next to the store has when it is moved into the store: a megabyte.
 const LOG_PAGES: usize = 256;
 
 /// Of so many reasons at most each is logged once, until the store takes a setting.
@@ -33,13 +33,19 @@ pub trait StoreUser {
     fn use_store<T: SettingStore + Drop>(self, store: T, settings: Vec<Setting>) -> Result<u8, u8>;
 }
 
-/// Opens the store at the path, which is made, for this user alone, if it is not there, and has it used. A setting that its disk refuses
-/// shuts it, and the next one opens it anew. At the end it is opened once more, and what its files have otherwise than it was told is
-/// written again, which is told; then what the log beside it holds is moved into its file. That this is refused is told, unless another
-/// launcher has the store by then. A store whose disk is full, so that it can't be opened, is used shut, if a copy of it in memory can be read: its
-/// settings hold, and the next setting opens it. That is told. Status 5, with the user given back, if it is no store or can't be opened otherwise, as
-/// while another launcher has it open, if its tables or its settings are refused, or if its file is the lock of another place or one that the
-/// clearing of the spool may remove.
+/// Opens the store at the path, and has the user use it. The store is made, for this user alone, if it is not there. A
+/// setting that its disk refuses shuts it, and the next one opens it again.
+///
+/// At the end it is opened once more. Settings that its files do not have as the launcher set them are written again,
+/// which is reported. Then the contents of the log next to it are moved into its file. A refusal of this is reported,
+/// unless another launcher has the store by then.
+///
+/// A store whose disk is full, so that it can't be opened, is used shut, if a copy of it in memory can be read. Its
+/// settings then hold, and the next setting opens it. This is reported.
+///
+/// Status 5, with the user given back, if it is not a store, or can't be opened otherwise, as while another launcher
+/// has it open. Status 5 too if its tables or its settings are refused, or if its file is the lock of another place.
+/// The same holds for a file that the clearing of the spool may remove.
 pub fn with_store<U: StoreUser>(
     rt: &HostRuntime,
     alloc: Global,
@@ -108,7 +114,8 @@ fn used_over<U: StoreUser>(
     }
 }
 
-// The settings at the place. What the connection stood on goes, if it is refused: over any store, since a real one would be let go part by part.
+// The settings at the place. If it is refused, what is under the connection is dropped. This is over any store, since a
+// real one would be dropped part by part.
 fn settings_of<S: Alter + Drop, P: StorePlace<Connection<S>> + Drop>(
     alloc: Global,
     place: P,
@@ -138,13 +145,13 @@ fn look_at_own(rt: &HostRuntime, alloc: Global, plan: &Plan) -> Result<Found, St
     }
 }
 
-// Makes the file, if it is not there, and tells which other place it is, if any.
+// Makes the file, if it is not there, and says which other place it is, if any.
 fn private_file(rt: &HostRuntime, alloc: Global, plan: &Plan) -> io::Result<Option<&'static str>> {
     make_private(rt, plan.places.store.as_str())?;
     taken_for_store(rt, alloc, plan)
 }
 
-/// Where a launcher's store stands among the files of the system.
+/// Where a launcher's store is among the files of the system.
 #[derive(Drop)]
 struct StoreFiles<'a> {
     rt: &'a HostRuntime,
@@ -207,7 +214,7 @@ impl StorePlace<MediaConnection> for StoreFiles<'_> {
     }
 }
 
-// Why the store was not opened, which is told as it is asked for.
+// Why the store was not opened. It reports that as `telling` says.
 fn fault_of(place: &StoreFiles<'_>, telling: Telling, refusal: StoreRefusal) -> StoreFault {
     let is_told = match telling {
         Telling::New => place.is_new(refusal.number()),

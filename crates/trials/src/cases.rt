@@ -1,4 +1,4 @@
-//! All cases of calls, and the one function that tries each. A line of what is shown stands for one case or more.
+//! All cases of calls, and the one function that tries each. A line of what is shown is for one case or more.
 
 use crate::edges::{control_stage, further_clients, refused, system};
 use crate::memory_stage::Stage;
@@ -35,7 +35,7 @@ pub enum Case {
     NoJournal,
 }
 
-/// What is shown, and the cases that it stands for.
+/// What is shown, and the cases that it is for.
 pub type Line = (&'static str, &'static [Case]);
 
 /// Whether the case goes as it says.

@@ -1,5 +1,4 @@
-//! A launcher for trials: its edge answers by a script, its store of settings and its journal are in memory. Each of the three
-//! can be told to refuse.
+//! A launcher for trials: its edge answers by a script, its store of settings and its journal are in memory. Each of the three can be made to refuse.
 mod handed_edge;
 mod memory_store;
 mod sink;

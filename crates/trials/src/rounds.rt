@@ -1,4 +1,4 @@
-//! Rounds of the loop over an edge: refusals, the ends of real children, and what may be left out.
+//! Passes of the event loop over an edge: refusals, the ends of real children, and what may be left out.
 
 pub mod ends;
 pub mod pair;

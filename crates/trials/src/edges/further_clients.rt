@@ -12,7 +12,7 @@ pub struct Further {
     place: Place,
 }
 
-/// A job with two clients has no room, and four clients of all jobs are as many as may be. While others wait a job has one.
+/// A job with two clients has no room, and there are at most four clients of all jobs. While others wait a job has one.
 const ROOM: CallerRoom = CallerRoom {
     of_a_job: 2,
     in_all: 4,

@@ -1,4 +1,4 @@
-//! The edge over a system that refuses each call: what it answers, counts, keeps and tells.
+//! The edge over a system that refuses each call: what it answers, counts, keeps and reports.
 
 use crate::edges::calls::{Jobs, Told, are_answered, jobs_of};
 use crate::edges::places::edge_over;
@@ -6,8 +6,7 @@ use crate::edges::refusing::{Found, Grants, Refusing, new_refusing};
 use child_edge::{EdgeCall, OsEdge, Scripted};
 use std::io::ErrorKind;
 
-/// How every call fails, the child that starts if one does, the calls, how many of them fail, and what is then told, if that is
-/// looked at.
+/// How every call fails, the child that starts if one does, the calls, how many of them fail, and what is then reported, if that is looked at.
 pub struct Refused {
     kind: ErrorKind,
     child: Option<Found>,
@@ -22,7 +21,7 @@ const LOST: Option<Found> = Some(Found {
     refusals: u32::MAX,
 });
 
-/// One with a process id that no child has.
+/// One with a PID that no child has.
 const NO_CHILD: Option<Found> = Some(Found {
     pid: 0,
     refusals: u32::MAX,
@@ -53,7 +52,7 @@ const CLOSE: EdgeCall = EdgeCall::Close { job: 0, conn: 1 };
 
 const RELEASE: EdgeCall = EdgeCall::Release { job: 0 };
 
-/// Each call is answered by its fault, want of memory told apart, and counted; a close and a release count nothing.
+/// Each call is answered by its fault, want of memory distinguished, and counted; a close and a release count nothing.
 pub const NO_MEMORY: &Refused = &Refused {
     kind: ErrorKind::OutOfMemory,
     child: None,
@@ -86,7 +85,7 @@ pub const NO_RIGHT: &Refused = &Refused {
     told: None,
 };
 
-/// A child that can't be waited for is kept, and told; another is started beside it.
+/// A child that can't be waited for is kept and reported; another is started next to it.
 pub const A_LOST_CHILD: &Refused = &Refused {
     kind: ErrorKind::PermissionDenied,
     child: LOST,
@@ -108,7 +107,7 @@ pub const A_LOST_CHILD: &Refused = &Refused {
     ]),
 };
 
-/// A process id of 0 is no child.
+/// A PID of 0 is not a child.
 pub const CHILD_0: &Refused = &Refused {
     kind: ErrorKind::PermissionDenied,
     child: NO_CHILD,
@@ -123,7 +122,7 @@ const PLAIN: &str =
 const FILED: &str =
     "{\"Label\":\"a\",\"Program\":\"/bin/x\",\"StandardInPath\":\"/in\",\"inetdCompatibility\":{\"Wait\":false},\"Sockets\":{\"s\":{\"SockServiceName\":7}}}";
 
-/// Whether these lines wait to be told, and no others.
+/// Whether these lines wait to be printed, and no others.
 fn are_told(edge: &mut OsEdge<Refusing>, lines: &[&str]) -> bool {
     let mut are_so = true;
     for line in lines {
@@ -136,7 +135,7 @@ fn are_told(edge: &mut OsEdge<Refusing>, lines: &[&str]) -> bool {
     are_so && is_all
 }
 
-/// Whether the calls are answered, counted and told as it says.
+/// Whether the calls are answered, counted and reported as it says.
 fn goes(edge: &mut OsEdge<Refusing>, jobs: &Jobs, refused: &Refused) -> bool {
     let are_answered = are_answered(edge, jobs, refused.calls);
     let are_counted = edge.failures() == refused.failures;
@@ -147,7 +146,7 @@ fn goes(edge: &mut OsEdge<Refusing>, jobs: &Jobs, refused: &Refused) -> bool {
     are_answered && are_counted && are_told
 }
 
-/// Whether each refusal of the system is counted, kept and told.
+/// Whether each refusal of the system is counted, kept and reported.
 pub fn is_so(rt: &HostRuntime, refused: &Refused) -> Option<bool> {
     let system = new_refusing(rt, refused.kind, refused.child, Grants::Nothing)?;
     let mut edge = edge_over(system, "/none")?;

@@ -24,7 +24,7 @@ pub enum Step {
     IsOver(JobNo, (JobNo, u64)),
     /// No child is over from this job's number on.
     NoneIsOver(JobNo),
-    /// So many calls have failed.
+    /// This many calls have failed.
     HasFailed(u64),
     /// Job 0 has sockets, by another bind than at the last such step; or it has none.
     HasSockets(bool),
@@ -168,7 +168,7 @@ fn comes(
     false
 }
 
-/// Whether each step goes well, over an edge and a poll of its own.
+/// Whether each step succeeds, over an edge and a poll of its own.
 fn all_come(rt: &HostRuntime, place: Place<'_>, steps: &[Step]) -> Option<bool> {
     let mut edge = edge_over(rt.clone().ok()?, place.folder)?;
     let Some(mut watch) = new_watch(rt) else {

@@ -38,7 +38,7 @@ const KILL: EdgeCall = EdgeCall::Kill { job: 0, run: 1 };
 
 const BIND: EdgeCall = EdgeCall::Bind { job: 0 };
 
-/// Of a child that runs and one that has ended, the second alone is over, from its job's number on and no further, until it is polled.
+/// Of a child that runs and one that has ended, only the second is over, from its job's number on and no further, until it is polled.
 const OVER: &Scene = &Scene {
     name: "over",
     scripts: ["exec sleep 60", "exit 3"],
@@ -57,7 +57,7 @@ const OVER: &Scene = &Scene {
     ],
 };
 
-/// A run whose end was told has no child: a poll, TERM and KILL are refused, and so is a second start of a run that goes on.
+/// A run whose end was reported has no child: a poll, TERM and KILL are refused, and so is a second start of a run that goes on.
 const AGAIN: &Scene = &Scene {
     name: "again",
     scripts: ["exit 7", "exec sleep 60"],
@@ -80,7 +80,7 @@ const AGAIN: &Scene = &Scene {
     ],
 };
 
-/// A child that has ended keeps its process id until it is polled: TERM and KILL are done, and it is told to have ended as it did.
+/// A child that has ended keeps its PID until it is polled: TERM and KILL are done, and the poll reports how it ended.
 const ENDED: &Scene = &Scene {
     name: "ended",
     scripts: ["exit 3", ":"],
@@ -94,7 +94,7 @@ const ENDED: &Scene = &Scene {
     ],
 };
 
-/// Each bind has a number of its own, while its sockets stand.
+/// Each bind has a number of its own, while its sockets are open.
 const BINDS: &Scene = &Scene {
     name: "binds",
     scripts: ["exit 0", ":"],

@@ -1,6 +1,6 @@
-//! The calls that leave nothing if they are refused: those that make a part of a job, that read or write a text as a whole (lines,
-//! words, a zone file), and the making of an edge in memory; and those of a feed of lines, and a replay, which leave what they had. With
-//! memory each makes what it was to make.
+//! The calls that leave nothing if they are refused. They make a part of a job, or read or write a text as a whole (lines, arguments, a zone file),
+//! or make an edge in memory. There are also the calls of a feed of lines, and of a replay, which leave what they had. With memory each makes what it
+//! was to make.
 
 ghost use Rattle.std.specs.Prelude.{◌≤◌};
 
@@ -100,7 +100,7 @@ const REQUEST: &str = "{\"req\":\"load\",\"def\":\"{\\\"Label\\\":\\\"a\\\"}\",\
 const REQUEST_LINE: &str =
     "{\"F\":false,\"def\":\"{\\\"Label\\\":\\\"a\\\"}\",\"req\":\"load\",\"w\":true}\n";
 
-/// The line of the reading of the load, and that of a header of this reading.
+/// The line of the clock reading of the load, and that of a header of this clock reading.
 const CLOCK_LINE: &[u8] = b"{\"ev\":\"clock\",\"up\":0,\"wall\":1700000000}\n";
 
 const PLAIN_HEADER_LINE: &[u8] =
@@ -164,7 +164,7 @@ macro_rules! told {
     };
 }
 
-/// The reading of the load.
+/// The clock reading of the load.
 fn at_load() -> Reading
     ensures { result.up ≤ MAX_UP }
 {

@@ -1,4 +1,4 @@
-//! An edge whose clock and paths are handed in. It answers what is ordered by a script, and lists it.
+//! An edge whose clock and paths the test sets. It answers what is ordered by a script, and lists it.
 
 ghost use Rattle.std.specs.Prelude.{None};
 
@@ -22,9 +22,9 @@ pub const ABSENT: Obs = Obs {
     stamp: 0,
 };
 
-/// An edge to which the clock and the sights of paths are handed.
+/// An edge for which the test sets the clock and the observations of paths.
 pub trait Handed: ChildEdge + SleepEdge + PathEdge + SocketEdge {
-    /// From now on the clocks stand so, the machine slept so many milliseconds, and this is at the paths.
+    /// From now on the clocks show this, the machine slept this many milliseconds, and this is at the paths.
     fn hand(&mut self, now: Reading, slept: u64, sights: Sights);
 
     /// What was ordered, with the answers.

@@ -24,7 +24,7 @@ pub const START: Reading = Reading {
     wall: 1_700_000_000,
 };
 
-/// An edge that gives the answers beside these calls.
+/// An edge that gives these calls their answers.
 pub fn edge(alloc: Global, calls: &[(EdgeCall, Scripted)]) -> Option<HandedEdge> {
     let mut answers = Vec::new(alloc);
     for (_call, answer) in calls {
@@ -62,8 +62,8 @@ fn disabled(alloc: Global, names: &[&str]) -> Result<Vec<Setting>, AllocError> {
     Ok(held)
 }
 
-/// What a launcher is made of: a header of this zone and `up`, a store that disables these labels and takes each setting, and an edge that
-/// gives the answers beside these calls.
+/// What a launcher is made of: a header of this zone and `up`, a store that disables these labels and takes each setting, and an edge. The edge gives
+/// these calls their answers.
 pub fn parts_of(
     alloc: Global,
     zone: &str,
@@ -94,7 +94,7 @@ pub fn parts_of(
 
 /// A launcher, whatever it is made of.
 pub trait Launched {
-    /// A launcher of the parts, whose journal takes so many writes.
+    /// A launcher of the parts, whose journal takes this many writes.
     fn open(alloc: Global, parts: Parts, writes: usize) -> Result<Self, HostFault>;
 
     /// What it replies to the input.
@@ -103,7 +103,7 @@ pub trait Launched {
     /// How many calls it has made.
     fn calls(&mut self) -> usize;
 
-    /// Whether its journal was closed, and that was not told yet.
+    /// Whether its journal was closed, and that was not reported yet.
     fn has_closed(&mut self) -> bool;
 
     /// What is left of it.

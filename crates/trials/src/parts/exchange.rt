@@ -4,11 +4,11 @@ use crate::parts::exchange::Step::*;
 use socket_demand::{Exchange, ExchangeFault};
 use std::alloc::Global;
 
-/// What is told of an exchange, and what is expected of it.
+/// What happens to an exchange, and what is expected of it.
 pub enum Step {
     /// A piece of the request, and how it is refused.
     Piece(&'static str, Option<ExchangeFault>),
-    /// So many bytes more of the request, and how they are refused.
+    /// This many bytes more of the request, and how they are refused.
     Bytes(usize, Option<ExchangeFault>),
     RequestEnd,
     /// The request is this, or so long.
@@ -16,9 +16,9 @@ pub enum Step {
     AskedBytes(usize),
     /// A piece of the reply, and how many bytes of it are taken.
     Reply(&'static str, usize),
-    /// So many bytes of the reply, and how many of them are taken.
+    /// This many bytes of the reply, and how many of them are taken.
     ReplyBytes(usize, usize),
-    /// So many bytes were sent.
+    /// This many bytes were sent.
     Sent(usize),
     ReplyEnd,
     /// What is left to send is this, or so long.

@@ -73,7 +73,7 @@ pub fn again(alloc: Global, kind: Kind, line: &str) -> Result<Vec<u8>, ReadFault
     }
 }
 
-/// Whether the case is written again as it stands, or as stands behind ` = `; or is refused. Not if memory ran out.
+/// Whether the case is written again as it is, or as what follows ` = `; or is refused. False if memory ran out.
 fn is_kept(alloc: Global, kind: Kind, is_taken: bool, case: &str) -> bool {
     let (line, full) = case.split_once(" = ").unwrap_or((case, case));
     match (placed(alloc, line), placed(alloc, full)) {

@@ -1,5 +1,5 @@
-//! Rounds of the loop over the real system, with children of its own. The launcher's store and its journal are in memory; the jobs are loaded by
-//! turns, and a client of the control socket asks the rest.
+//! Passes of the event loop over the real system, with children of its own. The launcher's store and its journal are in memory. The jobs are loaded
+//! by turns, and a client of the control socket asks the rest.
 
 use crate::edges::control_stage::heard;
 use crate::edges::places::new_folder;
@@ -43,7 +43,7 @@ pub struct Ends {
     pub steps: &'static [Step],
 }
 
-/// So many rounds a case has at most.
+/// How many passes a case has at most.
 const MOST: u32 = 6_000;
 
 /// How long it waits between two looks at what is to come, in milliseconds: an end by KILL is a second away.
@@ -160,7 +160,7 @@ fn is_whole(line: &[u8]) -> bool {
     }
 }
 
-/// What a case is played with: the loop, its client, what was replied so far, and how many rounds are left.
+/// What a case is played with: the loop, its client, what was replied so far, and how many passes are left.
 #[derive(Drop)]
 struct Stage<'a, R, H> {
     rt: &'a R,
@@ -172,7 +172,7 @@ struct Stage<'a, R, H> {
 }
 
 impl<R: System, H: LoopHost + Drop> Stage<'_, R, H> {
-    // Makes a round, if one is left. Whether the loop goes on.
+    // Makes a pass, if one is left. It returns whether the loop goes on.
     fn goes_on(&mut self) -> bool {
         if self.left == 0 {
             return false;
@@ -181,7 +181,7 @@ impl<R: System, H: LoopHost + Drop> Stage<'_, R, H> {
         matches!(round(self.rt, self.rt.alloc(), &mut self.live), Ok(false))
     }
 
-    // Sends the request, and makes rounds until its reply has come.
+    // Sends the request, and makes passes until its reply has come.
     fn reply_to(&mut self, request: &str) -> Option<Vec<u8>> {
         let sent = self.client.write(request.as_bytes()).ok()?;
         if sent != request.len() {
@@ -296,7 +296,7 @@ fn asked_by(rt: &HostRuntime, folder: &str) -> Option<(ControlSocket, UnixStream
     Some((control, client))
 }
 
-/// Plays the steps over the launcher. Gives whether each went as it says, what was replied, and the launcher.
+/// Plays the steps over the launcher. It returns whether each went as it says, what was replied, and the launcher.
 fn played<R: System, H: LoopHost + Drop>(
     rt: &R,
     host: H,

@@ -1,5 +1,4 @@
-//! Two launchers to which the same is told: one as the loop tells it, which leaves out what may change nothing, and one that is
-//! told everything.
+//! Two launchers that get the same: one gets what its loop delivers, which leaves out what may change nothing, and one gets everything.
 
 use crate::memory_stage::{
     ABSENT, Handed, LINES, Launched, PATHS, START, Sights as Seen, Stage, parts_of,
@@ -24,11 +23,11 @@ struct Pair<T: SettingStore, E: Handed, W: Write> {
     seen: Seen,
 }
 
-/// So many milliseconds the machine had slept when the launcher began.
+/// How many milliseconds the machine had slept when the launcher began.
 const BEFORE: u64 = 7_000;
 
 impl<T: SettingStore, E: Handed, W: Write> Pair<T, E, W> {
-    // The one launcher is told what its loop tells it, the other the reading and each sight.
+    // The one launcher gets what its loop delivers, the other the clock reading and each observation.
     fn round(&mut self, alloc: Global) {
         let awake = Reading {
             up: self.at.up.saturating_sub(self.counted),
@@ -100,7 +99,7 @@ impl<T: SettingStore, E: Handed, W: Write> Pair<T, E, W> {
     }
 }
 
-/// A launcher whose edge gives the answers beside these calls.
+/// A launcher whose edge gives the stream's calls their answers.
 fn staged<H: Launched + Drop>(alloc: Global, stream: &Stream) -> Option<H> {
     let parts = parts_of(alloc, "UTC0", 0, &[], stream.orders)?;
     H::open(alloc, parts, LINES).ok()
@@ -117,8 +116,8 @@ fn lines_of<H: Launched>(host: H) -> usize {
     lines
 }
 
-/// Whether the two launchers answer each step of the stream alike, have ordered the same after each, and in the end what stands beside the steps;
-/// and both launchers again.
+/// Whether the two launchers answer each step of the stream alike, have ordered the same after each, and in the end what the stream says; and both
+/// launchers again.
 fn played<T: SettingStore + Drop, E: Handed + Drop, W: Write + Drop>(
     alloc: Global,
     host: Host<T, E, W>,
@@ -154,8 +153,8 @@ fn played<T: SettingStore + Drop, E: Handed + Drop, W: Write + Drop>(
     Some((are_alike, host, whole))
 }
 
-/// Says whether both launchers answer each step of the stream alike, have ordered the same after each step, and in the end what
-/// stands beside the steps, and whether the journal of the one is shorter by so many lines.
+/// Returns whether both launchers answer each step of the stream alike, have ordered the same after each step, and in the end what the stream says.
+/// The journal of the one must also be shorter by the stream's number of lines.
 pub fn is_spared(alloc: Global, stream: &Stream) -> Option<bool> {
     let host: Stage = staged(alloc, stream)?;
     let whole: Stage = match staged(alloc, stream) {

@@ -5,10 +5,9 @@ use history_model::{Ended, Obs};
 
 /// One step of a stream.
 pub enum Step {
-    /// A round: the clocks stand at so many milliseconds of `up`, and so many seconds past the start; paths are looked at if it
-    /// is time.
+    /// A pass: the clocks show this many milliseconds of `up`, and this many seconds past the start; paths are looked at if it is time.
     Round(u64, u64),
-    /// From now on the machine has slept so many milliseconds, and of these so many are in the next readings.
+    /// From now on the machine has slept this many milliseconds, and this many of these are in the next clock readings.
     Slept(u64, u64),
     /// From now on this is at the path of this number, 0 or 1.
     Sees(u8, Obs),

@@ -1,4 +1,4 @@
-//! The streams. Each ends with a list, whose text both launchers have to answer alike.
+//! The streams. Each ends with a list, whose text both launchers must answer alike.
 
 use crate::memory_stage::ABSENT;
 use crate::rounds::step::Step::{Ask, End, Round, Sees, Slept};
@@ -109,8 +109,8 @@ pub const INTERVAL: Stream = Stream {
 const HOURLY: &str =
     r#"{"req":"load","def":"{\"Label\":\"hourly\",\"Program\":\"/bin/x\",\"StartCalendarInterval\":{\"Minute\":14},\"ThrottleInterval\":0}"}"#;
 
-/// A minute is crossed 40 seconds after the start, before a calendar is loaded; then 14 minutes past the hour comes, and comes
-/// again after the wall clock was set back.
+/// A minute is crossed 40 seconds after the start, before a calendar is loaded. Then 14 minutes past the hour comes, and comes again after the wall
+/// clock was set back.
 pub const CALENDAR: Stream = Stream {
     steps: &[
         Round(1_000, 1),
@@ -162,7 +162,7 @@ const WHILE_THERE: &str =
 const WHILE_GONE: &str =
     r#"{"req":"load","def":"{\"Label\":\"gone\",\"Program\":\"/bin/x\",\"KeepAlive\":{\"PathState\":{\"/a\":false}},\"ThrottleInterval\":0}"}"#;
 
-/// A job is kept while a file is there, and ends once it is gone. Another one is loaded after that, and has to hear of it too.
+/// A job is kept while a file exists, and ends once it is removed. Another one is loaded after that, and must receive it too.
 pub const PATH_STATE: Stream = Stream {
     steps: &[
         Ask(WHILE_THERE),
@@ -190,7 +190,7 @@ pub const PATH_STATE: Stream = Stream {
 const WATCH: &str =
     r#"{"req":"load","def":"{\"Label\":\"watch\",\"Program\":\"/bin/x\",\"WatchPaths\":[\"/a\",\"/b\"],\"ThrottleInterval\":0}"}"#;
 
-/// The first sight of a path starts nothing, nor does an equal one; a change does, and so does an end of the file.
+/// The first observation of a path starts nothing, nor does an equal one; a change does, and so does an end of the file.
 pub const WATCHED: Stream = Stream {
     steps: &[
         Sees(0, FILE),
@@ -248,8 +248,8 @@ const HOURS: u64 = 7_200_000;
 const LATER: &str =
     r#"{"req":"load","def":"{\"Label\":\"later\",\"Program\":\"/bin/x\",\"StartInterval\":3600}"}"#;
 
-/// The machine sleeps for two hours while a job has its 20 seconds to end: it has all of them awake. Then the interval of the other one was over.
-/// Handed in are the readings of the stop, of the throttle's end, of the KILL, and of the last interval.
+/// The machine sleeps for two hours while a job has its 20 seconds to end: it has all of them awake. Then the interval of the other one was over. The
+/// clock readings that the loop delivers are those of the stop, of the throttle's end, of the KILL, and of the last interval.
 pub const SLEEP: Stream = Stream {
     steps: &[
         Ask(KEPT),

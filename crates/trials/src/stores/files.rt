@@ -78,7 +78,7 @@ pub fn left_by(alloc: Global, begin: Begin, rounds: &[Listed<'_>]) -> Option<Dis
     Some(files)
 }
 
-/// Whether the settings of all rounds last.
+/// Whether the settings of all lists last.
 pub fn do_last(alloc: Global, begin: Begin, rounds: &[Listed<'_>]) -> bool {
     are_there(left_by(alloc, begin, rounds))
 }

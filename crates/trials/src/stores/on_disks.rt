@@ -18,7 +18,7 @@ pub struct Listed<'a> {
     /// What a first store's connection runs before a second is opened on it; empty if there is no second.
     pub between: &'static str,
     pub sets: &'a [Row<'a>],
-    /// None if nothing can be listed, since a row is none of ours.
+    /// None if nothing can be listed, since a row is not one of the store's.
     pub want: Option<&'a [Row<'a>]>,
 }
 
@@ -30,7 +30,7 @@ pub const NOTHING: Listed<'static> = Listed {
     want: Some(&[]),
 };
 
-/// The last setting of each label stands, by rising bytes of the labels.
+/// The last setting of each label is listed, by rising bytes of the labels.
 pub const LAST: &Listed<'static> = &Listed {
     sets: &[
         ("b", true, SECOND),
@@ -54,14 +54,14 @@ pub const MOVED_AND_SET: &Listed<'static> = &Listed {
     ..NOTHING
 };
 
-/// A program of the first version wrote beside the new table.
+/// A program of the first version wrote while the new table was there.
 pub const OLD_BESIDE_NEW: &Listed<'static> = &Listed {
     between: "INSERT INTO settings VALUES ('a', 0, 5); INSERT INTO overrides VALUES ('a', 1)",
     want: Some(&[("a", true, 0)]),
     ..NOTHING
 };
 
-/// A store over a database of the first version with a name that is no label.
+/// A store over a database of the first version with a name that is not a label.
 pub const FOREIGN: &Listed<'static> = &Listed {
     made: "CREATE TABLE overrides (label TEXT NOT NULL PRIMARY KEY, disabled INTEGER NOT NULL CHECK (disabled IN (0, 1))) STRICT; INSERT INTO overrides VALUES ('a', 1), ('b', 0), ('a/b', 1)",
     want: None,
@@ -100,7 +100,7 @@ fn has_again<S: Alter + Drop>(
     }
 }
 
-/// Whether the store can't list its settings, since a row is none of ours.
+/// Whether the store can't list its settings, since a row is not one of its own.
 fn is_foreign<S: Alter>(alloc: Global, store: &mut OverrideStore<S>) -> bool {
     let all = all_of(alloc, store).err();
     let changes = changes_of(alloc, store).err();
@@ -141,7 +141,7 @@ const LABELS: u64 = 1_000;
 const REST: &str =
     "xxxxxxxxxxxxxxxxxxxxxxxxxxxxxxxxxxxxxxxxxxxxxxxxxxxxxxxxxxxxxxxxxxxxxxxxxxxxxxxxxxxxxxxxxxxxxxxxxxxxxxxxxxxxxxxxxxxxxxxxxxxxxxxxxxxxxxxxxxxxxxxxxxxxxxxxxxxxxxxxxxxxxxxxxxxxxxxxxxxxxxxxxxxxxxxxxxxxxxxxxxxxxxxxxxxxxxxxxxxxxxxxxxxxxxxxxxxxxxxxxxxxxxxxxxx";
 
-/// So many labels: those with greater numbers come later.
+/// `LABELS` labels: those with greater numbers come later.
 fn long_labels(alloc: Global) -> Result<Vec<String>, AllocError> {
     let mut labels = Vec::new(alloc);
     for number in 0..LABELS {
@@ -150,8 +150,8 @@ fn long_labels(alloc: Global) -> Result<Vec<String>, AllocError> {
     Ok(labels)
 }
 
-/// The rows of the labels from this number on, by steps of so many, with the first behind the last: in rising order from 0 on by steps of
-/// 1. Every third label is disabled, and no two settings have the same second.
+/// The rows of the labels from number `first` on, by steps of `step`, where the first label follows the last. From 0 on by steps of 1 they are in
+/// rising order. Every third label is disabled, and no two settings have the same second.
 fn rows_of(alloc: Global, labels: &[String], first: u64, step: u64) -> Option<Vec<Row<'_>>> {
     let mut rows = Vec::new(alloc);
     for turn in 0..LABELS {

@@ -1,4 +1,5 @@
-//! What is done with a store over files that may stop. The store over files is named here alone: each function that names it is dear to prove.
+//! What is done with a store over files that may stop. Only this module names the store over files: each function that names it is expensive to
+//! prove.
 
 use crate::stores::calls::{all_of, opened, runs};
 use crate::stores::disks::Disks;

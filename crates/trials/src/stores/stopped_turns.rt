@@ -1,5 +1,5 @@
-//! A launcher over a store whose disks stop after so many calls, for each number of calls: a setting that was acknowledged is
-//! found by the store that is opened again, and one that was refused is not made.
+//! A launcher over a store whose disks stop after a number of calls, for each such number. A setting that was acknowledged is found by the store that
+//! is opened again, and one that was refused is not made.
 
 use crate::memory_stage::{HandedEdge, Sink, edge, header};
 use crate::stores::stops::{NO_LAUNCHER, Said};

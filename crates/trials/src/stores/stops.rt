@@ -1,5 +1,5 @@
-//! Disks in memory that stop after so many calls, from the opening of a first version's file to the second of two
-//! settings, or from the opening of a new one through a launcher's turns: what was acknowledged is found again.
+//! Disks in memory that stop after a number of calls: what was acknowledged is found again. The calls go from the opening of a first version's file
+//! to the second of two settings, or from the opening of a new one through a launcher's turns.
 
 use crate::stores::calls::{Row, SECOND, sets, show_all};
 use crate::stores::disks::{Disks, MANY, are_there, copies};
@@ -84,7 +84,7 @@ pub fn may_follow(said: Said, all: &[Setting]) -> bool {
     }
 }
 
-/// Whether a store over copies of these files, on disks that do not stop, lists what may follow. The files are let go.
+/// Whether a store over copies of these files, on disks that do not stop, lists what may follow. The files are dropped.
 fn is_followed(alloc: Global, files: Disks, said: Said) -> bool {
     let left = copies(alloc, &files, MANY, MANY);
     drop(files);
@@ -101,8 +101,8 @@ pub enum Run {
     Turns,
 }
 
-/// Whether the run was acknowledged whole; none if what is found does not follow. A launcher that is not made acknowledges nothing, and what its
-/// store stood on may be lost.
+/// Whether the run was acknowledged whole; None if what is found does not follow. A launcher that is not made acknowledges nothing, and the disks of
+/// its store may be lost.
 fn stops(alloc: Global, run: Run, from: &Disks, log: u64, db: u64) -> Option<bool> {
     let (task, nothing) = match run {
         Run::Settings => (Task::SetTwice, NO_STORE),

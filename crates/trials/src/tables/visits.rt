@@ -12,7 +12,7 @@ type Numbers = [Option<JobNo>; 3];
 /// A number that no job has.
 const NOBODY: Option<JobNo> = Some(7);
 
-/// The reading at so many milliseconds of `up`.
+/// The clock reading at this many milliseconds of `up`.
 fn at(up: u64) -> Reading {
     Reading {
         up,
@@ -132,8 +132,8 @@ fn all_go(alloc: Global, table: &mut JobTable, numbers: &mut Numbers, rows: &[Ro
     true
 }
 
-/// Whether the rows go as they say over a new table, so many times, with the hundred jobs or with none. The table is let go in one place,
-/// since each is proved for its whole type.
+/// Whether the rows go as they say over a new table, `times` times, with the hundred jobs or with none. The table is dropped in one place, since each
+/// place that drops it is proved for its whole type.
 pub fn all_happen(alloc: Global, is_full: bool, times: u32, rows: &[Row]) -> Option<bool> {
     let zone = Zone::fixed(0).ok()?;
     let mut table = JobTable::new(alloc, at(0), zone, Vec::new(alloc)).ok()?;

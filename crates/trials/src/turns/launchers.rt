@@ -10,21 +10,21 @@ use history_model::{Ended, JobNo, Reading};
 use launcher::Input;
 use std::alloc::Global;
 
-/// What the launcher is told, the code and the text of its reply, and how many calls were then made in all.
+/// What the launcher gets, the code and the text of its reply, and how many calls were then made in all.
 type Told = (Input<'static>, u8, &'static str, usize);
 
-/// What a launcher is told, and what comes of it.
+/// What a launcher gets, and what comes of it.
 pub struct Turns {
     /// The labels that its store disables.
     held: &'static [&'static str],
-    /// What its store answers if it is told a setting.
+    /// What its store answers if it gets a setting.
     answer: bool,
     /// How many lines its journal takes.
     writes: usize,
     told: &'static [Told],
     /// The calls that are made with their answers, and no other.
     calls: &'static [(EdgeCall, Scripted)],
-    /// How often its store is told a setting.
+    /// How often its store gets a setting.
     asked: u64,
     /// The one label that its store then disables.
     disabled: Option<&'static str>,
@@ -45,7 +45,7 @@ const STOP: Input<'static> = Input::Line(b"{\"req\":\"stop\",\"job\":\"a\"}");
 
 const DISABLE_A: Input<'static> = Input::Line(b"{\"req\":\"disable\",\"job\":\"a\"}");
 
-/// A reading is no request.
+/// A clock reading is not a request.
 const CLOCK_LINE: Input<'static> = Input::Line(b"{\"req\":\"clock\",\"up\":1,\"wall\":1}");
 
 const KILLED: Input<'static> = Input::Ended("a", 1, Ended::Signal(9));
@@ -278,7 +278,7 @@ static LINES: &[Line] = &[
             ..WITH_A_JOB
         })],
     ),
-    // The sockets are bound, the store is told once and refuses, and they are given up again. The one line tells so.
+    // The sockets are bound, the store gets one setting and refuses, and they are given up again. The one line says so.
     (
         "a_refused_store_releases_the_sockets",
         &[Case::Launched(&Turns {
@@ -345,7 +345,7 @@ static LINES: &[Line] = &[
             ..WITHOUT
         })],
     ),
-    // Turns go on if the journal's writer refuses, and its closing is told once.
+    // Turns go on if the journal's writer refuses, and its closing is reported once.
     (
         "a_refused_line_stops_no_turn",
         &[Case::Launched(&Turns {
@@ -356,7 +356,7 @@ static LINES: &[Line] = &[
             ..WITH_A_JOB
         })],
     ),
-    // What is told is no event: the journal holds its header alone.
+    // What it gets is not an event: the journal holds only its header.
     (
         "a_line_that_is_no_request_is_no_event",
         &[Case::Launched(&Turns {
@@ -370,7 +370,7 @@ static LINES: &[Line] = &[
             ..WITHOUT
         })],
     ),
-    // The same of what happens under a name that is no label.
+    // The same of what happens under a name that is not a label.
     (
         "a_name_that_is_no_label_is_no_event",
         &[Case::Launched(&Turns {
@@ -386,7 +386,7 @@ static LINES: &[Line] = &[
     ),
 ];
 
-/// Whether each input is answered as it says, and so many calls were then made.
+/// Whether each input is answered as it says, and this many calls were then made.
 fn are_answered<H: Launched>(alloc: Global, host: &mut H, told: &[Told]) -> bool {
     let mut are_so = true;
     for (input, code, text, made) in told {
@@ -396,7 +396,7 @@ fn are_answered<H: Launched>(alloc: Global, host: &mut H, told: &[Told]) -> bool
     are_so
 }
 
-/// Whether the launcher answers as it is said, and tells once, and not before, that its journal was closed if it was.
+/// Whether the launcher answers as expected. It must report once, and not before, that its journal was closed if it was.
 fn answers<H: Launched>(alloc: Global, host: &mut H, turns: &Turns) -> bool {
     let was_told = host.has_closed();
     let are_so = are_answered(alloc, host, turns.told);

@@ -3,7 +3,7 @@ use ctl_protocol::{outcome_line, reply_line};
 use history_model::{Act, Refusal, Reply, Text};
 use std::alloc::Global;
 
-/// A refusal if there is one, a text, the orders of an outcome or none for a reply, and the line that is wanted.
+/// A refusal if there is one, a text, the orders of an outcome or none for a reply, and the expected line.
 pub type Told = (
     Option<Refusal>,
     &'static str,
