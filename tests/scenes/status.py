@@ -265,6 +265,25 @@ def a_status_file_rests(stage):
     launcher.shut_down()
 
 
+def a_large_status_file(stage):
+    """A file of several pieces is whole whenever it is read, and after the end, while jobs start on and on."""
+    launcher, path = serve(stage)
+    for at in range(200):
+        launcher.load(shell_job(f"job{at:03}", "exit 0", EnvironmentVariables={"NAME": "value"}))
+    wait_for(lambda: len(told(path)[1]) == 200, "not all jobs are told")
+    check(os.stat(path).st_size > 2 * 65_536, f"the file has {os.stat(path).st_size} bytes")
+    seen, begun = set(), time.monotonic()
+    while (took := time.monotonic() - begun) < 2.2 or (len(seen) < 2 and took < BOUND):
+        launcher.ask({"req": "start", "job": "job199"})
+        first, jobs = told(path)
+        check(len(jobs) == 200, f"it tells {len(jobs)} jobs")
+        seen.add(json.dumps(first["at"]))
+    check(2 <= len(seen) <= took + 3, f"in {took:.1f} s of questions it was written {len(seen)} times")
+    launcher.shut_down()
+    told(path)
+    check(not os.path.exists(f"{path}.new"), "a piece of a file is left at the end")
+
+
 def a_killed_launcher_leaves_a_whole_file(stage):
     """A launcher is killed while it writes on and on: what is there is whole, and the next launcher takes over."""
     for _ in range(3):
@@ -623,7 +642,7 @@ SCENES = [
     what_tells_a_launchers_places,
     who_may_read_a_status_file,
     a_journal_that_is_renamed,
-    a_status_file_rests,
+    a_status_file_rests, a_large_status_file,
     a_killed_launcher_leaves_a_whole_file,
     status_files_that_are_refused,
     why_and_status_of_now,

@@ -7,6 +7,7 @@ mod journal_watch;
 mod keeper;
 mod kill_waits;
 mod loaded_definition;
+mod memory_want;
 mod news;
 mod own_process;
 mod places_file;

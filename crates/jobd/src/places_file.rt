@@ -48,7 +48,10 @@ pub(crate) fn places_file<R: System + Env>(
 ) -> Option<PlacesFile<R>> {
     let found = match own_process(rt) {
         Some(own) => made(rt, alloc, plan, status_file, own, group),
-        None => Err(io::Error::new(ErrorKind::NotFound, "this process is not known")),
+        None => Err(io::Error::new(
+            ErrorKind::NotFound,
+            "/proc/self/stat does not say which process this is",
+        )),
     };
     match found {
         Ok(file) => Some(file),

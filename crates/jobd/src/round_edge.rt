@@ -104,8 +104,8 @@ pub trait RoundEdge: ChildEdge + SleepEdge + PathEdge + SocketEdge {
     fn note_closing(&mut self)
         ensures told { Self.told self.new ≡ Self.told self.old };
 
-    /// What keeps the status file, if it must be written at this clock reading. It is given back by `hand`.
-    fn lend_keeper(&mut self, at: Reading, has_changed: bool) -> Option<Keeper>
+    /// What keeps the status file, if it must be written at this clock reading, for which the launcher had no memory if `is_short`. `hand` gives it back.
+    fn lend_keeper(&mut self, at: Reading, is_short: bool, has_changed: bool) -> Option<Keeper>
         ensures told { Self.told self.new ≡ Self.told self.old };
 
     /// Gives it back. If its text is whole, the file gets it.
@@ -199,7 +199,7 @@ impl<R: System> RoundEdge for OsEdge<R> {
 
     fn note_closing(&mut self) {}
 
-    fn lend_keeper(&mut self, _at: Reading, _has_changed: bool) -> Option<Keeper> {
+    fn lend_keeper(&mut self, _at: Reading, _is_short: bool, _has_changed: bool) -> Option<Keeper> {
         None
     }
 

@@ -223,8 +223,8 @@ impl<T: SettingStore, E: RoundEdge, W: Write> RoundLauncher<T, E, W> {
         ensures asks { (edge : E) × (E.told edge ≡ E.told self.old.host.edge) × (self.new ≡ lent edge self.old) }
         ensures handed { result ≡ true → (text : List ℕ) × (edge : E) × IsStatusText self.old.host.table text × E.Hands text edge self.new.host.edge }
     {
-        let (at, is_active) = (self.at, self.is_active);
-        match self.host.edge().lend_keeper(at, is_active) {
+        let (at, is_short, is_active) = (self.at, self.is_refused, self.is_active);
+        match self.host.edge().lend_keeper(at, is_short, is_active) {
             Some(keeper) => self.write_by(keeper, at),
             None => false,
         }
@@ -396,11 +396,10 @@ impl<T: SettingStore, E: RoundEdge, W: Write> LoopHost for RoundLauncher<T, E, W
         }
     }
 
-    // Each pass asks this last, before it logs what there is to log.
+    // Each pass asks this last, before it logs what there is to log. After a text that the file got the next pass comes at once.
     fn forward(&mut self) -> bool {
         let may_go_on = self.host.edge().forward();
-        self.write_status();
-        may_go_on
+        may_go_on | self.write_status()
     }
 
     fn let_all_go(&mut self) {

@@ -108,7 +108,7 @@ fn serve_kept<L: Wait, R: System + Env + Print, E: RoundEdge + Drop>(
     let (zone, kept) = kept_for(rt, host.alloc(), plan, zone, reading, group);
     let places = told_places(rt, host.alloc(), plan, kept.is_some(), group);
     let journal = journal_watch(rt, host.alloc(), plan);
-    let edge = StatusEdge::new(edge, kept, places, journal);
+    let edge = StatusEdge::new(host.alloc(), edge, kept, places, journal);
     serve_over(host, rt, waits, plan, zone, edge, reading)
 }
 

@@ -47,8 +47,6 @@ pub struct LastingSettings<S: Alter, P: StorePlace<Connection<S>>> {
     pub known: Vec<Known>,
     /// The schema of a store. A store that is opened again is compared with it.
     pub pattern: Schema,
-    /// Whether it has reported, since the store last took a setting, that the store refuses.
-    is_told: bool,
     /// Whether it has reported that there are too many labels.
     is_full: bool,
 }
@@ -62,7 +60,6 @@ impl<S: Alter + Drop, P: StorePlace<Connection<S>> + Drop> Drop for LastingSetti
             shut,
             known,
             pattern,
-            is_told: _,
             is_full: _,
         } = self;
         drop(store);
@@ -81,6 +78,7 @@ fn settle<S: Alter + Drop, P: StorePlace<Connection<S>>>(
     pattern: &Schema,
     known: &[Known],
 ) {
+    place.tell(StoreNews::Anew);
     if let Ok((store, is_mended)) = renewed(alloc, place, pattern, known, Telling::AllButBusy) {
         if is_mended {
             place.tell(StoreNews::Mended);
@@ -128,7 +126,6 @@ pub fn lasting<S: Alter + Drop, P: StorePlace<Connection<S>> + Drop>(
                 shut: None,
                 known,
                 pattern,
-                is_told: false,
                 is_full: false,
             },
             settings,
@@ -166,11 +163,7 @@ impl<S: Alter + Drop, P: StorePlace<Connection<S>> + Drop> LastingSettings<S, P>
             IfOk result (λ store. HoldsKnown (state S.Store store) self.old.known.items) }
     {
         drop(self.shut.take());
-        let telling = if self.is_told {
-            Telling::Nothing
-        } else {
-            Telling::All
-        };
+        let telling = Telling::New;
         match renewed(
             self.alloc,
             &self.place,
@@ -179,23 +172,17 @@ impl<S: Alter + Drop, P: StorePlace<Connection<S>> + Drop> LastingSettings<S, P>
             telling,
         ) {
             Ok((store, _)) => Ok(store),
-            Err(fault) => {
-                self.is_told = true;
-                Err(fault)
-            }
+            Err(fault) => Err(fault),
         }
     }
 
-    // Shuts the store, which refused a setting. It reports that, unless it has done so already.
+    // Shuts the store, which refused a setting. It reports that, unless it has reported the reason since the store last took one.
     fn shut(&mut self, store: OverrideStore<S>, fault: StoreFault)
         ensures pattern { self.new.pattern ≡ self.old.pattern }
         ensures known { self.new.known ≡ self.old.known }
         ensures store { self.new.store ≡ self.old.store }
     {
-        if !self.is_told {
-            self.place.tell(StoreNews::Refused(fault));
-        }
-        self.is_told = true;
+        self.place.tell(StoreNews::Refused(fault));
         self.shut = Some(store);
     }
 
@@ -218,7 +205,7 @@ impl<S: Alter + Drop, P: StorePlace<Connection<S>> + Drop> LastingSettings<S, P>
         match store.set(label, disabled, changed) {
             Ok(()) => {
                 self.store = Some(store);
-                self.is_told = false;
+                self.place.tell(StoreNews::Anew);
                 true
             }
             Err(fault) => {

@@ -12,14 +12,15 @@ pub enum StoreNews {
     TooMany,
     /// At the end the database did not have the settings that were made, and they were written again.
     Mended,
+    /// The store took a setting, or it ends: from now on each reason is logged again.
+    Anew,
 }
 
 /// Which refusals of an open are reported.
 #[derive(Clone, Copy)]
 pub enum Telling {
-    /// It is known already that the store refuses.
-    Nothing,
-    All,
+    /// Those whose reason was not logged since `StoreNews::Anew`.
+    New,
     /// Not that another process has the store.
     AllButBusy,
 }

@@ -140,8 +140,7 @@ fn told<C, P: StorePlace<C>>(place: &P, telling: Telling, fault: StoreFault) -> 
     ensures { result ≡ fault }
 {
     match telling {
-        Telling::Nothing => {}
-        Telling::All | Telling::AllButBusy => place.tell(StoreNews::Refused(fault)),
+        Telling::New | Telling::AllButBusy => place.tell(StoreNews::Refused(fault)),
     }
     fault
 }

@@ -5,7 +5,7 @@ use crate::looking::{Found, copied_connection, look};
 use crate::medium::Medium;
 use crate::one_file::taken_for_store;
 use crate::plan::Plan;
-use crate::refusal::{StoreRefusal, refuse_store};
+use crate::refusal::{StoreRefusal, number_of, refuse_store};
 use crate::reporting::{Level, report};
 use files_and_process::own_files::make_private;
 use history_model::Setting;
@@ -14,6 +14,7 @@ use override_store::{LastingSettings, StoreFault, StoreNews, StorePlace, Telling
 use sqlite::{Alter, Connection, Files, Options, Unknown};
 use sqlite_std_file::OpenError;
 use std::alloc::Global;
+use std::cell::Cell;
 use std::hash::{BuildHasher, RandomState};
 use std::io;
 
@@ -22,6 +23,9 @@ const CACHE_PAGES: usize = 64;
 
 /// How many pages the log next to the store has when it is moved into the store: a megabyte.
 const LOG_PAGES: usize = 256;
+
+/// Of so many reasons at most each is logged once, until the store takes a setting.
+const REASONS: usize = 8;
 
 /// What is done with a store that was opened, and with the settings that it holds.
 pub trait StoreUser {
@@ -49,7 +53,12 @@ pub fn with_store<U: StoreUser>(
     user: U,
 ) -> Result<u8, (u8, U)> {
     let (path, level) = (plan.places.store.as_str(), plan.wishes.level);
-    let place = StoreFiles { rt, level, path };
+    let place = StoreFiles {
+        rt,
+        level,
+        path,
+        told: Cell::new([0; REASONS]),
+    };
     let found = match look_at_own(rt, alloc, plan) {
         Ok(found) => found,
         Err(refusal) => return Err((refuse_store(rt, level, path, refusal), user)),
@@ -87,6 +96,7 @@ fn used_over<U: StoreUser>(
         rt: place.rt,
         level: place.level,
         path: place.path,
+        told: Cell::new([0; REASONS]),
     };
     let opened = match source {
         Source::Files => connection_at(place.rt, place.path),
@@ -147,6 +157,26 @@ struct StoreFiles<'a> {
     rt: &'a HostRuntime,
     level: Level,
     path: &'a str,
+    // The numbers of the reasons that were logged since `StoreNews::Anew`, and then 0.
+    told: Cell<[u32; REASONS]>,
+}
+
+impl StoreFiles<'_> {
+    // Whether the reason with this number is logged now: it was not yet, and it is among the first `REASONS`. It is noted.
+    fn is_new(&self, number: u32) -> bool {
+        let mut told = self.told.get();
+        for one in told.iter_mut() {
+            if *one == number {
+                return false;
+            }
+            if *one == 0 {
+                *one = number;
+                self.told.set(told);
+                return true;
+            }
+        }
+        false
+    }
 }
 
 impl StorePlace<MediaConnection> for StoreFiles<'_> {
@@ -172,16 +202,22 @@ impl StorePlace<MediaConnection> for StoreFiles<'_> {
             StoreNews::TooMany => "16,384 labels have a setting, and no other may have one",
             StoreNews::Mended =>
                 "its files had not the last settings of all labels: they are written again",
+            StoreNews::Anew => return self.told.set([0; REASONS]),
         };
-        report(self.rt, self.level, "store", self.path, &why);
+        let is_told = match news {
+            StoreNews::Refused(fault) => self.is_new(number_of(fault)),
+            _ => true,
+        };
+        if is_told {
+            report(self.rt, self.level, "store", self.path, &why);
+        }
     }
 }
 
 // Why the store was not opened. It reports that as `telling` says.
 fn fault_of(place: &StoreFiles<'_>, telling: Telling, refusal: StoreRefusal) -> StoreFault {
     let is_told = match telling {
-        Telling::Nothing => false,
-        Telling::All => true,
+        Telling::New => place.is_new(refusal.number()),
         Telling::AllButBusy => !matches!(refusal, StoreRefusal::Files(OpenError::Busy)),
     };
     if is_told {
