@@ -7,6 +7,7 @@ use history_model::{Reading, SECOND, Text};
 use std::alloc::Global;
 use std::fs::File;
 use std::io::Write;
+use std::time::SystemTime;
 use std::{fs, io, mem};
 
 /// As many bytes of the text are written in one pass of the event loop, at most.
@@ -28,6 +29,8 @@ pub struct StandingFile<R: System> {
     is_going: bool,
     file: Option<File>,
     written: usize,
+    // When that text was made.
+    began: Option<SystemTime>,
     // Something happened since it was written, and it was tried last at this `up`.
     has_changed: bool,
     tried: Option<u64>,
@@ -79,6 +82,7 @@ impl<R: System> StandingFile<R> {
             is_going: false,
             file: None,
             written: 0,
+            began: None,
             has_changed: true,
             tried: None,
             is_refused: false,
@@ -104,6 +108,7 @@ impl<R: System> StandingFile<R> {
     /// Writes the first piece of a text of this clock reading. `go_on` and `end` write the others, of the same text.
     pub(crate) fn begin(&mut self, text: &[u8], at: Reading) {
         self.tried = Some(at.up);
+        self.began = SystemTime::now(&self.rt).ok();
         self.has_changed = false;
         self.is_going = true;
         self.write(text, PIECE);
@@ -161,10 +166,19 @@ impl<R: System> StandingFile<R> {
             self.file = Some(file);
             return Ok(true);
         }
+        self.date(&file)?;
         self.share(&file)?;
         drop(file);
         fs::rename(&self.rt, self.beside.as_str(), self.path.as_str())?;
         Ok(false)
+    }
+
+    // The file is as old as its text, and not as its last piece: what happened before its modification time is in it.
+    fn date(&self, file: &File) -> io::Result<()> {
+        match self.began {
+            Some(began) => file.set_modified(began),
+            None => Ok(()),
+        }
     }
 
     // Lets the group read it. That this user may not is logged, and the group is left out from then on.
