@@ -4,6 +4,8 @@ use Rattle.std.specs.List.{filter, list_any}
 use Rattle.sqlite.specs.declared.types.Value.TheVariants.{Int}
 use Rattle.sqlite.specs.Order.{Row, column}
 use Rattle.sqlite.specs.Held.{Held, state}
+use Rattle.sqlite.specs.Tree.{Trees}
+use Rattle.sqlite.specs.Effect.{Database}
 use Rattle.sqlite.specs.Store.{Ghosts}
 use Rattle.sqlite.specs.Schema.{Schema}
 use Rattle.sqlite.specs.State.{State, HasCleanDisk}
@@ -14,7 +16,7 @@ use Rattle.override_store.specs.declared.known.Known.{Known}
 use Rattle.override_store.specs.declared.known.TheConstants.{MOST_LABELS}
 use Rattle.override_store.specs.StoreTables.{both_schema}
 use Rattle.override_store.specs.Settings.{Change, HoldsEach, IsEntry, ListAlike, StampsEach, second_in}
-use Rattle.override_store.specs.OverrideStores.{HoldsSettings, HoldsStamps, IsOurs, LeavesAll, rows_now}
+use Rattle.override_store.specs.OverrideStores.{AreOurs, HoldsSettings, HoldsStamps, IsOurs, LeavesAll, rows_now, setting_rows}
 
 -- the row reads as this setting of this second
 abbrev pub IsKnown : Row → Known → Type 0
@@ -60,6 +62,15 @@ TellsStamps known stamps =
 -- a store holds what is known, with its seconds, as long as its disk has returned what was written and it is open
 abbrev pub HoldsKnown : State → List Known → Type 0
 HoldsKnown s known = HoldsSettings s (settings_of known) × HoldsStamps s (stamps_of known)
+
+-- the rows are what is known, with its seconds
+abbrev pub HasKnown : List Row → List Known → Type 0
+HasKnown rows known = HoldsEach rows (settings_of known) × StampsEach rows (stamps_of known)
+
+-- the trees are a database of a store that has what is known, with its seconds
+abbrev pub HoldsTrees : Trees → List Known → Type 0
+HoldsTrees trees known =
+    (db : Database) × (trees ≡ db.trees) × AreOurs db × HasKnown (setting_rows trees) known
 
 -- a store has committed what is known, and one setting more, with its second
 pub record HasMade (s : State) (label : List ℕ) (disabled : Bool) (changed : ℕ)

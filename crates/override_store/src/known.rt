@@ -48,20 +48,10 @@ fn is_above(one: &Known, label: &str) -> bool {
 }
 
 /// The index of the label, or else where it belongs.
-pub(crate) fn place_in_order(known: &[Known], label: &str) -> usize
+fn place_in_order(known: &[Known], label: &str) -> usize
     ensures { result ≤ length known.now }
 {
     known.partition_point(|one| is_above(one, label))
-}
-
-/// What is known of the label.
-pub(crate) fn known_of<'x>(known: &'x [Known], label: &str) -> Option<&'x Known> {
-    let place = place_in_order(known, label);
-    if place >= known.len() {
-        return None;
-    }
-    let one = &known[place];
-    if one.is_of(label) { Some(one) } else { None }
 }
 
 /// The first index of the label.
@@ -101,7 +91,7 @@ pub(crate) fn put(known: &mut Vec<Known>, one: Known)
     }
 }
 
-pub(crate) fn is_same(one: &Known, other: &Known) -> bool
+fn is_same(one: &Known, other: &Known) -> bool
     ensures { IsTrue result → one.now ≡ other.now }
 {
     let is_label = one.label() == other.label();

@@ -1,6 +1,6 @@
 //! The store that a launcher's settings last in: it goes on after its disk failed.
 
-ghost use Rattle.std.specs.Prelude.{◌≡◌, ◌⊎◌, ◌<◌, ◌≤◌, ◌∷◌, ◌↔◌, Err, IfErr, IfOk, IsSomeAnd, IsTrue, None, Option, [], reverse, true, false};
+ghost use Rattle.std.specs.Prelude.{◌≡◌, ◌≢◌, ◌⊎◌, ◌<◌, ◌≤◌, ◌∷◌, ◌↔◌, Err, IfErr, IfOk, IsSomeAnd, IsTrue, None, Option, [], reverse, true, false};
 ghost use Rattle.std.specs.Vec.{vec_capacity, vec_len};
 ghost use Rattle.sqlite.specs.Held.{state};
 ghost use Rattle.sqlite.specs.State.{HasCleanDisk};
@@ -10,6 +10,7 @@ ghost use Rattle.history_model.specs.declared.TheConstants.{MAX_WALL};
 ghost use Rattle.history_model.specs.Labels.{is_label};
 ghost use Rattle.override_store.specs.OverrideStores.{AreFit, HoldsAs};
 ghost use Rattle.override_store.specs.StoreTables.{both_schema};
+ghost use Rattle.override_store.specs.Places.{IsAskedMore};
 ghost use Rattle.override_store.specs.KnownSettings.{AtHand, HasMade, HoldsKnown, HoldsLast, IsOneTooMany, StampsLast, TellAlike, known_as};
 
 use crate::known::{Known, is_one_too_many, put, rising};
@@ -64,7 +65,8 @@ impl<S: Alter + Drop, P: StorePlace<Connection<S>> + Drop> Drop for LastingSetti
         } = self;
         drop(store);
         drop(shut);
-        settle(alloc, &place, &pattern, known.as_slice());
+        let mut place = place;
+        settle(alloc, &mut place, &pattern, known.as_slice());
         drop(pattern);
         drop(known);
         drop(place);
@@ -74,7 +76,7 @@ impl<S: Alter + Drop, P: StorePlace<Connection<S>> + Drop> Drop for LastingSetti
 // Opens the store again, to see and mend what others did to its files meanwhile, and closes it.
 fn settle<S: Alter + Drop, P: StorePlace<Connection<S>>>(
     alloc: Global,
-    place: &P,
+    place: &mut P,
     pattern: &Schema,
     known: &[Known],
 ) {
@@ -148,6 +150,8 @@ impl<S: Alter + Drop, P: StorePlace<Connection<S>> + Drop> LastingSettings<S, P>
         ensures holds { self.old.pattern ≡ both_schema →
             AtHand S.Store self.old.store self.old.known.items →
             IfOk result (λ store. HoldsKnown (state S.Store store) self.old.known.items) }
+        ensures asked { self.old.store ≡ None →
+            IsAskedMore (P.asked self.old.place) (P.asked self.new.place) }
     {
         match self.store.take() {
             Some(store) => Ok(store),
@@ -161,12 +165,13 @@ impl<S: Alter + Drop, P: StorePlace<Connection<S>> + Drop> LastingSettings<S, P>
         ensures taken { self.new.store ≡ self.old.store }
         ensures holds { self.old.pattern ≡ both_schema →
             IfOk result (λ store. HoldsKnown (state S.Store store) self.old.known.items) }
+        ensures asked { IsAskedMore (P.asked self.old.place) (P.asked self.new.place) }
     {
         drop(self.shut.take());
         let telling = Telling::New;
         match renewed(
             self.alloc,
-            &self.place,
+            &mut self.place,
             &self.pattern,
             self.known.as_slice(),
             telling,
@@ -181,6 +186,7 @@ impl<S: Alter + Drop, P: StorePlace<Connection<S>> + Drop> LastingSettings<S, P>
         ensures pattern { self.new.pattern ≡ self.old.pattern }
         ensures known { self.new.known ≡ self.old.known }
         ensures store { self.new.store ≡ self.old.store }
+        ensures place { self.new.place ≡ self.old.place }
     {
         self.place.tell(StoreNews::Refused(fault));
         self.shut = Some(store);
@@ -197,6 +203,8 @@ impl<S: Alter + Drop, P: StorePlace<Connection<S>> + Drop> LastingSettings<S, P>
         ensures made { IsTrue result → self.old.pattern ≡ both_schema → AtHand S.Store self.old.store self.old.known.items →
             IsSomeAnd self.new.store (λ store. (HasCleanDisk (state S.Store store) →
             HasMade (state S.Store store) label.now disabled changed self.old.known.items)) }
+        ensures asked { self.old.store ≡ None →
+            IsAskedMore (P.asked self.old.place) (P.asked self.new.place) }
     {
         let mut store = match self.at_hand() {
             Ok(store) => store,
@@ -222,6 +230,8 @@ impl<S: Alter + Drop, P: StorePlace<Connection<S>> + Drop> LastingSettings<S, P>
         ensures known { self.new.known.items ≡ self.old.known.items }
         ensures room { IfOk result (λ _. vec_len self.new.known < vec_capacity self.new.known) }
         ensures full { result ≡ Err NotKept.TooMany ↔ IsOneTooMany self.old.known.items label.now }
+        ensures place { self.new.place ≡ self.old.place }
+        ensures memory { result ≢ Err NotKept.Refused }
     {
         if is_one_too_many(self.known.as_slice(), label) {
             if !self.is_full {
@@ -252,6 +262,8 @@ impl<S: Alter + Drop, P: StorePlace<Connection<S>> + Drop> LastingSettings<S, P>
         ensures made { IfOk result (λ _. self.old.pattern ≡ both_schema → AtHand S.Store self.old.store self.old.known.items →
             IsSomeAnd self.new.store (λ store. (HasCleanDisk (state S.Store store) →
             HasMade (state S.Store store) label.now disabled changed self.old.known.items))) }
+        ensures asked { self.old.store ≡ None → result ≡ Err NotKept.Refused →
+            IsAskedMore (P.asked self.old.place) (P.asked self.new.place) }
     {
         match self.make_room(label) {
             Ok(()) => {}

@@ -8,7 +8,7 @@ ghost use Rattle.sqlite.specs.State.{HasCleanDisk, Survives};
 ghost use Rattle.sqlite_disk.specs.Disk.{MoreFaults};
 ghost use Rattle.sqlite.specs.Tree.{Trees};
 ghost use Rattle.sqlite.specs.View.{IsClean};
-ghost use Rattle.override_store.specs.KnownSettings.{HoldsKnown};
+ghost use Rattle.override_store.specs.KnownSettings.{HoldsKnown, HoldsTrees};
 ghost use Rattle.history_model.specs.declared.TheConstants.{MAX_WALL};
 ghost use Rattle.history_model.specs.Labels.{is_label, is_same};
 ghost use Rattle.history_model.specs.declared.event.Setting.{Setting};
@@ -21,6 +21,7 @@ mod known;
 mod lasting_settings;
 pub mod laws;
 mod lists;
+mod mending;
 mod open;
 mod place;
 mod renewal;
@@ -243,9 +244,13 @@ impl<S: Alter> OverrideStore<S> {
         Ok(all)
     }
 
-    /// Takes the label's setting out, and promises nothing of what is left.
-    pub(crate) fn forget(&mut self, label: &str) -> Result<(), StoreFault> {
-        statements::forget(&mut self.conn, label)
+    /// Makes the store have what is known and nothing else, in one transaction. At each exit a crash leaves what it could leave before, or
+    /// all that is known.
+    pub(crate) fn mend(&mut self, known: &[Known]) -> Result<(), StoreFault>
+        ensures crash { Between S.Store self.old self.new (λ old new. Survives old new (λ db.
+            CommitsOpen old (HoldsTrees db known.now))) }
+    {
+        mending::mended(&mut self.conn, known)
     }
 
     /// The connection, as it is.

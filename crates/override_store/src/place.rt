@@ -1,5 +1,8 @@
 //! The place of a launcher's store, as the system or a test has it.
 
+ghost use Rattle.std.specs.Prelude.{ℕ, Option};
+ghost use Rattle.override_store.specs.Places.{IsAskedOnce};
+
 use crate::StoreFault;
 use std::alloc::Global;
 
@@ -27,8 +30,12 @@ pub enum Telling {
 
 /// Opens the database of a store, and again after its disk failed. A `C` is a connection to it.
 pub trait StorePlace<C> {
+    /// How often it was asked for a connection. A place that does not tell has none.
+    ghost asked: { Self → Option ℕ };
+
     /// A new connection to the database. No other connection that it gave is there any more. No clause says what it finds: the store looks.
-    fn open(&self, alloc: Global, telling: Telling) -> Result<C, StoreFault>;
+    fn open(&mut self, alloc: Global, telling: Telling) -> Result<C, StoreFault>
+        ensures asked { IsAskedOnce (Self.asked self.old) (Self.asked self.new) };
 
     /// Moves what a log next to the database holds into it, and drops the connection.
     fn close(&self, conn: C);

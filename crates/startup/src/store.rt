@@ -1,5 +1,7 @@
 //! The store of a launcher: opened, served from, and settled once the launcher has released it.
 
+ghost use Rattle.std.specs.Prelude.{None};
+
 use crate::connections::{Media, MediaConnection, Task, connection_over, over_files};
 use crate::looking::{Found, copied_connection, look};
 use crate::medium::Medium;
@@ -180,7 +182,10 @@ impl StoreFiles<'_> {
 }
 
 impl StorePlace<MediaConnection> for StoreFiles<'_> {
-    fn open(&self, _alloc: Global, telling: Telling) -> Result<MediaConnection, StoreFault> {
+    // What is asked of the system is not told.
+    ghost asked = { λ s. None };
+
+    fn open(&mut self, _alloc: Global, telling: Telling) -> Result<MediaConnection, StoreFault> {
         match private_connection_at(self.rt, self.path) {
             Ok(conn) => Ok(conn),
             Err(refusal) => Err(fault_of(self, telling, refusal)),
