@@ -123,7 +123,7 @@ def a_fault_is_one_line(folder):
 
 
 def the_lines_of_jobctl_do(folder):
-    """The lines that jobctl(1) shows: lists, the apply of a folder (here not that of the page), and the unload of a job whose file is gone."""
+    """The lines that jobctl(1) shows: lists, and the apply of a folder (here not that of the page). Then the job is unloaded by its label."""
     part = read("man/jobctl.1").split(".Sh EXAMPLES\n")[1].split(".Sh ")[0]
     lines = [shown(row[4:]) for row in part.splitlines() if row.startswith(".Dl ")]
     variables = {"JOBD_SOCKET": f"{folder}/s"}
@@ -132,7 +132,7 @@ def the_lines_of_jobctl_do(folder):
         json.dump({"Label": "org.example.web", "ProgramArguments": ["/bin/sleep", "1000"], "KeepAlive": True, "ThrottleInterval": 0}, it)
     run("jobctl", "load", "deployed/web.json", folder=folder, variables=variables)
     time.sleep(0.5)
-    for line, wanted in zip(lines, ["org.example.web\n", "", "same      1 job\n", ""], strict=True):
+    for line, wanted in zip([*lines, "jobctl unload org.example.web"], ["org.example.web\n", "", "same      1 job\n", ""], strict=True):
         ran = run("sh", "-c", line.replace("/etc/jobd", "deployed"), folder=folder, variables=variables)
         want(line, (0, wanted, ""), (ran.returncode, ran.stdout, ran.stderr))
         time.sleep(0.5)

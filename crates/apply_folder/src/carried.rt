@@ -1,6 +1,7 @@
 //! A step, carried out.
 
 use crate::client::Client;
+use crate::left::{EndedJob, note_ended};
 use control_client::{Fault, Replied};
 use history_model::{Refusal, Text};
 use load_plan::{JobSeen, NextRequest, Operation, Reason, next_request};
@@ -64,12 +65,13 @@ struct Waiting {
     is_told: bool,
 }
 
-/// Carries out the step. An error: the launcher does not answer.
+/// Carries out the step, and notes when its job was gone, if it was unloaded. An error: the launcher does not answer.
 pub(crate) fn carry_out(
     host: &HostRuntime,
     alloc: Global,
     client: &mut Client,
     task: &Task<'_>,
+    ended: &mut Vec<EndedJob>,
 ) -> Result<Outcome, Fault> {
     let mut is_unloaded = false;
     let mut waiting = Waiting {
@@ -84,14 +86,20 @@ pub(crate) fn carry_out(
                 None => is_unloaded = true,
                 Some(refused) => return Ok(refused),
             },
-            NextRequest::Load => return load(host, alloc, client, task, is_unloaded),
+            NextRequest::Load => {
+                note_ended(host, alloc, task.label, is_unloaded, ended)?;
+                return load(host, alloc, client, task, is_unloaded);
+            }
             NextRequest::Wait => {
                 if is_late(host, task, &mut waiting) {
                     return Ok(Outcome::Late);
                 }
             }
             NextRequest::Leave(why) => return Ok(Outcome::Left(why)),
-            NextRequest::Done => return Ok(Outcome::Done),
+            NextRequest::Done => {
+                note_ended(host, alloc, task.label, is_unloaded, ended)?;
+                return Ok(Outcome::Done);
+            }
         }
     }
     Ok(Outcome::Late)

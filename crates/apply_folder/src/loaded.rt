@@ -55,17 +55,17 @@ pub(crate) struct Look {
     pub(crate) standing: Standing,
 }
 
-/// What is loaded now.
+/// What is loaded, as it was when the clock showed `asked` or later.
 pub(crate) fn look_at(
     host: &HostRuntime,
     alloc: Global,
     client: &mut Client,
     path: &str,
     places: &Option<Places>,
+    asked: &io::Result<SystemTime>,
 ) -> Result<Look, Stop> {
-    let asked = SystemTime::now(host);
     for turn in 0..LOOKS {
-        if let Some(look) = look_once(host, alloc, client, path, places, &asked)? {
+        if let Some(look) = look_once(host, alloc, client, path, places, asked)? {
             if all_told(look.jobs.as_slice()) {
                 return Ok(look);
             }

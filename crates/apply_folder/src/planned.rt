@@ -3,6 +3,7 @@
 use crate::carried::{Awaited, Outcome, Task, carry_out};
 use crate::client::Client;
 use crate::gathered::Filed;
+use crate::left::EndedJob;
 use crate::loaded::{Job, job_of};
 use crate::reasons::{Around, file_of, keys_of, outcome_text, planned_text};
 use crate::shown::{Line, show};
@@ -57,6 +58,8 @@ pub(crate) struct Progress {
     /// The labels that were unloaded for good.
     pub(crate) unloaded: Vec<String>,
     pub(crate) awaited: Vec<AwaitedJob>,
+    /// The jobs that were unloaded, for good or to be loaded again.
+    pub(crate) ended: Vec<EndedJob>,
     pub(crate) same: u64,
 }
 
@@ -72,6 +75,7 @@ impl Progress {
             tried: Vec::new(alloc),
             unloaded: Vec::new(alloc),
             awaited: Vec::new(alloc),
+            ended: Vec::new(alloc),
             same: 0,
         }
     }
@@ -489,7 +493,7 @@ fn act<'x>(
     }
     let moved = moved_job(scene, step, file, progress);
     let task = task_of(scene, step, around.job, file, moved);
-    let outcome = carry_out(host, alloc, client, &task)?;
+    let outcome = carry_out(host, alloc, client, &task, &mut progress.ended)?;
     note_outcome(alloc, scene, step, &outcome, progress)?;
     note_back(&outcome, moved, progress);
     let other = outcome_text(alloc, step, &outcome, task.before.is_some())?;

@@ -7,6 +7,7 @@ use crate::client::Client;
 use crate::gathered::{Filed, Gathered, NextBoot, gather};
 use crate::judged::{has_open, judge_all};
 use crate::kept::keep;
+use crate::left::report_left;
 use crate::loaded::{Job, Look, job_of, look_at, status_path};
 use crate::locked::lock_beside;
 use crate::planned::{Progress, Scene, apply_once, awaited_in};
@@ -24,6 +25,7 @@ use plain_text::plain;
 use status_page::named_path;
 use std::alloc::{AllocError, Global};
 use std::fs::metadata;
+use std::io;
 use std::io::ErrorKind;
 use std::time::SystemTime;
 
@@ -152,7 +154,7 @@ fn apply(
     let lock = if words.flags.dry_run {
         None
     } else {
-        lock_beside(host, alloc, socket.as_str())?
+        lock_beside(host, alloc, socket.as_str(), user)?
     };
     let ended = apply_beside(host, alloc, words, client, socket.as_str(), user);
     let_go(host, lock);
@@ -215,6 +217,8 @@ fn apply_beside(
     socket: &str,
     user: u32,
 ) -> Result<u8, Stop> {
+    // The launcher writes its status file because of the list, so the file is newer than this.
+    let asked = SystemTime::now(host);
     // A launcher writes its places before its first reply.
     let listed = client.list(host, alloc)?;
     drop(listed);
@@ -231,6 +235,7 @@ fn apply_beside(
         places: &places,
         path: path.as_str(),
         user,
+        asked: &asked,
     };
     let ended = match &state {
         Some(state) => with_state(&ground, client, &mut gathered, state.as_str()),
@@ -271,6 +276,8 @@ struct Ground<'a> {
     // The status file.
     path: &'a str,
     user: u32,
+    // Before the first question to the launcher.
+    asked: &'a io::Result<SystemTime>,
 }
 
 // Where it stands what applies loaded.
@@ -339,6 +346,7 @@ fn rounds(
             break;
         }
     }
+    report_left(ground.host, ground.alloc, ground.places, progress.ended.as_slice())?;
     let flags = ground.words.flags;
     show_same(
         ground.host,
@@ -363,7 +371,9 @@ fn round(
     progress: &mut Progress,
 ) -> Result<bool, Stop> {
     let (host, alloc) = (ground.host, ground.alloc);
-    let mut look = look_at(host, alloc, client, ground.path, ground.places)?;
+    let now = SystemTime::now(host);
+    let asked = if is_first { ground.asked } else { &now };
+    let mut look = look_at(host, alloc, client, ground.path, ground.places, asked)?;
     mark_applied(host, alloc, gathered, applied, look.jobs.as_mut_slice())?;
     find_before(
         host,

@@ -1,5 +1,7 @@
 -- What a child's command has in its environment beside what the launcher has.
-use Rattle.std.specs.Prelude.{◌≡◌, ℕ, List, fold, bytes_eq, Option, Some, None, if◌then◌else◌}
+use Rattle.std.specs.Prelude.{◌≡◌, ℕ, List, [], ◌∷◌, codes, fold, bytes_eq, Option, Some, None, if◌then◌else◌}
+use Rattle.files_and_process.specs.declared.run_names.LauncherId.{LauncherId}
+use Rattle.files_and_process.specs.RunNames.{name_of_run}
 use Rattle.history_model.specs.declared.definition.parts.Variable.{Variable}
 
 -- what is said of a name, if anything: its value, or that it has none
@@ -22,3 +24,9 @@ abbrev pub folder_at : Option (List ℕ) → Option (List ℕ) → Option (List 
 folder_at None held = None
 folder_at (Some folder) None = Some folder
 folder_at (Some folder) (Some place) = Some place
+
+-- what a run has of its launcher: its name, if it is known which process the launcher is
+abbrev pub own_of_run : Option LauncherId → List ℕ → ℕ → List Variable
+own_of_run None label run = []
+own_of_run (Some launcher) label run =
+    record { name = codes "JOBD_RUN"; value = name_of_run launcher.pid launcher.began label run } ∷ []

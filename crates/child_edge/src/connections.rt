@@ -22,10 +22,12 @@ use crate::failure::{Failure, Part, culprit};
 use crate::held::Held;
 use crate::maps::key_from;
 use crate::notices::{Asked, LetGo, Notices, OF_ROOM};
+use crate::run_variable::own_variables;
 use crate::spool::Spooled;
 use crate::start::Start;
 use crate::streams::{own_streams, served_streams};
 use crate::words::Hole::{Error, Text as Words};
+use files_and_process::run_names::LauncherId;
 use history_model::{Ended, JobNo, MAX_CONNECTIONS, Text};
 use socket_demand::Exchange;
 use std::alloc::{AllocError, Global};
@@ -70,6 +72,8 @@ struct Tally {
 pub(crate) struct Connections {
     alloc: Global,
     folder: String,
+    // Which process this launcher is, if runs are to have its name.
+    launcher: Option<LauncherId>,
     held: BTreeMap<Key, Connection>,
     // The clock, as it was read last.
     now: Instant,
@@ -84,11 +88,19 @@ impl Connections {
         Connections {
             alloc,
             folder,
+            launcher: None,
             held: BTreeMap::new(alloc),
             now,
             first: (0, 0),
             is_wanted: false,
         }
+    }
+
+    /// From now on each run has this launcher's name in its variables.
+    pub(crate) fn name_runs(&mut self, launcher: LauncherId)
+        ensures { self.new.held ≡ self.old.held }
+    {
+        self.launcher = Some(launcher);
     }
 
     // A clock that can't be read stands still.
@@ -296,10 +308,17 @@ impl Connections {
     fn command_at(&self, start: Start<'_>, held: &Held) -> Result<Command, AllocError> {
         let place = held.path_of(self.alloc, Part::Folder)?;
         let command = match &place {
-            Some(place) => command_of(self.alloc, start.def, Some(place.as_str())),
-            None => command_of(self.alloc, start.def, None),
+            Some(place) => self.command_in(start, Some(place.as_str())),
+            None => self.command_in(start, None),
         };
         drop(place);
+        command
+    }
+
+    fn command_in(&self, start: Start<'_>, place: Option<&str>) -> Result<Command, AllocError> {
+        let own = own_variables(self.alloc, self.launcher, start)?;
+        let command = command_of(self.alloc, start.def, own.as_slice(), place);
+        drop(own);
         command
     }
 

@@ -24,6 +24,7 @@ mod paths;
 mod plain;
 mod reserve;
 mod room;
+mod run_variable;
 mod shell;
 mod sockets;
 mod spool;

@@ -17,6 +17,7 @@ use crate::start::Start;
 use crate::{
     ChildEdge, Client, ClockEdge, Edge, EdgeFault, Notice, PathEdge, SocketEdge, clock, paths,
 };
+use files_and_process::run_names::LauncherId;
 use history_model::definition::Def;
 use history_model::{Ended, JobNo, Obs, Reading};
 use look_out::{Hung, Looks, Openings, Seen};
@@ -154,6 +155,14 @@ impl<R: Processes> OsEdge<R> {
         ensures { self.new ≡ self.old }
     {
         self.notices.tells_runs = true;
+    }
+
+    /// From now on each run has `JOBD_RUN` with its name in its variables, by which what it leaves running is found (see
+    /// [`run_name`](files_and_process::run_names::run_name)). Without this call a run has no such variable. Takes no memory.
+    pub fn name_runs(&mut self, launcher: LauncherId)
+        ensures { self.new ≡ self.old }
+    {
+        self.connections.name_runs(launcher);
     }
 
     /// As many clients there is room for now, beside the sockets of jobs that are held: see [`room_for`](crate::room_for). As many

@@ -5,6 +5,7 @@
 mod connection;
 mod fault;
 mod labels;
+mod left;
 mod program;
 mod reply;
 mod request;

@@ -2,6 +2,7 @@
 
 use crate::fault::{Fault, tell};
 use crate::labels::tell_about;
+use crate::left::report_left;
 use crate::request::{label_of, text_at};
 use crate::session::Session;
 use crate::settings::{SettingFault, Settings, settings_of};
@@ -13,10 +14,10 @@ use history_model::{Ask, KeyName, Reason, Refusal, Text, TextRef, is_label};
 use launchctl_words::{Command, Paths, WordFault, Words, explain, read_words, read_words_beside};
 use plain_text::plain;
 use std::alloc::Global;
-use std::fs::{Files, metadata, symlink_metadata};
+use std::fs::{File, Files, metadata, symlink_metadata};
 use std::io::{self, ErrorKind, IsTerminal};
 use std::net::Net;
-use std::rt::Env;
+use std::rt::{Clock, Env};
 
 /// The control socket if nothing names one.
 pub const SOCKET: &str = "jobd.sock";
@@ -113,12 +114,15 @@ fn task_of(command: &Command) -> Task<'_> {
 /// output's reader has gone, nothing is told and the status is [`crate::READER_GONE`].
 ///
 /// A word of an unload that is no path, and of which no file has the name, is the label of a loaded job, if there is one.
+/// After an unload each process that runs of the job left running is one line on the standard error, if the job is gone within a third of a second.
 ///
 /// Of the environment, `JOBD_SOCKET` is the control socket if the words name none, and `JOBCTL_TIMEOUT` the seconds for which
 /// an answer is waited (30 if absent, 0 for ever); after them the status is 69. One that can't be read: 64.
 ///
 /// A word that was not UTF-8 has a [`MARK`] at its end. One that names a file to load or to unload is that file's fault, any other is no command: 64.
-pub fn jobctl<R: Net + Files + Env + Print + Eprint + Watched + AllocGlobal + Clone + Drop>(
+pub fn jobctl<
+    R: Net + Files<File = File> + Env + Clock + Print + Eprint + Watched + AllocGlobal + Clone + Drop,
+>(
     rt: &R,
     alloc: Global,
     words: &[String],
@@ -236,7 +240,9 @@ fn explain_words<R: Print + Eprint>(rt: &R, alloc: Global, words: &[String]) -> 
     }
 }
 
-fn hand_in<R: Net + Files + Print + Eprint + Watched + AllocGlobal + Clone + Drop>(
+fn hand_in<
+    R: Net + Files<File = File> + Clock + Print + Eprint + Watched + AllocGlobal + Clone + Drop,
+>(
     rt: &R,
     alloc: Global,
     session: &mut Session,
@@ -248,19 +254,33 @@ fn hand_in<R: Net + Files + Print + Eprint + Watched + AllocGlobal + Clone + Dro
         return;
     };
     let is_named = files.len() > 1;
+    let mut unloaded = Vec::new(alloc);
     for file in files.iter() {
-        if let Err(fault) = hand_in_one(rt, alloc, session, deed, file, is_named) {
-            session.fail(rt, alloc, file.path.as_str(), &fault);
-            let is_last = fault.is_last();
-            drop(fault);
-            if is_last {
-                break;
+        match hand_in_one(rt, alloc, session, deed, file, is_named) {
+            Ok(Some(label)) => note_unloaded(label, &mut unloaded),
+            Ok(None) => {}
+            Err(fault) => {
+                session.fail(rt, alloc, file.path.as_str(), &fault);
+                let is_last = fault.is_last();
+                drop(fault);
+                if is_last {
+                    break;
+                }
             }
         }
     }
     drop(files);
+    report_left(rt, alloc, session, unloaded.as_slice());
+    drop(unloaded);
 }
 
+// Where there is no memory for it, it is not looked for what its runs left.
+fn note_unloaded(label: Text, unloaded: &mut Vec<Text>) {
+    let noted = unloaded.push(label);
+    drop(noted);
+}
+
+// The label, if it was unloaded.
 fn hand_in_one<R: Net + Files + Print + Eprint + Watched>(
     rt: &R,
     alloc: Global,
@@ -268,7 +288,7 @@ fn hand_in_one<R: Net + Files + Print + Eprint + Watched>(
     deed: Deed,
     file: &Found,
     is_named: bool,
-) -> Result<(), Fault> {
+) -> Result<Option<Text>, Fault> {
     let path = file.path.as_str();
     let shown = plain(alloc, path)?;
     let name = shown.as_str();
@@ -282,7 +302,7 @@ fn hand_in_one<R: Net + Files + Print + Eprint + Watched>(
             let _written = eprintln!(rt;
                 "jobctl: {name}: no definition in this folder (*.plist, *.json)"
             );
-            return Ok(());
+            return Ok(None);
         }
         Kind::File => {}
     }
@@ -294,9 +314,14 @@ fn hand_in_one<R: Net + Files + Print + Eprint + Watched>(
     match read {
         Ok(text) => {
             let answer = session.ask(rt, alloc, &request_with(deed, &text), heading);
-            drop(text);
-            point_out(rt, deed, name, answer?);
-            Ok(())
+            match (deed, answer) {
+                (Deed::Unload { .. }, Ok(0)) => Ok(Some(text)),
+                (_, answer) => {
+                    drop(text);
+                    point_out(rt, deed, name, answer?);
+                    Ok(None)
+                }
+            }
         }
         Err(fault) => Err(fault),
     }

@@ -38,6 +38,11 @@ impl Session {
         }
     }
 
+    /// The path of the launcher's control socket.
+    pub(crate) fn socket(&self) -> &str {
+        self.socket.as_str()
+    }
+
     pub(crate) fn status(&self) -> u8 {
         self.status
     }

@@ -1,6 +1,6 @@
 //! Which process this is.
 
-use status_file::process_in;
+use files_and_process::processes::process_in;
 use std::fs;
 use std::fs::Files;
 

@@ -9,10 +9,11 @@ use crate::round_edge::RoundEdge;
 use crate::round_launcher::RoundLauncher;
 use crate::standing_file::StandingFile;
 use crate::status_edge::StatusEdge;
-use child_edge::room_for;
+use child_edge::{OsEdge, room_for};
 use control_socket::ControlSocket;
 use ctl_protocol::{Header, Settings, ZoneText, header_line};
 use exit_status::{CLOCK_OR_WAITING, NO_MEMORY, STORE};
+use files_and_process::run_names::LauncherId;
 use files_and_process::socket_file;
 use history_model::{Reading, Setting, Text};
 use launchctl_words::ZoneWords;
@@ -70,11 +71,25 @@ fn serve_by<L: Wait>(
         Err(status) => return status,
     };
     match system_of(host, alloc, plan) {
-        Ok((edge, reading)) => serve_kept(host, host, waits, plan, zone, edge, reading),
+        Ok((edge, reading)) => {
+            let mut edge = edge;
+            name_runs(host, &mut edge);
+            serve_kept(host, host, waits, plan, zone, edge, reading)
+        }
         Err(status) => {
             drop(zone);
             status
         }
+    }
+}
+
+// Each run gets the name that this process gives it, if the system says which process this is.
+fn name_runs(host: &HostRuntime, edge: &mut OsEdge<HostRuntime>) {
+    if let Some(own) = own_process(host) {
+        edge.name_runs(LauncherId {
+            pid: own.pid,
+            began: own.began,
+        });
     }
 }
 

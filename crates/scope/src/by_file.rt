@@ -3,6 +3,7 @@
 use crate::clock::now;
 use crate::journal::source::{NONE_NAMED, finds_journal, stands_in};
 use crate::objects::status::status_objects;
+use crate::left::left_running;
 use crate::objects::why::standing_objects;
 use crate::texts::standing::{failing_in, standing_text};
 use crate::texts::standing_next::standing_lines;
@@ -128,7 +129,10 @@ fn tell(
     let labels = of.words.as_slice();
     let status = match of.task {
         Task::Why if of.is_json => {
-            let (text, count) = standing_objects(alloc, standing, of, second)?;
+            let left = left_running(host, alloc, standing, labels)?;
+            let made = standing_objects(alloc, standing, of, second, left.as_slice());
+            drop(left);
+            let (text, count) = made?;
             put_made(host, Ok(text))?;
             if of.is_failing && count > 0 { FAILS } else { 0 }
         }
@@ -138,10 +142,10 @@ fn tell(
             if count > 0 { FAILS } else { 0 }
         }
         Task::Why => {
-            put_made(
-                host,
-                standing_text(alloc, standing, labels, of.is_utc, second),
-            )?;
+            let left = left_running(host, alloc, standing, labels)?;
+            let text = standing_text(alloc, standing, labels, of.is_utc, second, left.as_slice());
+            drop(left);
+            put_made(host, text)?;
             0
         }
         Task::Next => {

@@ -9,6 +9,7 @@ mod clock;
 mod drift;
 mod ended;
 mod journal;
+mod left;
 mod listener;
 mod log;
 mod objects;

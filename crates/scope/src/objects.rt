@@ -3,6 +3,7 @@
 pub(crate) mod causes;
 pub(crate) mod drift;
 pub(crate) mod job;
+pub(crate) mod left;
 pub(crate) mod left_out;
 pub(crate) mod lines;
 pub(crate) mod loaded;

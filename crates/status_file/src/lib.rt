@@ -12,7 +12,6 @@ mod front;
 mod jobs;
 mod line;
 mod names;
-mod process;
 mod read;
 mod run_notes;
 mod status;
@@ -23,7 +22,6 @@ pub use front::LineRoom;
 pub use jobs::{add_jobs, job_count};
 pub use line::StatusText;
 pub use names::state_name;
-pub use process::{ProcessStat, process_in};
 pub use read::{StatusFault, StatusLine, read_line};
 pub use run_notes::RunNotes;
 pub use status::{

@@ -1,11 +1,8 @@
 //! Whether the launcher of a status file lives.
 
-use files_and_process::path_files::read_front;
-use status_file::{LauncherStatus, ProcessStat, process_in};
+use files_and_process::processes::process_at;
+use status_file::LauncherStatus;
 use std::alloc::Global;
-
-/// So many bytes of `/proc/PID/stat` are looked at.
-const MOST: usize = 4_096;
 
 /// Whether a launcher lives.
 #[derive(Clone, Copy)]
@@ -36,15 +33,4 @@ pub(crate) fn life_of(host: &HostRuntime, alloc: Global, launcher: &LauncherStat
         None if process_at(host, alloc, 1).is_some() => Life::Gone,
         None => Life::Unknown,
     }
-}
-
-fn process_at(host: &HostRuntime, alloc: Global, pid: u32) -> Option<ProcessStat> {
-    let path = format!(in alloc; "/proc/{pid}/stat").ok()?;
-    let mut bytes = Vec::new(alloc);
-    let is_read = read_front(host, path.as_str(), MOST, &mut bytes).is_ok();
-    drop(path);
-    let text = std::str::from_utf8(bytes.as_slice()).unwrap_or("");
-    let told = if is_read { process_in(text) } else { None };
-    drop(bytes);
-    told
 }

@@ -12,6 +12,9 @@ use run_times::Ink;
 use run_times::Piece::Number;
 use std::alloc::{AllocError, Global};
 
+/// The wrapper command that passes a TERM on to the process group of its program.
+const GROUP: &str = "jobd-group";
+
 /// Adds the warnings on what is run: a command line in one text, a program that is no whole path, signs of a shell where none reads
 /// them, lines of shells, and a program that leaves the foreground.
 pub(crate) fn add_command(def: &Def, remarks: &mut Remarks<'_>) {
@@ -42,8 +45,9 @@ pub(crate) fn add_command(def: &Def, remarks: &mut Remarks<'_>) {
 }
 
 fn add_run(def: &Def, run: &Run<'_>, remarks: &mut Remarks<'_>) {
+    let is_grouped = run.programs.iter().any(|started| base_of(started.path) == GROUP);
     for line in &run.lines {
-        add_shell_line(def, line, remarks);
+        add_shell_line(def, line, is_grouped, remarks);
     }
     for started in &run.programs {
         if base_of(started.path) == "nohup" {
@@ -57,8 +61,8 @@ fn add_run(def: &Def, run: &Run<'_>, remarks: &mut Remarks<'_>) {
     }
 }
 
-// Adds the warnings on the line of a shell.
-fn add_shell_line(def: &Def, line: &Line<'_>, remarks: &mut Remarks<'_>) {
+// Adds the warnings on the line of a shell. `is_grouped`: TERM reaches all processes of the run.
+fn add_shell_line(def: &Def, line: &Line<'_>, is_grouped: bool, remarks: &mut Remarks<'_>) {
     let is_kept = def.keep_alive() || def.successful_exit().is_some() || def.crashed().is_some();
     let is_plain_shell = matches!(base_of(line.shell), "sh" | "dash" | "ash");
     let is_cut = line.behind > 0 && !line.text.contains('$');
@@ -73,9 +77,9 @@ fn add_shell_line(def: &Def, line: &Line<'_>, remarks: &mut Remarks<'_>) {
         "the line ends with &, so its run ends at once and the program goes on without the launcher; leave out the &, and write exec before the program",
     );
     remarks.add_if(
-        is_kept && is_plain_shell && !line.is_replaced && !line.is_left && !is_cut,
+        is_kept && is_plain_shell && !is_grouped && !line.is_replaced && !line.is_left && !is_cut,
         KeyName::Program,
-        "the shell waits for the last command of its line: TERM ends the shell alone, and the program goes on; write exec before it",
+        "the shell waits for the last command of its line: TERM ends the shell alone, and the program goes on; write exec before it, or jobd-group before the shell",
     );
     let is_given = match gives_below(remarks.alloc, line.text) {
         Ok(is_given) => is_given,

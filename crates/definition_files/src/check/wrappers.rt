@@ -225,6 +225,12 @@ pub(crate) static WRAPPERS: &[Wrapper] = &[
         begins: Begins::Plain,
     },
     Wrapper {
+        name: "jobd-group",
+        options: &[],
+        before: 0,
+        begins: Begins::Plain,
+    },
+    Wrapper {
         name: "nohup",
         options: &[],
         before: 0,

@@ -6,6 +6,7 @@ use crate::journal::labels::KnownLabel;
 use crate::journal::reader::OpenJournal;
 use crate::objects::causes::causes_list;
 use crate::objects::job::{Around, Beside, around_file, around_journal, put_job, put_unloaded};
+use crate::objects::left::put_left;
 use crate::objects::left_out::put_left_out;
 use crate::texts::failing::job_fault;
 use crate::texts::since::start_second;
@@ -17,6 +18,7 @@ use history_model::{Entry, Reading};
 use json_lines::Value;
 use json_lines::Value::{Absent, Json, Moment, Text};
 use launchctl_words::ScopeCommand;
+use leftovers::RunProcess;
 use run_times::Page;
 use status_file::{JobFacts, JobStatus, StatusLine, state_name, state_of};
 use status_page::{Standing, gone_on, is_asked, reading_of, told_as_of, within_limits};
@@ -152,9 +154,10 @@ pub(crate) fn standing_objects(
     standing: &Standing,
     of: &ScopeCommand,
     second: u64,
+    left: &[RunProcess],
 ) -> Result<(String, u64), AllocError> {
     let zone = standing.zone(alloc, false)?;
-    let objects = objects_in(alloc, standing, of, second, &zone);
+    let objects = objects_in(alloc, standing, of, second, &zone, left);
     drop(zone);
     objects
 }
@@ -166,6 +169,7 @@ fn objects_in(
     of: &ScopeCommand,
     second: u64,
     zone: &Zone,
+    left: &[RunProcess],
 ) -> Result<(String, u64), AllocError> {
     let shown = standing.zone(alloc, of.is_utc)?;
     let last = reading_of(standing);
@@ -193,6 +197,9 @@ fn objects_in(
                 count = count.saturating_add(u64::from(fault.is_some()));
             }
         }
+    }
+    if !of.is_failing {
+        put_left(&mut page, left, around);
     }
     let left_out = put_left_out(&mut page, standing, of.words.as_slice(), around);
     count = count.saturating_add(left_out);

@@ -8,6 +8,7 @@ use crate::texts::told::ToldJob;
 use crate::texts::why::{add_last_end, add_refused, add_stand, facts_then, throttle_shown};
 use calendar_due::Zone;
 use history_model::{Ended, Entry, Reading, StandingChild};
+use leftovers::RunProcess;
 use run_times::Filling::{Number, Text, Time};
 use run_times::Page;
 use status_file::{DisabledBy, JobNote, JobStatus, RunEnd as EndOfRun, StatusLine};
@@ -28,9 +29,10 @@ pub(crate) fn standing_text(
     labels: &[history_model::Text],
     is_utc: bool,
     second: u64,
+    left: &[RunProcess],
 ) -> Result<String, AllocError> {
     let zone = standing.zone(alloc, false)?;
-    let text = text_in(alloc, standing, labels, is_utc, second, &zone);
+    let text = text_in(alloc, standing, labels, is_utc, second, &zone, left);
     drop(zone);
     text
 }
@@ -43,6 +45,7 @@ fn text_in(
     is_utc: bool,
     second: u64,
     zone: &Zone,
+    left: &[RunProcess],
 ) -> Result<String, AllocError> {
     let shown = standing.zone(alloc, is_utc)?;
     let last = reading_of(standing);
@@ -56,13 +59,64 @@ fn text_in(
         if let Ok(job) = line.job() {
             if is_asked(labels, job.label) {
                 add_job(&mut page, zone, standing, line, &job, clock);
+                add_left(&mut page, job.label, left);
             }
         }
     }
+    add_left_of_others(&mut page, standing, left);
     let _count = add_left_out(&mut page, standing, labels);
     let text = page.into_text();
     drop(shown);
     text
+}
+
+// A line for each process that runs of the job left running.
+fn add_left(page: &mut Page<'_>, label: &str, left: &[RunProcess]) {
+    for process in left {
+        if process.label.as_str() == label {
+            add_process(page, process);
+        }
+    }
+}
+
+// The same of labels that are not loaded.
+fn add_left_of_others(page: &mut Page<'_>, standing: &Standing, left: &[RunProcess]) {
+    for process in left {
+        let label = process.label.as_str();
+        if !has_line(standing, label) {
+            page.add(
+                "\nProcess $ ($) of run $ of $, which is not loaded, still runs.\n",
+                &[
+                    Number(u64::from(process.pid)),
+                    Text(process.name.as_str()),
+                    Number(process.run),
+                    Text(label),
+                ],
+            );
+        }
+    }
+}
+
+// Whether the file has a line of this job that was asked for.
+fn has_line(standing: &Standing, label: &str) -> bool {
+    for line in standing.jobs() {
+        match line.job() {
+            Ok(job) if job.label == label => return true,
+            _ => {}
+        }
+    }
+    false
+}
+
+fn add_process(page: &mut Page<'_>, process: &RunProcess) {
+    page.add(
+        "  Process $ ($) of its run $ still runs.\n",
+        &[
+            Number(u64::from(process.pid)),
+            Text(process.name.as_str()),
+            Number(process.run),
+        ],
+    );
 }
 
 // What is told of a job. Of a launcher that is gone its causes are not: they were those of another moment.
