@@ -16,7 +16,7 @@ end() {
 }
 trap end EXIT
 mkdir -m 700 "$folder/spool"
-(cd "$folder" && exec "$programs/jobd" serve --socket jobd.sock --store overrides.db --spool spool --journal journal.jsonl > jobd.log 2>&1) &
+(cd "$folder" && JOBD_STATUS_FILE=$folder/status.jsonl exec "$programs/jobd" serve --socket jobd.sock --store overrides.db --spool spool --journal journal.jsonl > jobd.log 2>&1) &
 for _ in $(seq 50); do [ -S "$folder/jobd.sock" ] && break; sleep 0.1; done
 python3 - "$programs:$PWD/contrib" "$folder" <<'END'
 import os, sys
