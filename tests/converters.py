@@ -2,11 +2,13 @@
 """What from-systemd and from-supervisor make of worked units and programs, and what they tell. It needs no program of ours, and is run by hand."""
 import json
 import os
+import pwd
 import subprocess
 import sys
 import tempfile
 
 CONTRIB = os.path.join(os.path.dirname(os.path.dirname(os.path.abspath(__file__))), "contrib")
+ROOT = pwd.getpwnam("root")
 ONCE = "TERM and KILL go to the program itself"
 DEFAULT = "ExitTimeOut is 90 where a unit has no TimeoutStopSec"
 
@@ -32,8 +34,33 @@ SYSTEMD = [
      ["no 64 entries say these lines"], []),
     ({"a.service": "[Service]\nEnvironmentFile=%t/none\nEnvironmentFile=FOLDER/vars\nExecStart=/bin/x ${A} ${B} ${C}\n",
       "vars": "# it\nA=plain words  \nB=\"a \\\"b\\\" $c\"\nC='x'  y\\ z\n"}, "a.service", {"ProgramArguments": ["/bin/x", "plain words", 'a "b" $c', "xy z"]}, [], []),
+    ({"a.service": "[Service]\nExecStart=/bin/x\n", "a.timer": "[Timer]\nOnCalendar=Mon-Fri 10:00\n"}, "a.timer",
+     {"StartCalendarInterval": [{"Weekday": day, "Hour": 10, "Minute": 0} for day in (1, 2, 3, 4, 5)]}, [], []),
+    ({"a.service": "[Service]\nExecStart=/bin/x\n", "a.timer": "[Timer]\nOnCalendar=Monkey 10:00\n"}, "a.timer", None, ["'monkey' is no weekday"], []),
+    ({"a.service": "[Service]\nExecStart=/bin/x\nRestart=on-failure\n", "a.timer": "[Timer]\nOnCalendar=daily\n"}, "a.timer", {"KeepAlive": {"SuccessfulExit": False}},
+     ["Restart=on-failure: a job that is kept alive starts at its load too"], []),
+    ({"a.service": "[Service]\nExecStart=-/bin/x\nLimitFSIZE=1G\nLimitNICE=+5\nLimitCPU=1min\nLimitNOFILE=1K\n"}, "a.service",
+     {"ProgramArguments": ["/usr/bin/prlimit", "--fsize=1073741824", "--nice=15", "--cpu=60", "--", "/bin/x"]}, ["ExecStart=-/bin/x: a code other than 0", "LimitNOFILE=1K"], []),
+    ({"a@.service": "[Service]\nExecStart=/bin/x\nUser=%i\n", "a@.service.d/b.conf": "[Service]\nEnvironment=A=%h\n"}, "a@root.service",
+     {"ProgramArguments": ["/bin/x"], "EnvironmentVariables": {"A": "/root", "HOME": ROOT.pw_dir, "SHELL": ROOT.pw_shell, "USER": "root", "LOGNAME": "root"}, "Label": "a@root"}, [], ["no such user"]),
+    ({"lib/systemd/system/a-b.service": "[Service]\nExecStart=/bin/x ${A} ${B} ${C} ${D}\nEnvironment=A=1 B=1 C=1 D=1\n", "etc/systemd/system/a-b.service.d/2.conf": "[Service]\nEnvironment=A=2\n",
+      "lib/systemd/system/a-.service.d/1.conf": "[Service]\nEnvironment=A=3 B=3\n", "run/systemd/system/service.d/1.conf": "[Service]\nEnvironment=B=4\n",
+      "lib/systemd/system/a-b.service.d/3.conf": "[Service]\nEnvironment=C=5\n", "etc/systemd/system/a-b.service.d/3.conf": "/dev/null"}, "lib/systemd/system/a-b.service",
+     {"ProgramArguments": ["/bin/x", "2", "3", "1", "1"]}, [], []),
+    ({"lib/systemd/system/a.service": "[Service]\nExecStart=/bin/x\n", "etc/systemd/system/a.service": "[Service]\nExecStart=/bin/y\n"}, "lib/systemd/system/a.service", None, ["a.service in its place"], []),
+    ({"lib/systemd/system/a.service": "[Service]\nExecStart=/bin/x\n", "etc/systemd/system/a.service": "/dev/null"}, "lib/systemd/system/a.service", None, ["masks it"], []),
+    ({"lib/systemd/system/a.service": "[Service]\nExecStart=/bin/x\n", "etc/systemd/system/a.timer": "[Timer]\nOnBootSec=1\n"}, "etc/systemd/system/a.timer", {"RunAtLoad": True}, [], []),
+    ({".config/systemd/user/a.service": "[Service]\nExecStart=/bin/x %E\nCacheDirectory=c\n"}, ".config/systemd/user/a.service", {"WorkingDirectory": os.path.expanduser("~")},
+     ["CacheDirectory=c: no folder is made for a user's unit"], []),
+    ({"a.service": "[Service]\nExecStart=/bin/x ${STATE_DIRECTORY}\nStateDirectory=b c/d\n"}, "a.service", {"EnvironmentVariables": {"STATE_DIRECTORY": "/var/lib/b:/var/lib/c/d"}}, [], []),
+    ({"a.service": "[Service]\nExecStart=/bin/x\nEnvironmentFile=FOLDER/v\n", "v": "A=one \\\n  two\nB='x\ny'\n#C=1 \\\nD=2\nE=3"}, "a.service",
+     {"EnvironmentVariables": {"A": "one   two", "B": "x\ny", "E": "3"}}, [], []),
 ]
 SUPERVISOR = [
+    ("[supervisord]\nenvironment=A=one\nminfds=65536\n[program:x]\ncommand=x %(ENV_A)s %(ENV_B)s %(group_name)s\nenvironment=B=\"t\\wo\",PATH=/y\nstopwaitsecs=0\nstdout_logfile=off\n",
+     {"ProgramArguments": ["x", "one", "two", "x"], "EnvironmentVariables": {"A": "one", "B": "t\\wo", "PATH": "/y"}, "ExitTimeOut": 1, "StandardOutPath": None},
+     ["minfds=65536: supervisord raises its own limit", "KILL comes a second after TERM", "x is looked for in the PATH of environment"], []),
+    ("[program:x]\ncommand=x %(ENV_PATH)s %(group_name)s\n[program:y]\n[group:g]\nprograms=x\n", None, ["ENV_PATH is '", "[group:g]: nothing here is like it", "no command"], []),
     ("[supervisord]\nenvironment=A=\"1\",B=2\numask=027\nstrange=5\n[program:x]\ncommand=/bin/x 'a b'\nenvironment=B=3\n",
      {"EnvironmentVariables": {"A": "1", "B": "3"}, "ProgramArguments": ["/bin/sh", "-c", 'umask 027 && exec "$0" "$@"', "/bin/x", "a b"]},
      ["strange=5: nothing here is like it", "supervisor gives up after startretries"], []),
@@ -59,6 +86,10 @@ def main():
             place = os.path.join(folder, str(number))
             os.mkdir(place)
             for name, text in files.items():
+                os.makedirs(os.path.dirname(f"{place}/{name}"), exist_ok=True)
+                if text == "/dev/null":
+                    os.symlink(text, f"{place}/{name}")
+                    continue
                 with open(f"{place}/{name}", "w", encoding="utf-8") as it:
                     it.write(text.replace("FOLDER", place))
             ran = subprocess.run([f"{CONTRIB}/from-systemd", "--logs", "/l", f"{place}/{given}"], capture_output=True, text=True, check=False)

@@ -5,17 +5,23 @@
 
 TREE is a Debian with the package cron. Of each line of each case: `crontab -n` there takes it exactly if the case has a definition of it, but for what `STRICTER`
 names; the entries of the case match exactly the minutes that crontab(5) gives its fields, over each day of a month, weekday and minute; and cron itself, started
-there with the line's command behind @reboot, hands the shell the command that the case has, with the case's variables, in its working folder. No program of ours
-runs. A definition with a guard is not looked at but for its command (`guards.py` does). Status 1 if one differs. It is run by hand, as root.
+there with the line's command behind @reboot, hands the shell the command that the case has, with the case's variables, in its working folder. SHELL, HOME, LOGNAME and the folder
+are those that crontab(5) says, by the users of this machine. Of a definition with a guard
+the command runs at exactly the minutes of the fields too, over a week of minutes: the guard of the case is run by a shell, as in `guards.py`. No program of ours
+runs. Status 1 if one differs. It is run by hand, as root.
 """
+import grp
 import json
 import os
+import pwd
 import re
 import subprocess
 import sys
 import time
 
 sys.dont_write_bytecode = True
+import guards
+
 TOP = os.path.dirname(os.path.dirname(os.path.abspath(__file__)))
 NAMES = {"@yearly": "0 0 1 1 *", "@annually": "0 0 1 1 *", "@monthly": "0 0 1 * *", "@weekly": "0 0 * * 0", "@daily": "0 0 * * *", "@midnight": "0 0 * * *", "@hourly": "0 * * * *"}
 MONTHS = "jan feb mar apr may jun jul aug sep oct nov dec".split()
@@ -92,6 +98,32 @@ def entries_minutes(entries):
     return at
 
 
+def cron_sets(parts, variables, user):
+    """SHELL, HOME and LOGNAME as crontab(5) has them, for a crontab of the asker or, with a user's field, of that user: the first two may be set by a line, LOGNAME may not. And the
+    folder, which is the home folder."""
+    around = dict(it.split("=", 1) for it in parts.get("environment", []))
+    lines = dict(re.match(r"""["']?([^"'\s=]+)["']?\s*=\s*(.*)""", it).groups() for it in variables)
+    of_all = {it.pw_name: it for it in pwd.getpwall()}
+    home, name = around.get("HOME"), around.get("LOGNAME")
+    if user:
+        home, name = of_all[user].pw_dir if user in of_all else None, user
+    elif home and not name:
+        name = next((it.pw_name for it in pwd.getpwall() if it.pw_dir == home), None)
+    home = lines.get("HOME", home)
+    return {"SHELL": lines.get("SHELL", "/bin/sh"), "HOME": home, "LOGNAME": name}, home
+
+
+def user_before(words, user):
+    """Whether the words before the shell are those by which setpriv(1) makes a program the user's, with all of the user's groups."""
+    if user in (None, "root"):
+        return words == []
+    groups = {user}
+    if user in (it.pw_name for it in pwd.getpwall()):
+        number = pwd.getpwnam(user).pw_gid
+        groups = {str(number), grp.getgrgid(number).gr_name}
+    return words[:2] == ["/usr/bin/setpriv", f"--reuid={user}"] and words[2].removeprefix("--regid=") in groups and words[3:] == ["--init-groups", "--"]
+
+
 def is_taken(tree, variables, line):
     with open(f"{tree}/root/try.tab", "w", encoding="utf-8") as file:
         file.write("".join(f"{it}\n" for it in [*variables, line]))
@@ -143,7 +175,7 @@ def run_cron(tree, tabs):
 
 
 def main(tree):
-    faults, looked, tabs, wanted = [], [0, 0, 0], {}, {}
+    faults, looked, tabs, wanted = [], [0, 0, 0, 0], {}, {}
     for name, parts in cases():
         lines, is_system = lines_of(parts)
         made = [json.loads(it) for it in parts.get("output", [])]
@@ -176,11 +208,24 @@ def main(tree):
             if cut[1].strip() == "@reboot":
                 if not own[0].get("RunAtLoad"):
                     faults.append(f"{name}: {line!r} is not run at the load")
-            elif not ("set -- " in words[2] and len(words) > 3):
+            elif not any("set -- " in it for it in words[:-3]):
                 looked[1] += 1
                 both = minutes_of(fields), entries_minutes(own[0]["StartCalendarInterval"])
                 if any(both[0](*it) != both[1](*it) for it in ((month, day, weekday) for month in range(1, 13) for day in range(1, 32) for weekday in range(7))):
                     faults.append(f"{name}: {line!r}: its entries are of other minutes")
+            else:
+                looked[3] += 1
+                at_each = minutes_of(fields)
+                wrong, _ = guards.faults_of(own[0], lambda at, has=at_each: has(at.month, at.day, at.isoweekday() % 7) >> (at.hour * 60 + at.minute) & 1)
+                faults += [f"{name}: {line!r}: its guard decides otherwise: {it}" for it in wrong[:3]]
+            user = re.match(r"(?:\S+[ \t]+){%d}(\S+)" % count, text)[1] if is_system else None
+            own_variables, home = cron_sets(parts, variables, user)
+            found = {it: own[0]["EnvironmentVariables"].get(it) for it in own_variables}
+            if found != own_variables or own[0].get("WorkingDirectory") != home:
+                faults.append(f"{name}: {line!r}: crontab(5) sets {own_variables}, the case has {found}")
+            before = [] if any("set -- " in it for it in words[:-3]) else words[:-3]
+            if words[-3:-1] != [own_variables["SHELL"], "-c"] or not user_before(before, user):
+                faults.append(f"{name}: {line!r}: it is not run by {own_variables['SHELL']} as {user}")
             key = f"c{len(tabs)}"
             shells = [it for it in variables if not it.startswith("SHELL")]
             tabs[key] = "".join(f"{it}\n" for it in [*shells, "SHELL=/root/record", f"CASE={key}"]) + f"@reboot root {cut[2]}\n"
@@ -206,7 +251,7 @@ def main(tree):
         if made["EnvironmentVariables"].get("HOME") == variables["HOME"] and os.path.isdir(f"{tree}{variables['HOME']}") and made.get("WorkingDirectory") != folder:
             faults.append(f"{name}: {line!r}: cron runs it in {folder}")
     print("\n".join(faults))
-    print(f"{looked[0]} lines beside crontab -n, {looked[1]} calendars, {looked[2]} commands that cron ran: {len(faults)} differ")
+    print(f"{looked[0]} lines beside crontab -n, {looked[1]} calendars, {looked[3]} guards over a week, {looked[2]} commands that cron ran: {len(faults)} differ")
     return 1 if faults or not all(looked) else 0
 
 

@@ -1,10 +1,10 @@
 #!/usr/bin/env python3
 """What a test before a command lets through, over a week of minutes, beside what the crontab or the timer says itself.
 
-    guards.py [PROGRAMS]
+    guards.py [PROGRAMS [DAY]]
 
-Each line and timer makes a definition, by `jobscope cron` of PROGRAMS (build/ where absent) and by from-systemd. Over each minute of a week in which the
-clock is put forward, the calendar's entries say whether the job starts; the test is run by a shell at that moment, once at its first second and once at
+Each line and timer makes a definition, by `jobscope cron` of PROGRAMS (build/ where absent) and by from-systemd. Over each minute of the week from DAY (2026-03-26 where absent, when
+the clock is put forward; 2026-10-22 has it put back), the calendar's entries say whether the job starts; the test is run by a shell at that moment, once at its first second and once at
 the last second before the next entry, as a late start is. The command has to run at exactly the minutes that the line's fields match, which are read
 anew here. Status 1 if one differs. It takes a minute, and is run by hand.
 """
@@ -18,7 +18,6 @@ import tempfile
 import zoneinfo
 
 TOP = os.path.dirname(os.path.dirname(os.path.abspath(__file__)))
-PROGRAMS = os.path.abspath(sys.argv[1]) if sys.argv[1:] else f"{TOP}/build"
 ZONE = "Europe/Berlin"
 FIRST, DAYS = datetime.datetime(2026, 3, 26, tzinfo=datetime.timezone.utc), 7
 LINES = ["*/5 8-18 * * 1-5", "0,30 8-18 * * 1-5", "7,37 8-18 * * 1-5", "*/10 8-18 1-29/2 * 1", "0 3 */2 * 1-5", "50 23 */2 * 1-5", "3-59/7 1-4,9-17 26-31 3,4 *", "*/4 * * * 0,6,7",
@@ -109,4 +108,8 @@ def main():
     return int(faults > 0)
 
 
-sys.exit(main())
+if __name__ == "__main__":
+    PROGRAMS = os.path.abspath(sys.argv[1]) if sys.argv[1:] else f"{TOP}/build"
+    if sys.argv[2:]:
+        FIRST = datetime.datetime.fromisoformat(sys.argv[2]).replace(tzinfo=datetime.timezone.utc)
+    sys.exit(main())
