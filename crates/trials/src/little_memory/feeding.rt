@@ -33,14 +33,24 @@ pub fn fed(alloc: Global, is_whole: bool) -> Option<LineFeed> {
     }
 }
 
-/// All lines that the feed has, each with a newline behind it. None without memory.
-fn lines_of(alloc: Global, feed: &mut LineFeed) -> Option<Vec<u8>> {
-    let mut lines = Vec::new(alloc);
-    while let Some(line) = feed.next_line().ok()? {
-        lines.extend_from_slice(line.as_slice()).ok()?;
-        lines.push(b'\n').ok()?;
+/// More lines than the feed has.
+const LINES: usize = 4;
+
+/// Adds the lines that the feed has, each with a newline behind it, and tells whether these are all.
+fn add_lines(feed: &mut LineFeed, lines: &mut Vec<u8>) -> bool {
+    for _ in 0..LINES {
+        match feed.next_line() {
+            Ok(Some(line)) => {
+                let is_added = lines.extend_from_slice(line.as_slice()).is_ok();
+                if !is_added || lines.push(b'\n').is_err() {
+                    return false;
+                }
+            }
+            Ok(None) => return true,
+            Err(_) => return false,
+        }
     }
-    Some(lines)
+    false
 }
 
 /// Feeds the piece, or takes the first line. If that is refused, the feed has what it had, and the same call with memory is not.
@@ -66,9 +76,7 @@ pub fn is_kept(alloc: Global, feed: &mut LineFeed, is_taking: bool, answer: Answ
         return false;
     }
     let wanted = if is_made && is_taking { SECOND } else { BOTH };
-    let is_all = match lines_of(alloc, feed) {
-        Some(lines) => lines.as_slice() == wanted,
-        None => false,
-    };
-    is_all && feed.rest() == b"third".as_slice()
+    let mut lines = Vec::new(alloc);
+    let is_all = add_lines(feed, &mut lines);
+    is_all && lines.as_slice() == wanted && feed.rest() == b"third".as_slice()
 }
