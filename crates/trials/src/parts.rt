@@ -42,12 +42,12 @@ static LINES: &[Line] = &[
     (
         "lines_are_read_and_written",
         &[
-            Case::Lines(Event, true, texts::EVENTS),
-            Case::Lines(Request, true, texts::REQUESTS),
+            Case::Lines(Event, texts::EVENTS),
+            Case::Lines(Request, texts::REQUESTS),
         ],
     ),
     (
-        "outcomes_and_replies_are_written",
+        "replies_are_written",
         &[Case::Outcomes(lines::outcomes::TOLD)],
     ),
 ];

@@ -64,11 +64,9 @@ const AGAIN: &Scene = &Scene {
     steps: &[
         Step::Answers(START, SOME_CHILD),
         Step::Ends(POLL, Scripted::Over(Ended::Code(7))),
-        Step::HasFailed(0),
         Step::Answers(POLL, Scripted::Refused),
         Step::Answers(TERM, Scripted::Refused),
         Step::Answers(KILL, Scripted::Refused),
-        Step::HasFailed(3),
         Step::Answers(START_2, SOME_CHILD),
         Step::Answers(START_2, Scripted::Refused),
         Step::Answers(EdgeCall::Term { job: 0, run: 2 }, Scripted::Done),
@@ -76,7 +74,6 @@ const AGAIN: &Scene = &Scene {
             EdgeCall::Poll { job: 0, run: 2 },
             Scripted::Over(Ended::Signal(15)),
         ),
-        Step::HasFailed(4),
     ],
 };
 
@@ -90,7 +87,6 @@ const ENDED: &Scene = &Scene {
         Step::Answers(TERM, Scripted::Done),
         Step::Answers(KILL, Scripted::Done),
         Step::Ends(POLL, Scripted::Over(Ended::Code(3))),
-        Step::HasFailed(0),
     ],
 };
 
@@ -120,12 +116,10 @@ const TWICE: &Scene = &Scene {
         Step::Answers(EdgeCall::Bind { job: 1 }, Scripted::Refused),
         Step::Answers(BIND, Scripted::Refused),
         Step::NobodyCalls,
-        Step::HasFailed(2),
         Step::CallPort,
         Step::IsTaken(true),
         Step::CallPort,
         Step::IsTaken(false),
-        Step::HasFailed(3),
         Step::IsSpooled(true),
         Step::Answers(EdgeCall::Close { job: 0, conn: 1 }, Scripted::Done),
         Step::IsSpooled(false),

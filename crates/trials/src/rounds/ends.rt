@@ -333,15 +333,13 @@ fn played<R: System, H: LoopHost + Drop>(
 fn is_played(rt: &HostRuntime, ends: &Ends, folder: &str) -> Option<bool> {
     let alloc = rt.alloc();
     let own = rt.clone().ok()?;
-    let mut host = launcher_over(own, folder)?;
-    let mut replies = Vec::new(alloc);
-    let loaded = load_all(alloc, &mut host, folder, ends.jobs, &mut replies);
-    if loaded.is_none() {
-        drop(host);
-        drop(replies);
-        return None;
-    }
     let asked_by = asked_by(rt, folder)?;
+    let Some(mut host) = launcher_over(own, folder) else {
+        drop(asked_by);
+        return None;
+    };
+    let mut replies = Vec::new(alloc);
+    let are_loaded = load_all(alloc, &mut host, folder, ends.jobs, &mut replies).is_some();
     let slept = host.edge().slept();
     let launcher = RoundLauncher::new(host, slept);
     let (all_go, replies, launcher) = played(rt, launcher, asked_by, folder, replies, ends.steps)?;
@@ -352,7 +350,8 @@ fn is_played(rt: &HostRuntime, ends: &Ends, folder: &str) -> Option<bool> {
     drop(edge);
     match journal {
         Some(sink) => {
-            Some(all_go && are_replayed(alloc, sink.taken.as_slice(), replies.as_slice()))
+            let are_replayed = are_replayed(alloc, sink.taken.as_slice(), replies.as_slice());
+            Some(are_loaded & all_go & are_replayed)
         }
         None => None,
     }

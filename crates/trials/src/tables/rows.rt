@@ -4,6 +4,7 @@
 
 use crate::tables::rows::Event::*;
 use crate::tables::rows::Row::*;
+use history_model::JobNo;
 
 /// What happens.
 pub enum Event {
@@ -18,11 +19,11 @@ pub enum Event {
 pub enum Row {
     /// An event, with how many jobs are asked and how many orders come; none if the event is refused.
     Asks(Event, Option<(u32, usize)>),
-    /// A load. The job has the number of this place, which is the place's from its first such row on, and another place's never.
-    Numbered(&'static str, usize),
-    /// After this label the next child is of this label, the number of the place, and this run; or there is none.
-    Child(&'static str, Option<(&'static str, usize, u64)>),
-    /// After this path this one is listed next; or none is.
+    /// A load. The job has this number.
+    Numbered(&'static str, JobNo),
+    /// Behind this label the next child is of this label, number and run; or there is none.
+    Child(&'static str, Option<(&'static str, JobNo, u64)>),
+    /// Behind this path this one is listed next; or none is.
     Path(&'static str, Option<&'static str>),
     /// No job is there.
     Empty,
@@ -44,13 +45,13 @@ pub const GIVEN_BACK: &[Row] = &[Numbered(RESTS_A, 0), Asks(Unload("a"), Some((0
 
 /// Children come in the order of labels.
 pub const CHILDREN: &[Row] = &[
-    Numbered(RUNS_B, 1),
-    Numbered(RUNS_A, 0),
+    Numbered(RUNS_B, 0),
+    Numbered(RUNS_A, 1),
     Asks(Load(RUNS_C), Some((1, 1))),
     Asks(Spawned("a", 1), Some((1, 0))),
     Asks(Spawned("b", 1), Some((1, 0))),
-    Child("", Some(("a", 0, 1))),
-    Child("a", Some(("b", 1, 1))),
+    Child("", Some(("a", 1, 1))),
+    Child("a", Some(("b", 0, 1))),
     Child("b", None),
 ];
 

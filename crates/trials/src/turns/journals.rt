@@ -124,9 +124,3 @@ pub fn become_so(alloc: Global, row: &Row) -> Option<bool> {
     drop(header);
     Some(are_so)
 }
-
-/// Returns whether no journal stays silent: nothing is reported and nothing is given back.
-pub fn is_silent(alloc: Global) -> Option<bool> {
-    let told = turned(alloc, Journal::none());
-    Some(told == (false, false, false))
-}
