@@ -10,7 +10,7 @@ use std::io::Write;
 use std::time::SystemTime;
 use std::{fs, io, mem};
 
-/// As many bytes of the text are written in one pass of the event loop, at most.
+/// How many bytes of the text are written in one pass of the event loop, at most.
 const PIECE: usize = 65_536;
 
 /// The file, with its lock, which is held until this is dropped.

@@ -12,8 +12,8 @@ use std::fmt::Write;
 use std::fs::Files;
 use std::str;
 
-/// How many bytes of a process's variables are read: Linux gives a program no more for both its arguments and its variables, unless its
-/// stack is made larger than 8 MiB.
+/// How many bytes of a process's variables are read. Linux allows no more for arguments and variables together, unless the limit on the
+/// stack is above 8 MiB.
 const VARIABLES: usize = 2_097_152;
 
 /// How many bytes of `/proc/PID/stat` are read.

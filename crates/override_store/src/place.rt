@@ -30,7 +30,7 @@ pub enum Telling {
 
 /// Opens the database of a store, and again after its disk failed. A `C` is a connection to it.
 pub trait StorePlace<C> {
-    /// How often it was asked for a connection. A place that does not tell has none.
+    /// How often it was asked for a connection. A place that does not record it has none.
     ghost asked: { Self → Option ℕ };
 
     /// A new connection to the database. No other connection that it gave is there any more. No clause says what it finds: the store looks.

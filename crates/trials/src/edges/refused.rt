@@ -1,4 +1,4 @@
-//! The edge over a system that refuses each call: what it answers, keeps and tells. That it counts each refusal is proved.
+//! The edge over a system that refuses each call: what it answers, keeps and logs. That it counts each refusal is proved.
 
 use crate::edges::calls::{Jobs, Told, are_answered, jobs_of};
 use crate::edges::places::edge_over;
@@ -6,7 +6,7 @@ use crate::edges::refusing::{Found, Grants, Refusing, new_refusing};
 use child_edge::{EdgeCall, OsEdge, Scripted};
 use std::io::ErrorKind;
 
-/// How every call fails, the child that starts if one does, the calls, and what is then told, if that is looked at.
+/// How every call fails, the child that starts if one does, the calls, and what it then logs, if that is looked at.
 pub struct Refused {
     kind: ErrorKind,
     child: Option<Found>,
@@ -51,7 +51,7 @@ const CLOSE: EdgeCall = EdgeCall::Close { job: 0, conn: 1 };
 
 const RELEASE: EdgeCall = EdgeCall::Release { job: 0 };
 
-/// Each call is answered by its fault, want of memory told apart.
+/// Each call is answered by its fault; want of memory has one of its own.
 pub const NO_MEMORY: &Refused = &Refused {
     kind: ErrorKind::OutOfMemory,
     child: None,
@@ -130,7 +130,7 @@ fn are_told(edge: &mut OsEdge<Refusing>, lines: &[&str]) -> bool {
     are_so && is_all
 }
 
-/// Whether the calls are answered and told as it says.
+/// Whether the calls are answered and logged as it says.
 fn goes(edge: &mut OsEdge<Refusing>, jobs: &Jobs, refused: &Refused) -> bool {
     let are_answered = are_answered(edge, jobs, refused.calls);
     let are_told = match refused.told {
@@ -140,7 +140,7 @@ fn goes(edge: &mut OsEdge<Refusing>, jobs: &Jobs, refused: &Refused) -> bool {
     are_answered && are_told
 }
 
-/// Whether each refusal of the system is answered, kept and told.
+/// Whether the edge answers, keeps and logs each refusal of the system.
 pub fn is_so(rt: &HostRuntime, refused: &Refused) -> Option<bool> {
     let system = new_refusing(rt, refused.kind, refused.child, Grants::Nothing)?;
     let mut edge = edge_over(system, "/none")?;

@@ -13,7 +13,7 @@ const PIECE: &[u8] =
 
 const FIRST: &[u8] = b"first";
 
-/// The lines behind the first.
+/// The lines after the first.
 const SECOND: &[u8] =
     b"second, which is so long that the buffer has to grow for it: more than a hundred bytes, and some more than that\n";
 
@@ -36,7 +36,7 @@ pub fn fed(alloc: Global, is_whole: bool) -> Option<LineFeed> {
 /// More lines than the feed has.
 const LINES: usize = 4;
 
-/// Adds the lines that the feed has, each with a newline behind it, and tells whether these are all.
+/// Adds the lines that the feed has, each with its newline, and says whether these are all.
 fn add_lines(feed: &mut LineFeed, lines: &mut Vec<u8>) -> bool {
     for _ in 0..LINES {
         match feed.next_line() {

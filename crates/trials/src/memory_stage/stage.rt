@@ -23,7 +23,7 @@ const START: Reading = Reading {
     wall: 1_700_000_000,
 };
 
-/// An edge that gives the answers beside these calls.
+/// An edge that gives the answers besides these calls.
 pub fn edge(alloc: Global, calls: &[(EdgeCall, Scripted)]) -> Option<MemoryEdge> {
     let mut answers = Vec::new(alloc);
     for (_call, answer) in calls {

@@ -13,7 +13,7 @@ pub enum Step {
     Asked(&'static str),
     /// A piece of the reply, and how many bytes of it are taken.
     Reply(&'static str, usize),
-    /// So many bytes were sent.
+    /// How many bytes were sent.
     Sent(usize),
     ReplyEnd,
     /// What is left to send is this.

@@ -6,11 +6,11 @@ use timer_heap::TimerHeap;
 
 /// What is asked of a heap, and what is expected of it.
 pub enum Step {
-    /// Room for so many numbers is made.
+    /// Room for this number of entries is made.
     Reserve(u32),
     /// The job of this number has this deadline.
     Set(u32, u64),
-    /// The least moment is this, of the job of this number.
+    /// The least deadline is this, of the job of this number.
     Least(Option<(u32, u64)>),
     /// At this time this job's deadline comes out.
     Due(u64, Option<u32>),

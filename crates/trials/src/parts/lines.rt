@@ -65,7 +65,7 @@ pub fn again(alloc: Global, kind: Kind, line: &str) -> Result<Vec<u8>, ReadFault
     }
 }
 
-/// Whether the line is written again as it stands. Not if memory ran out.
+/// Whether the line is written again as it is. Not if memory ran out.
 fn is_kept(alloc: Global, kind: Kind, line: &str) -> bool {
     match again(alloc, kind, line) {
         Ok(written) => outcomes::is_line(written.as_slice(), line),

@@ -52,11 +52,11 @@ pub const OLD: &[Listed<'static>] = &[
     },
 ];
 
-/// Both tables, where a program of the first version wrote beside the new one.
+/// Both tables, where a program of the first version wrote next to the new one.
 pub const BOTH_TABLES: &str =
     "CREATE TABLE overrides (label TEXT NOT NULL PRIMARY KEY, disabled INTEGER NOT NULL CHECK (disabled IN (0, 1))) STRICT; CREATE TABLE settings (label TEXT NOT NULL PRIMARY KEY, disabled INTEGER NOT NULL CHECK (disabled IN (0, 1)), changed INTEGER NOT NULL CHECK (changed >= 0)) STRICT; INSERT INTO settings VALUES ('a', 0, 5); INSERT INTO overrides VALUES ('a', 1)";
 
-/// The row of the first version stands.
+/// The row of the first version is there.
 pub const OLD_BESIDE_NEW: &[Listed<'static>] = &[Listed {
     sets: &[],
     want: &[("a", true, 0)],
@@ -77,7 +77,7 @@ pub fn left_by(alloc: Global, made: &'static str, rounds: &[Listed<'_>]) -> Opti
     Some(files)
 }
 
-/// Whether the settings of all rounds last.
+/// Whether the settings of all turns last.
 pub fn do_last(alloc: Global, made: &'static str, rounds: &[Listed<'_>]) -> bool {
     are_there(left_by(alloc, made, rounds))
 }

@@ -15,7 +15,7 @@ const ON: Row<'static> = ("c", true, SECOND);
 
 const OFF: Row<'static> = ("c", false, SECOND);
 
-/// What may be found: the settings of the first version, and one of the two behind them or neither.
+/// What may be found: the settings of the first version, and one of the two after them or neither.
 static WITH_NEITHER: [Row<'static>; 2] = [("a", true, 0), ("b", false, 0)];
 
 static WITH_ON: [Row<'static>; 3] = [("a", true, 0), ("b", false, 0), ON];

@@ -6,7 +6,7 @@ use history_model::{JobNo, Obs, Reading, Refusal};
 use job_table::{JobTable, Step};
 use std::alloc::Global;
 
-/// The reading at so many milliseconds of `up`.
+/// The clock reading at this `up`.
 fn at(up: u64) -> Reading {
     Reading {
         up,

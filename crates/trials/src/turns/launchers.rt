@@ -15,7 +15,7 @@ type Told = (Input<'static>, u8, &'static str, usize);
 
 /// What a launcher gets, and what comes of it.
 pub struct Turns {
-    /// What its store answers if it is told a setting.
+    /// What its store answers if it is given a setting.
     answer: bool,
     /// How many lines its journal takes.
     writes: usize,
