@@ -1,5 +1,5 @@
 #!/usr/bin/env python3
-"""Compares the figures of bench/RESULTS.md, and those of other supervisors there and in README.md, with bench/history.csv: each has to be the last one under the
+"""Compares the figures of bench/RESULTS.md, those of other supervisors there and in README.md, and the size of the programs in README.md, with bench/history.csv: each has to be the last one under the
 words of its row's first column, and no later one may stand there under the same words with other circumstances (QUALIFIER).
 
     bench/results.py            tells which is not; the status is 1 if there is one
@@ -93,6 +93,16 @@ def peers_compared(path, wanted, last):
     return "\n".join(lines) + "\n", faults
 
 
+def size_compared(text, last):
+    """README with the size of the file of the programs, as it was measured last, and what differs."""
+    figure = f"{last['the file of the three programs', 'bytes'] / 1e6:.1f}"
+    found = re.search(r"One file of ([\d.]+) MB", text)
+    if found is None:
+        return text, ["README.md does not say how large the file of the programs is"]
+    faults = [] if found[1] == figure else [f"README.md: a file of {found[1]} MB, and the last is {figure}"]
+    return text.replace(found[0], f"One file of {figure} MB"), faults
+
+
 KINDS = last_kinds()
 
 
@@ -114,6 +124,8 @@ def main(words):
             faults += new
         lines.append(line)
     readme, new = peers_compared(README, README_ROWS, last)
+    faults += new
+    readme, new = size_compared(readme, last)
     faults += new
     print("\n".join([*faults, f"{len(faults)} figures are not the last"]))
     if words == ["--write"]:

@@ -29,7 +29,7 @@ ln -s jobd "$stage/bin/jobscope"
 install -m 644 man/*.[158] "$stage/man"
 cp -r completions "$stage"
 install -m 644 contrib/jobd.service contrib/jobd@.service contrib/jobd-user.service contrib/jobd.logrotate contrib/Containerfile contrib/moving.py "$stage/contrib"
-install -m 755 contrib/jobd-run contrib/jobd.openrc contrib/jobd.runit contrib/jobctl-reload contrib/jobd-split-users contrib/from-systemd contrib/from-supervisor contrib/to-kubernetes \
+install -m 755 contrib/jobd-run contrib/jobd.openrc contrib/jobd.runit contrib/jobctl-reload contrib/jobd-group contrib/jobd-split-users contrib/from-systemd contrib/from-supervisor contrib/to-kubernetes \
     contrib/jobd-on-slurm contrib/jobd-metrics "$stage/contrib"
 cp -r contrib/ansible "$stage/contrib"
 for page in TUTORIAL COOKBOOK MOVING OPERATING DAMAGED-STORE WHY-NOT-RUNNING DIFFERENCES JSON BEYOND-ONE-MACHINE; do

@@ -37,11 +37,11 @@ put() {
     install -d "$root/bin" "$root/libexec" "$root/share/man/man1" "$root/share/man/man5" "$root/share/man/man8" \
         "$doc/contrib" "$doc/examples" "$root/share/bash-completion/completions" "$root/share/fish/vendor_completions.d" \
         "$root/share/zsh/site-functions"
-    install -m 755 "$programs/jobd" contrib/jobctl-reload contrib/jobd-split-users "$root/bin"
+    install -m 755 "$programs/jobd" contrib/jobctl-reload contrib/jobd-group contrib/jobd-split-users "$root/bin"
     for name in jobctl jobscope; do
         ln -sfn jobd "$root/bin/$name"
     done
-    install -m 644 man/jobctl.1 man/jobscope.1 "$root/share/man/man1"
+    install -m 644 man/jobctl.1 man/jobd-group.1 man/jobscope.1 "$root/share/man/man1"
     # The page of a version before.
     rm -f "$root/share/man/man1/jobctl-reload.1"
     install -m 644 man/jobd.json.5 man/jobd.journal.5 "$root/share/man/man5"
@@ -73,8 +73,8 @@ put() {
 
 # The folder of documents is this project's own; of the others only those that it left empty go.
 remove() {
-    rm -f "$root/bin/jobd" "$root/bin/jobctl" "$root/bin/jobscope" "$root/bin/jobctl-reload" "$root/bin/jobd-split-users" "$root/libexec/jobd-run" \
-        "$root/share/man/man1/jobctl.1" "$root/share/man/man1/jobctl-reload.1" "$root/share/man/man1/jobscope.1" \
+    rm -f "$root/bin/jobd" "$root/bin/jobctl" "$root/bin/jobscope" "$root/bin/jobctl-reload" "$root/bin/jobd-group" "$root/bin/jobd-split-users" "$root/libexec/jobd-run" \
+        "$root/share/man/man1/jobctl.1" "$root/share/man/man1/jobd-group.1" "$root/share/man/man1/jobctl-reload.1" "$root/share/man/man1/jobscope.1" \
         "$root/share/man/man5/jobd.json.5" "$root/share/man/man5/jobd.journal.5" "$root/share/bash-completion/completions/jobscope" \
         "$root/share/fish/vendor_completions.d/jobscope.fish" "$root/share/zsh/site-functions/_jobscope" \
         "$root/share/man/man8/jobd.8" "$root/share/man/man8/jobd-run.8" "$root/share/man/man8/jobd-split-users.8" "$root/share/bash-completion/completions/jobctl" \

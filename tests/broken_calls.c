@@ -1,4 +1,4 @@
-/* Calls of the system that go wrong, for broken_scenes.py and damaged_stores.py: a library that is loaded before the launcher's own. The word
+/* Calls of the system that go wrong, for broken_scenes.py, damaged_stores.py and scarce_system.py: a library that is loaded before the launcher's own. The word
    BREAK of the environment says which call goes wrong and how, or FAIL_AT which one is refused; each other call is done as it is. */
 #define _GNU_SOURCE
 #include <dlfcn.h>
@@ -30,6 +30,18 @@ static int ends(const char *path, const char *end) {
   size_t long_ = strlen(path), short_ = strlen(end);
   return long_ >= short_ && !strcmp(path + long_ - short_, end);
 }
+
+/* Memory is refused while the file is there that NO_MEMORY names. */
+static int has_memory(void) {
+  const char *path = breaks("memory_is_refused") ? getenv("NO_MEMORY") : 0;
+  return !path || syscall(SYS_access, path, F_OK) != 0;
+}
+
+extern void *__libc_malloc(size_t), *__libc_realloc(void *, size_t);
+
+void *malloc(size_t size) { return has_memory() ? __libc_malloc(size) : 0; }
+
+void *realloc(void *old, size_t size) { return has_memory() ? __libc_realloc(old, size) : 0; }
 
 static int is_spooled(const char *path) { return ends(path, ".request") || ends(path, ".reply"); }
 

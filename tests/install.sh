@@ -84,7 +84,7 @@ tries() {
     touch "$root/bin/other" "$root/share/man/man1/other.1"
     find "$scratch/root" | sort >"$scratch/before"
     "$way" install "$1" >"$scratch/log" 2>&1 || fail "$(cat "$scratch/log")"
-    for path in bin/jobd bin/jobctl bin/jobscope bin/jobctl-reload bin/jobd-split-users libexec/jobd-run share/doc/jobd/contrib/jobd.openrc share/doc/jobd/contrib/jobd.runit; do
+    for path in bin/jobd bin/jobctl bin/jobscope bin/jobctl-reload bin/jobd-group bin/jobd-split-users libexec/jobd-run share/doc/jobd/contrib/jobd.openrc share/doc/jobd/contrib/jobd.runit; do
         [ -x "$root/$path" ] || fail "$1: no program $path"
     done
     if "$root/bin/jobctl-reload" --all /etc/jobd 2>"$scratch/told"; then fail "$1: jobctl-reload does something"; else [ $? = 64 ] || fail "$1: the status of jobctl-reload"; fi
@@ -93,7 +93,7 @@ tries() {
         [ "$(readlink "$root/$path")" = jobd ] || fail "$1: $path is no link to jobd"
         [ "$stand_ins" -gt 0 ] || "$root/$path" --help | grep "^Usage: ${path#bin/} " >/dev/null || fail "$1: $path does not act by its name"
     done
-    for path in share/man/man1/jobctl.1 share/man/man1/jobscope.1 share/man/man5/jobd.json.5 share/man/man5/jobd.journal.5 share/man/man8/jobd.8 share/man/man8/jobd-run.8 share/man/man8/jobd-split-users.8 \
+    for path in share/man/man1/jobctl.1 share/man/man1/jobd-group.1 share/man/man1/jobscope.1 share/man/man5/jobd.json.5 share/man/man5/jobd.journal.5 share/man/man8/jobd.8 share/man/man8/jobd-run.8 share/man/man8/jobd-split-users.8 \
         share/bash-completion/completions/{jobctl,jobd,jobscope} share/fish/vendor_completions.d/{jobctl,jobd,jobscope}.fish \
         share/zsh/site-functions/{_jobctl,_jobd,_jobscope} share/doc/jobd/contrib/{jobd.service,jobd@.service,jobd-user.service,jobd.logrotate,Containerfile} \
         share/doc/jobd/{README.md,SECURITY.md,CHANGELOG.md,LICENSE-MIT,LICENSE-APACHE,OPERATING.md,WHY-NOT-RUNNING.md,DIFFERENCES.md} \

@@ -1,5 +1,5 @@
 #!/usr/bin/env bash
-# Types the lines of docs/MOVING.md in a copy of examples/moving/, and then sees each of its 28 jobs loaded and run once; and that `jobscope check --strict`
+# Types the lines of docs/MOVING.md in a copy of examples/moving/, and then sees each of its jobs loaded and run once; and that `jobscope check --strict`
 # finds nothing in what jobscope cron, from-systemd and from-supervisor wrote. Then it types each row of the page that stands for a restart, a stop or a start
 # of another service manager, with a service that saves at TERM. The folder of the programs is the first word, or build. It is run by hand.
 set -euo pipefail

@@ -123,16 +123,17 @@ def a_fault_is_one_line(folder):
 
 
 def the_lines_of_jobctl_do(folder):
-    """The lines that jobctl(1) shows: lists, and the unload of a job whose file is gone."""
+    """The lines that jobctl(1) shows: lists, and the apply of a folder (here not that of the page). Then the job is unloaded by its label."""
     part = read("man/jobctl.1").split(".Sh EXAMPLES\n")[1].split(".Sh ")[0]
     lines = [shown(row[4:]) for row in part.splitlines() if row.startswith(".Dl ")]
     variables = {"JOBD_SOCKET": f"{folder}/s"}
-    with open(f"{folder}/web.json", "w", encoding="utf-8") as it:
+    os.mkdir(f"{folder}/deployed")
+    with open(f"{folder}/deployed/web.json", "w", encoding="utf-8") as it:
         json.dump({"Label": "org.example.web", "ProgramArguments": ["/bin/sleep", "1000"], "KeepAlive": True, "ThrottleInterval": 0}, it)
-    run("jobctl", "load", "web.json", folder=folder, variables=variables)
+    run("jobctl", "load", "deployed/web.json", folder=folder, variables=variables)
     time.sleep(0.5)
-    for line, wanted in [(lines[0], "org.example.web\n"), (lines[1], ""), (lines[2], "")]:
-        ran = run("sh", "-c", line, folder=folder, variables=variables)
+    for line, wanted in zip([*lines, "jobctl unload org.example.web"], ["org.example.web\n", "", "same      1 job\n", ""], strict=True):
+        ran = run("sh", "-c", line.replace("/etc/jobd", "deployed"), folder=folder, variables=variables)
         want(line, (0, wanted, ""), (ran.returncode, ran.stdout, ran.stderr))
         time.sleep(0.5)
     want("what is loaded then", "PID\tStatus\tLabel\n", run("jobctl", "list", folder=folder, variables=variables).stdout)
@@ -179,7 +180,7 @@ the_journal_is_one()
 the_definitions_load()
 with tempfile.TemporaryDirectory() as place:
     stage = Stage(types.SimpleNamespace(jobd=[f"{PROGRAMS}/jobd"], jobctl=[f"{PROGRAMS}/jobctl"]), place)
-    launcher = stage.serve(socket="s", store="o", journal="journal")
+    launcher = stage.serve(socket="s", store="o", journal="journal", env={"JOBD_STATUS_FILE": f"{place}/status.jsonl"})
     the_socket_answers(place)
     the_converter_converts(place)
     a_fault_is_one_line(place)

@@ -1,6 +1,6 @@
 #!/usr/bin/env bash
-# The manual pages beside the programs: each subcommand and option of the programs' words stands in their page, and the
-# other way round; so does each key that the reader of definitions knows, with its numbers. VERSION, the programs' source and the pages
+# The manual pages beside the programs: each subcommand and option of the programs' words (of jobctl also those of apply, which
+# apply_folder reads) stands in their page, and the other way round; so does each key that the reader of definitions knows, with its numbers. VERSION, the programs' source and the pages
 # name one version. page_tables.py compares limits, exit statuses, environment and single places, page_numbers.py the numbers of all pages.
 # If the programs are there, in build/ or in the folder that is the first word, their help is asked too, and page_lines.py types what the
 # pages show. If mandoc is there, the pages are clean under its lint. It is run by hand.
@@ -73,9 +73,13 @@ def options_of_page(page):
     return found
 
 
-def check_program(program, page_path, source, flags_of, own_name):
+def check_program(program, page_path, source, flags_of, own_name, apart=()):
+    """`apart` has the subcommands that another crate reads, each with its options."""
     page = read(page_path)
     names, options = words_in(source, flags_of)
+    for name, its_options in apart:
+        names.add(name)
+        options |= its_options
     names.discard(own_name)
     # A subcommand has an item or a section of its own, and stands in the synopsis.
     synopsis = page.split(".Sh SYNOPSIS")[1].split(".Sh DESCRIPTION")[0]
@@ -95,6 +99,10 @@ def check_program(program, page_path, source, flags_of, own_name):
     counts["words"] += len(names) + len(options)
     if os.access(program, os.X_OK):
         told, told_options = words_of_help(help_of(program))
+        for name, its_options in apart:
+            told.add(name)
+            same(f"{program} {name} --help", its_options, set(re.findall(r"^ +(--[a-z-]+) ", help_of(program, name), re.M)) - {"--socket"})
+            told_options |= its_options
         same(f"{program} --help: subcommands", told, own)
         for name in sorted(told):
             told_options |= words_of_help(help_of(program, name))[1]
@@ -102,7 +110,9 @@ def check_program(program, page_path, source, flags_of, own_name):
 
 
 control = read(WORDS + "control_words.rt")
-check_program(f"{PROGRAMS}/jobctl", "man/jobctl.1", control, control, "jobctl")
+apply_words = read("crates/apply_folder/src/words.rt")
+APART = [(re.search(r'^const WORD: &str = "([a-z]+)"', apply_words, re.M)[1], set(re.findall(r'"(--[a-z-]+)" =>', apply_words)) - {"--socket", "--help"})]
+check_program(f"{PROGRAMS}/jobctl", "man/jobctl.1", control, control, "jobctl", APART)
 check_program(f"{PROGRAMS}/jobd", "man/jobd.8", read(WORDS + "jobd.rt"), "", "jobd")
 SCOPE = read(WORDS + "scope_words.rt")
 check_program(f"{PROGRAMS}/jobscope", "man/jobscope.1", SCOPE, "", "jobscope")

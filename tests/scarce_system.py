@@ -9,6 +9,7 @@ It is run by hand, after `make build`; PROGRAM is build/jobd. Each trial has a l
     no_descriptors         the limit sinks while it runs, to as many free descriptors as 0 to 8
     no_processes           no further process: starts and TERM are refused and told, KILL is not
     little_memory          the limit of memory sinks while it runs (not with a sanitizer, which has to have it all)
+    no_memory              no memory at all is had for a clock reading that starts jobs: told once, and they start later (needs cc)
     a_full_disk_at_start   no room for the journal, the store or the spool
     a_full_disk            the journal, the store or the spool get no room any more, and get it again
     short_files            a limit on the size of files, where SIGXFSZ is ignored
@@ -27,6 +28,7 @@ import shutil
 import subprocess
 import sys
 import tempfile
+import time
 
 sys.dont_write_bytecode = True
 HERE = os.path.dirname(os.path.abspath(__file__))
@@ -204,6 +206,28 @@ def little_memory(stage):
     return f"{refused} calls refused"
 
 
+def no_memory(stage):
+    if not shutil.which("cc"):
+        raise Skipped("there is no cc")
+    library, absent = stage.at("calls.so"), stage.at("absent")
+    subprocess.run(["cc", "-shared", "-fPIC", "-O1", "-o", library, os.path.join(HERE, "broken_calls.c")], check=True)
+    launcher = stage.serve(env={"LD_PRELOAD": library, "BREAK": "memory_is_refused", "NO_MEMORY": absent})
+    line = "a clock reading was refused: memory was refused"
+    for number in range(40):
+        launcher.load({"Label": f"job{number}", "ProgramArguments": ["/bin/true"], "StartInterval": 2, "ThrottleInterval": 0})
+    launcher.load(shell_job("first", ":", RunAtLoad=True))
+    for turn in (1, 2):
+        with open(absent, "w", encoding="ascii"):
+            pass
+        time.sleep(3.5)
+        os.remove(absent)
+        check(comes(lambda: len(launcher.lines(line)) == turn), f"turn {turn}: {launcher.said()[-600:]!r}")
+        runs(launcher, stage, f"last{turn}")
+        time.sleep(2.5)
+    check(len(launcher.lines(line)) == 2, f"it is told again: {launcher.said()[-600:]!r}")
+    launcher.shut_down()
+
+
 # ---- disks
 
 class Disk:
@@ -344,7 +368,7 @@ def short_files(stage):
     clean(launcher)
 
 
-TRIALS = [few_descriptors, no_descriptors, no_processes, little_memory, a_full_disk_at_start, a_full_disk, short_files]
+TRIALS = [few_descriptors, no_descriptors, no_processes, little_memory, no_memory, a_full_disk_at_start, a_full_disk, short_files]
 
 
 def play(given, folder, trial):

@@ -2,8 +2,10 @@
 """Finds sentences that break the rules of CONTRIBUTING, *How a sentence is written*.
 
     tests/words.py [PAGE..]     the pages that users read (USERS), or those that are named: one line a breach, and the status is 1 if there is one
-    tests/words.py --all        counts breaches in all pages, page by page; the status is 0
+    tests/words.py --all        counts breaches in all pages, page by page, and apart from them the words of the specification in pages about it (SPECIFIED);
+                                the status is 0
     tests/words.py --crates     counts breaches in helps and messages (texts of crates/*/src) and in doc comments, crate by crate; the status is 0
+    tests/words.py --crates NAME..  lists the breaches in the doc comments of these crates: the status is 1 if there is one
 
 A sentence has at most 30 words; code in it counts as one. A coined word has the field's word in its place: the table is COINED. Code, commands,
 what programs print, and file names are not looked at.
@@ -66,6 +68,9 @@ COINED = [
     (r"\bto be had\b|\bbe had\b", "available"),
 ]
 COINED = [(re.compile(form), instead) for form, instead in COINED]
+
+# Words of the specification, which docs/GLOSSARY.md defines for its second kind of reader. Pages that users read have none of them either.
+SPECIFIED = re.compile(r"'(?:moments?|rounds?|demands?|struck|lives|(?:is|are|has|have) gone|tells?|told)' ")
 
 PUNCTUATION = {".", ",", ";", ":", "(", ")", "[", "]", "?", "!"}
 # Macros of mdoc(7) whose arguments are code, and those that only mark a text.
@@ -213,7 +218,16 @@ def in_page(path):
     return [f"{path}:{number}: {it}" for number, unit in units(path) for it in breaches(unit)]
 
 
+def in_comments(path):
+    return [f"{path}:{number}: {it}" for kind, number, unit in units_of_source(read(path)) if kind == "comments" for it in breaches(unit)]
+
+
 def main(words):
+    if words[:1] == ["--crates"] and words[1:]:
+        paths = [path for crate in words[1:] for path in sorted(glob.glob(f"crates/{crate}/src/**/*.rt", recursive=True))]
+        faults = [it for path in paths for it in in_comments(path)]
+        print("\n".join([*faults, f"words: {len(paths)} files, {len(faults)} breaches in doc comments"]))
+        return 1 if faults else 0
     if words == ["--crates"]:
         counts = {}
         for path in sorted(glob.glob("crates/*/src/**/*.rt", recursive=True)):
@@ -225,8 +239,13 @@ def main(words):
         return 0
     if words == ["--all"]:
         pages = sorted({*USERS, *glob.glob("*.md"), *glob.glob("docs/*.md"), *glob.glob("crates/*/README.md"), "bench/RESULTS.md"})
-        counts = {path: len(in_page(path)) for path in pages if os.path.exists(path)}
-        print("\n".join([*(f"{path}: {count}" for path, count in counts.items() if count), f"words: {sum(counts.values())} in all pages"]))
+        counts, specified = {}, 0
+        for path in filter(os.path.exists, pages):
+            found = [it.split(": ", 1)[1] for it in in_page(path)]
+            apart = [] if path in USERS else [it for it in found if SPECIFIED.match(it)]
+            counts[path] = len(found) - len(apart)
+            specified += len(apart)
+        print("\n".join([*(f"{path}: {count}" for path, count in counts.items() if count), f"words: {sum(counts.values())} in all pages, and {specified} times a word of the specification"]))
         return 0
     pages = words or USERS
     faults = [it for path in pages for it in in_page(path)]

@@ -22,6 +22,7 @@ JOBS = [
     {"Label": "mail", "Program": "/usr/local/bin/sendmail-queue", "QueueDirectories": ["/var/spool/out"], "ThrottleInterval": 60},
     {"Label": "report", "Program": "/usr/local/bin/report", "StartCalendarInterval": {"Hour": 5, "Minute": 0}},
 ]
+THROTTLE = {job["Label"]: job["ThrottleInterval"] for job in JOBS if "ThrottleInterval" in job}
 # How long a run of each job lasts, and how it ends: the story. The last one stands for all further runs.
 RUNS = {
     "web": [(11520, {"signal": 11}), (9, {"signal": 11}), (7, {"signal": 11}), (13000, {"signal": 15}), (10**6, {"code": 0})],
@@ -58,6 +59,9 @@ def night(programs):
         lasts, how = RUNS[job][min(runs[job], len(RUNS[job])) - 1]
         count += 1
         heapq.heappush(coming, (at + lasts, count, {"ev": "ended", "job": job, "run": run, **how}))
+        # the clock is read when the throttle is over: a job that ended may start again then
+        count += 1
+        heapq.heappush(coming, (at + THROTTLE.get(job, 10), count, None))
 
     for job in JOBS:
         hear({"ev": "load", "def": json.dumps(job, separators=(",", ":"))})
@@ -73,9 +77,6 @@ def night(programs):
         hear({"ev": "clock", "up": at * 1000, "wall": START + at})
         if event:
             hear(event)
-            # a job that ended may start again once its throttle is over
-            count += 1
-            heapq.heappush(coming, (at + 10, count, None))
     return lines
 
 

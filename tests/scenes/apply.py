@@ -11,8 +11,8 @@ import socket
 import subprocess
 import threading
 
-from harness import check, connect, end_process, make, patience, read_line, shell_job, text_at, wait_for
-from status import job_where
+from harness import HERE, check, connect, end_process, make, patience, read_line, shell_job, text_at, wait_for
+from status import asked, job_where
 
 # One time of the year: no scene meets it.
 NEW_YEAR = {"Month": 1, "Day": 1, "Hour": 0, "Minute": 0}
@@ -355,6 +355,127 @@ def an_apply_that_was_killed_is_taken_up(stage):
     has_loaded(stage, "slow", new)
     running(launcher, "slow")
 
+
+# ---- what a run leaves running
+
+def variable_of(pid, name="JOBD_RUN"):
+    """The value of the variable in a process's environment, or None. The first one counts."""
+    with open(f"/proc/{pid}/environ", "rb") as file:
+        found = [entry.partition(b"=")[2] for entry in file.read().split(b"\0") if entry.startswith(name.encode() + b"=")]
+    return found[0].decode() if found else None
+
+
+def began_of(pid):
+    """When the process began, in ticks since the boot."""
+    return text_at(f"/proc/{pid}/stat").rpartition(") ")[2].split()[19]
+
+
+def leaving(stage, label="www"):
+    """A job whose shell waits for its program: TERM ends the shell alone."""
+    return shell_job(label, f"sleep 1000 & echo $! >{stage.at(label)}.left.new; mv {stage.at(label)}.left.new {stage.at(label)}.left; wait", KeepAlive=True, ThrottleInterval=0)
+
+
+def left_by(stage, label="www"):
+    """The program that the run started, once it is one."""
+    left = int(wait_for(lambda: text_at(stage.at(f"{label}.left")).strip(), "the program does not start"))
+    wait_for(lambda: text_at(f"/proc/{left}/comm") == "sleep\n", "the program does not run")
+    return left
+
+
+def is_there(pid):
+    """Whether the process runs. One that ended stays until this process has waited for it."""
+    return text_at(f"/proc/{pid}/stat").rpartition(") ")[2][:1] not in ("", "Z", "X")
+
+
+def a_run_has_its_name(stage):
+    """JOBD_RUN has the launcher's PID and start, the label and the run; what the definition says of the variable wins."""
+    launcher = begin(stage)
+    launcher.load(kept("org.example.web"))
+    launcher.load(kept("own", EnvironmentVariables={"JOBD_RUN": "mine", "OTHER": "1"}))
+    name = f"{launcher.pid}.{began_of(launcher.pid)}"
+    first = running(launcher, "org.example.web")
+    check(variable_of(first) == f"{name}/org.example.web/1", f"its name: {variable_of(first)}")
+    own = running(launcher, "own")
+    check((variable_of(own), variable_of(own, "OTHER")) == ("mine", "1"), f"its own value: {variable_of(own)}")
+    os.kill(first, 9)
+    second = wait_for(lambda: pid_of(launcher, "org.example.web") not in (None, first) and pid_of(launcher, "org.example.web"), "it is not started again")
+    check(variable_of(second) == f"{name}/org.example.web/2", f"the name of its second run: {variable_of(second)}")
+
+
+def what_a_run_left_behind_is_named(stage):
+    """A shell that waits for its program is ended alone: the program goes on, and apply names it. What runs rightly is not named."""
+    launcher = begin(stage)
+    put(stage, "www.json", leaving(stage))
+    put(stage, "other.json", kept("other"))
+    in_effect(apply(stage), ("new", "other"), ("new", "www"))
+    left, first = left_by(stage), pid_of(launcher, "www")
+    put(stage, "www.json", kept("www"))
+    put(stage, "other.json", kept("other", "two"))
+    try:
+        got = apply(stage)
+        check(got.status == 0 and got.words() == [("changed", "other"), ("changed", "www")], f"{got}")
+        check(not is_there(first) and is_there(left), "the shell was not ended alone")
+        named = [row for row in got.said.splitlines() if "still runs" in row]
+        check(named == [f"jobctl: apply: process {left} (sleep) of run 1 of www still runs"], f"what is left: {got}")
+        os.unlink(stage.at("jobs/www.json"))
+        got = apply(stage, "--prune", "jobs")
+        check(got.status == 0 and f"process {left} (sleep) of run 1 of www still runs" in got.said, f"what is left of a job that is pruned: {got}")
+    finally:
+        end_process(left)
+
+
+def what_an_unload_left_is_named(stage):
+    """`unload` names it, and `why` does, of a job that is loaded again and of a label that is not."""
+    launcher = begin(stage)
+    status = stage.at("standing/status.jsonl")
+    launcher.load(leaving(stage))
+    launcher.load(kept("other"))
+    left = left_by(stage)
+    try:
+        got = stage.jobctl(["unload", "www"])
+        check((got.returncode, got.stdout) == (0, ""), f"unload: {got}")
+        check(got.stderr == f"jobctl: process {left} (sleep) of run 1 of www still runs\n", f"what unload says: {got}")
+        got = stage.jobctl(["unload", "other"])
+        check((got.returncode, got.stdout, got.stderr) == (0, "", ""), f"an unload that leaves nothing: {got}")
+
+        def of(label, *words):
+            return asked(stage, status, "why", *words, label)
+
+        wait_for(lambda: f"Process {left} (sleep) of run 1 of www, which is not loaded, still runs." in of("www")[1], lambda: f"of a label that is not loaded: {of('www')}")
+        launcher.load(kept("www"))
+        pid = running(launcher, "www")
+        wait_for(lambda: f"  Process {left} (sleep) of its run 1 still runs.\n" in of("www")[1], lambda: f"of a job that is loaded: {of('www')}")
+        check(str(pid) not in "".join(row for row in of("www")[1].splitlines(True) if "still runs" in row), f"its own run is named: {of('www')}")
+        rows = [row for row in map(json.loads, of("www", "--json")[1].splitlines()) if row.get("state") == "left_running"]
+        check([(row["label"], row["pid"], row["program"], row["run"]) for row in rows] == [("www", left, "sleep", 1)], f"as JSON: {of('www', '--json')}")
+    finally:
+        end_process(left)
+    check("still runs" not in asked(stage, status, "why")[1], "what has ended is named")
+
+
+def jobd_group_ends_all(stage):
+    """Behind jobd-group the TERM of an unload reaches the program that a shell waits for, and the wrapper waits for it. After a KILL of the wrapper it is named."""
+    launcher = begin(stage)
+    group = os.path.join(HERE, "../../contrib/jobd-group")
+    job = leaving(stage)
+    job["ProgramArguments"] = ["/bin/sh", group, *job["ProgramArguments"]]
+    launcher.load(job)
+    left = left_by(stage)
+    got = stage.jobctl(["unload", "www"])
+    check((got.returncode, got.stdout, got.stderr) == (0, "", ""), f"unload: {got}")
+    wait_for(lambda: not is_there(left), "the program is not ended")
+    wait_for(lambda: not loaded(launcher), "the job does not go")
+    os.unlink(stage.at("www.left"))
+    launcher.load(job)
+    left = left_by(stage)
+    try:
+        os.kill(running(launcher, "www"), 9)
+        wait_for(lambda: f"Process {left} (sleep) of its run 1 still runs." in asked(stage, stage.at("standing/status.jsonl"), "why", "www")[1], "what a KILL left is not named")
+    finally:
+        end_process(left)
+
+
+# ---- one variable, and labels
 
 def one_variable_is_enough(stage):
     """JOBD_SOCKET alone, and a launcher without a journal. The options may stand behind the paths, and `--` ends them."""
@@ -948,6 +1069,10 @@ SCENES = [
     what_a_boot_would_leave_out_is_not_loaded,
     a_replacement_waits_as_long_as_the_old_job_has,
     an_apply_that_was_killed_is_taken_up,
+    a_run_has_its_name,
+    what_a_run_left_behind_is_named,
+    what_an_unload_left_is_named,
+    jobd_group_ends_all,
     one_variable_is_enough,
     labels_that_nobody_has,
     a_start_between_the_look_and_the_step,

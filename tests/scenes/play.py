@@ -208,6 +208,8 @@ def lay_out(room, by, second):
     shutil.copytree(f"{HERE}/../mistakes", f"{room}/tests/mistakes")
     shutil.copy(f"{HERE}/../mistakes.py", f"{room}/tests/mistakes.py")
     shutil.copytree(f"{HERE}/../../examples", f"{room}/examples")
+    os.mkdir(f"{room}/contrib")
+    shutil.copy(f"{HERE}/../../contrib/jobd-group", f"{room}/contrib/jobd-group")
     for name, program in (("bin", by), ("second", second)):
         if program:
             os.mkdir(f"{room}/{name}")

@@ -5,6 +5,7 @@
 import hashlib
 import json
 import os
+import resource
 import stat
 import subprocess
 import time
@@ -221,6 +222,31 @@ def a_journal_that_is_renamed(stage):
     check(len(launcher.lines("jobd: journal ")) == 2, f"it says {launcher.said()!r}")
 
 
+def a_closed_journal_and_labels_like_lines(stage):
+    """A journal that can't be written on is told closed. The reason of a refused start is that of the job's own last one, also if a label reads like a line about
+    another job."""
+    launcher, path = serve(stage, journal="journal", shell="trap '' XFSZ")
+    check(wait_for(lambda: told(path), "no file is written")[0]["journal"] == "open", "the journal is not told open")
+    plain = make(stage.at("plain"))
+    forged = "b: run 1: cannot start x: forged"
+    for label, program in ((forged, "/nonexistent/prog"), ("b", plain)):
+        launcher.load({"Label": label, "ProgramArguments": [program], "RunAtLoad": True, "ThrottleInterval": 1})
+    denied = f"cannot start {plain}: Permission denied (os error 13)"
+    for label, reason in ((forged, MISSING), ("b", denied)):
+        job = job_where(path, label, lambda job: job["refused"] and job["refused"]["run"] >= 2)
+        check(job["refused"]["reason"] == reason, f"the reason of {label!r}: {job['refused']}")
+        check(job["refused"]["run"] == job["run"] and job["since"] == job["refused"]["at"], f"of another start: {job}")
+    # What can be written beside a full journal is the status file, which is smaller.
+    while os.path.getsize(stage.at("journal")) < 65536:
+        launcher.ask({"req": "print", "job": "b"})
+    limits = resource.prlimit(launcher.pid, resource.RLIMIT_FSIZE)
+    resource.prlimit(launcher.pid, resource.RLIMIT_FSIZE, (os.path.getsize(stage.at("journal")), limits[1]))
+    launcher.ask({"req": "list"})
+    first = wait_for(lambda: told(path)[0]["journal"] == "closed" and told(path)[0], lambda: f"the journal is not told closed: {text_at(path)[:400]!r}")
+    check(first["journal_reason"] and launcher.lines("jobd: journal"), f"why: {first['journal_reason']}; it said {launcher.said()!r}")
+    launcher.shut_down()
+
+
 def who_may_read_a_status_file(stage):
     """The group that JOBD_STATUS_GROUP names by its number may read it, and what tells the places; the lock nobody else. One that this user may not give a file
     to is told, and the file is written without; a word that is no number names none."""
@@ -263,6 +289,25 @@ def a_status_file_rests(stage):
         seen.add(json.dumps(told(path)[0]["at"]))
     check(2 <= len(seen) <= took + 3, f"in {took:.1f} s of questions it was written {len(seen)} times")
     launcher.shut_down()
+
+
+def a_large_status_file(stage):
+    """A file of several pieces is whole whenever it is read, and after the end, while jobs start on and on."""
+    launcher, path = serve(stage)
+    for at in range(200):
+        launcher.load(shell_job(f"job{at:03}", "exit 0", EnvironmentVariables={"NAME": "value"}))
+    wait_for(lambda: len(told(path)[1]) == 200, "not all jobs are told")
+    check(os.stat(path).st_size > 2 * 65_536, f"the file has {os.stat(path).st_size} bytes")
+    seen, begun = set(), time.monotonic()
+    while (took := time.monotonic() - begun) < 2.2 or (len(seen) < 2 and took < BOUND):
+        launcher.ask({"req": "start", "job": "job199"})
+        first, jobs = told(path)
+        check(len(jobs) == 200, f"it tells {len(jobs)} jobs")
+        seen.add(json.dumps(first["at"]))
+    check(2 <= len(seen) <= took + 3, f"in {took:.1f} s of questions it was written {len(seen)} times")
+    launcher.shut_down()
+    told(path)
+    check(not os.path.exists(f"{path}.new"), "a piece of a file is left at the end")
 
 
 def a_killed_launcher_leaves_a_whole_file(stage):
@@ -621,9 +666,10 @@ SCENES = [
     what_a_status_file_holds,
     which_definition_is_loaded,
     what_tells_a_launchers_places,
+    a_closed_journal_and_labels_like_lines,
     who_may_read_a_status_file,
     a_journal_that_is_renamed,
-    a_status_file_rests,
+    a_status_file_rests, a_large_status_file,
     a_killed_launcher_leaves_a_whole_file,
     status_files_that_are_refused,
     why_and_status_of_now,

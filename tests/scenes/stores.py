@@ -83,6 +83,40 @@ def settings_of(stage, name):
     return dict(line.split("\t")[:2] for line in run.stdout.splitlines())
 
 
+def a_store_with_another_reason(stage):
+    """A store that can't be written says each reason once: the disk's, then the system's at another file. Once it took a setting it says them anew."""
+    launcher = stage.serve(shell="trap '' XFSZ")
+    limits = resource.prlimit(launcher.pid, resource.RLIMIT_FSIZE)
+
+    def refused():
+        reply = launcher.ask({"req": "disable", "job": "one"})
+        check(reply["code"] == 9, f"a setting got {reply}")
+
+    def told():
+        return [line.partition(f"store {stage.at('store')}: ")[2] for line in launcher.lines(f"store {stage.at('store')}: ")]
+
+    check(launcher.ask({"req": "disable", "job": "one"})["code"] == 0, "a setting of a sound disk is refused")
+    for turn in (1, 2):
+        resource.prlimit(launcher.pid, resource.RLIMIT_FSIZE, (4096, limits[1]))
+        refused()
+        refused()
+        for name in ("store", "store-wal"):
+            os.rename(stage.at(name), stage.at(f"{name}.aside"))
+        os.mkdir(stage.at("store"))
+        refused()
+        refused()
+        reasons = told()[2 * (turn - 1):]
+        check(len(reasons) == 2 and "disk I/O error" in reasons[0] and "disk I/O error" not in reasons[1], f"turn {turn}: said {launcher.said()!r}")
+        os.rmdir(stage.at("store"))
+        for name in ("store", "store-wal"):
+            os.rename(stage.at(f"{name}.aside"), stage.at(name))
+        refused()
+        check(len(told()) == 2 * turn, f"a reason is told twice: {launcher.said()!r}")
+        resource.prlimit(launcher.pid, resource.RLIMIT_FSIZE, limits)
+        check(launcher.ask({"req": "disable", "job": f"two{turn}"})["code"] == 0, f"a disk that was mended takes no setting: {launcher.said()!r}")
+    launcher.shut_down()
+
+
 def a_disk_that_fails_and_mends(stage):
     """A store whose file may not grow refuses settings, and tells that once. It takes the next one as soon as it may grow again, and holds none
     that was refused: after an end in order, and after signal 9."""
@@ -212,6 +246,6 @@ def what_is_no_store(stage):
 
 
 SCENES = [
-    settings_in_the_log, logs_that_go_away, a_disk_that_fails_and_mends, too_many_labels, settings_of_the_first_version,
+    settings_in_the_log, logs_that_go_away, a_disk_that_fails_and_mends, a_store_with_another_reason, too_many_labels, settings_of_the_first_version,
     what_is_no_store,
 ]

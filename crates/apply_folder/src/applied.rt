@@ -1,5 +1,5 @@
-//! What applies of folders loaded, as it stands beside the launcher's store: a line of JSON for each folder, with its files and the labels under which
-//! they were loaded, and a line for each definition.
+//! What applies of folders loaded, as a file next to the launcher's store keeps it. It has a line of JSON for each folder, with its files and the
+//! labels under which they were loaded, and a line for each definition.
 
 use json_kinds::json_value;
 use json_lines::put_quoted;
@@ -12,7 +12,7 @@ use std::io::Write;
 use std::os::unix::fs::{MetadataExt, OpenOptionsExt};
 use std::{fs, io};
 
-/// So many bytes it may have: a definition for each of the most jobs that a launcher holds.
+/// How many bytes it may have: a definition for each of the most jobs that a launcher holds.
 const LONGEST: usize = 67_108_864;
 
 /// What a line of a definition begins with.
@@ -43,7 +43,7 @@ impl Applied {
         }
     }
 
-    /// Where this file of this folder stands among them. It is looked for at this place first, where it is if files are asked for in their order.
+    /// The index of this file of this folder. It is looked for at the given index first: it is there if files are asked for in their order.
     pub(crate) fn place_of(&self, at: usize, folder: &str, name: &str) -> Option<usize> {
         if let Some(file) = self.files.get(at) {
             if is_file(file, folder, name) {
@@ -98,7 +98,7 @@ fn member<'a>(value: &'a Value, key: &'static str) -> &'a str {
     }
 }
 
-/// What stands in the file, which has to be a plain one of this user. Nothing, if none is there.
+/// Reads the file, which must be a plain one of this user. If the file is missing, it returns an empty `Applied`.
 pub(crate) fn read_applied(
     host: &HostRuntime,
     alloc: Global,
@@ -195,7 +195,7 @@ pub(crate) fn put_definition(ink: &mut Ink, digest: &str, text: &str) {
     ink.put("}\n");
 }
 
-/// Puts the text in the place of the file, for this user alone.
+/// Puts the text in the place of the file. Only this user may read and write it.
 pub(crate) fn write_applied(
     host: &HostRuntime,
     alloc: Global,

@@ -1,4 +1,4 @@
-//! The definitions of loaded jobs of which files say something else.
+//! The definitions of loaded jobs whose files say something else.
 
 use crate::applied::Applied;
 use crate::gathered::{Filed, Gathered};
@@ -51,7 +51,7 @@ fn mark_job(jobs: &mut [Job], label: &str) {
     }
 }
 
-// Where the file stands among those that were applied; it may be at this place.
+// The index of the file among those that were applied; it may be the given one.
 fn place_in(file: &Filed, folders: &[String], applied: &Applied, next: usize) -> Option<usize> {
     let folder = match (file.folder, &file.parent) {
         (Some(number), _) => folders.get(number)?,
@@ -77,7 +77,7 @@ fn mark_file(
     if label == file.label.as_str() {
         return Ok(());
     }
-    // Of a file that is named alone, another one of its folder may have the label now.
+    // If a file is named by itself, another one of its folder may have the label now.
     if file.folder.is_none() {
         if has_file(host, alloc, folder, label)? {
             return Ok(());

@@ -14,7 +14,7 @@ pub fn is_left_at_boot(mode: u32, owner: u32, user: u32) -> bool {
     mode & OTHERS_WRITE != 0 || (owner != 0 && owner != user)
 }
 
-/// Why it does; empty, if it does not. The front stands before the reason.
+/// Why a boot leaves the file out, with `front` before the reason; empty, if it does not.
 pub(crate) fn left_at_boot(
     alloc: Global,
     data: &Metadata,

@@ -1,6 +1,7 @@
 //! A step, carried out.
 
 use crate::client::Client;
+use crate::left::{EndedJob, note_ended};
 use control_client::{Fault, Replied};
 use history_model::{Refusal, Text};
 use load_plan::{JobSeen, NextRequest, Operation, Reason, next_request};
@@ -9,18 +10,18 @@ use std::alloc::Global;
 use std::time::{Duration, Instant};
 use std::{io, thread};
 
-/// How many milliseconds lie between two looks at a job that ends.
+/// How many milliseconds are between two looks at a job that ends.
 const SOON: u64 = 20;
 
 const LATER: u64 = 100;
 
-/// As many looks are made soon after one another.
+/// How many looks are made soon after one another.
 const SOON_LOOKS: u64 = 25;
 
 /// For how many seconds more than its ExitTimeOut a job that ends is waited for.
 const MORE: u64 = 5;
 
-/// After how many seconds it is told that a job is waited for.
+/// After how many seconds it reports that it waits for a job.
 const TOLD: u64 = 2;
 
 /// What became of a step.
@@ -52,7 +53,7 @@ pub(crate) struct Task<'a> {
     pub(crate) is_moved: bool,
     /// A run of the job may be ended.
     pub(crate) may_end: bool,
-    /// In seconds; 0 for ever.
+    /// In seconds; 0 means no limit.
     pub(crate) exit_time_out: u32,
 }
 
@@ -64,12 +65,13 @@ struct Waiting {
     is_told: bool,
 }
 
-/// Carries out the step. An error: the launcher does not answer.
+/// Carries out the step, and notes when its job was removed, if it was unloaded. An error: the launcher does not answer.
 pub(crate) fn carry_out(
     host: &HostRuntime,
     alloc: Global,
     client: &mut Client,
     task: &Task<'_>,
+    ended: &mut Vec<EndedJob>,
 ) -> Result<Outcome, Fault> {
     let mut is_unloaded = false;
     let mut waiting = Waiting {
@@ -84,20 +86,26 @@ pub(crate) fn carry_out(
                 None => is_unloaded = true,
                 Some(refused) => return Ok(refused),
             },
-            NextRequest::Load => return load(host, alloc, client, task, is_unloaded),
+            NextRequest::Load => {
+                note_ended(host, alloc, task.label, is_unloaded, ended)?;
+                return load(host, alloc, client, task, is_unloaded);
+            }
             NextRequest::Wait => {
                 if is_late(host, task, &mut waiting) {
                     return Ok(Outcome::Late);
                 }
             }
             NextRequest::Leave(why) => return Ok(Outcome::Left(why)),
-            NextRequest::Done => return Ok(Outcome::Done),
+            NextRequest::Done => {
+                note_ended(host, alloc, task.label, is_unloaded, ended)?;
+                return Ok(Outcome::Done);
+            }
         }
     }
     Ok(Outcome::Late)
 }
 
-// How its job stands. Where nothing is loaded nothing has to be asked.
+// The state of its job. If nothing is loaded, it does not ask the launcher.
 fn seen_for(
     host: &HostRuntime,
     alloc: Global,
@@ -110,7 +118,7 @@ fn seen_for(
     }
 }
 
-// None: it was accepted, or the job is being removed or gone already.
+// None: it was accepted, or the job is being removed or is removed already.
 fn unload(
     host: &HostRuntime,
     alloc: Global,
@@ -254,8 +262,8 @@ fn tell_notes(host: &HostRuntime, alloc: Global, path: &str, notes: &str) -> Res
     Ok(())
 }
 
-/// Waits until one of these jobs is gone, or, if the end of a run is waited for, idle. False: they did not end in time. The greatest ExitTimeOut bounds it
-/// unless runs are waited for.
+/// Waits until one of these jobs is removed, or is idle if its run's end is waited for. False: none was in time. The greatest ExitTimeOut bounds the
+/// wait unless runs are waited for.
 pub(crate) fn wait_for_one(
     host: &HostRuntime,
     alloc: Global,
@@ -278,7 +286,7 @@ pub(crate) fn wait_for_one(
     Ok(false)
 }
 
-/// A job that is waited for: until its run has ended, or until it is gone, within so many seconds, or for ever if they are 0.
+/// A job that is waited for: until its run has ended, or until it is removed. `exit_time_out` is in seconds; 0 means for ever.
 #[derive(Clone, Copy)]
 pub(crate) struct Awaited<'a> {
     pub(crate) label: &'a str,

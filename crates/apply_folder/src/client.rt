@@ -15,7 +15,7 @@ pub(crate) struct Client {
 }
 
 impl Client {
-    /// An answer is waited for so many seconds, or for ever if they are 0.
+    /// An answer is waited for this many seconds, or for ever if they are 0.
     pub(crate) fn new(socket: Text, patience: u32) -> Client {
         Client {
             socket,
@@ -77,7 +77,7 @@ impl Client {
         self.look(host, alloc, &Request::List)
     }
 
-    /// How the job of this label stands now.
+    /// The present state of the job of this label.
     pub(crate) fn seen(
         &mut self,
         host: &HostRuntime,
@@ -124,7 +124,7 @@ impl Client {
     }
 }
 
-/// How a job stands by the reply to `print`. None: the reply says nothing of it.
+/// The state of a job by the reply to `print`. None: the reply does not say it.
 pub(crate) fn seen_of(code: u8, text: &str) -> Option<JobSeen> {
     if code == Refusal::NoSuchJob.code() {
         return Some(JobSeen::Gone);

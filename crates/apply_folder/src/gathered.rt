@@ -1,4 +1,4 @@
-//! The files that paths stand for, each read once.
+//! The files that paths mean, each read once.
 
 use crate::boot::left_at_boot;
 use ctl_protocol::LINE_LIMIT;
@@ -16,15 +16,15 @@ use std::slice::from_ref;
 /// A file, and what it says.
 #[derive(Drop)]
 pub(crate) struct Filed {
-    /// Its path, by the words.
+    /// Its path, by the arguments.
     pub(crate) path: String,
     /// Its number among the folders, if it is a file of one.
     pub(crate) folder: Option<usize>,
-    /// The folder that it is in, from the root, if it is named alone.
+    /// The folder that it is in, from the root, if it is named by itself.
     pub(crate) parent: Option<String>,
-    /// The label in it; if it tells none, the one that its name says.
+    /// The label in it; if it has none, the one that its name says.
     pub(crate) label: String,
-    /// The digest of its definition; empty, if it is no JSON.
+    /// The digest of its definition; empty, if the file is not JSON.
     pub(crate) digest: String,
     pub(crate) standing: Standing,
     /// The definition, as it was read.
@@ -91,7 +91,7 @@ pub(crate) struct NextBoot<'a> {
     pub(crate) folder: Option<&'a str>,
 }
 
-/// The files that the paths stand for, in their order.
+/// The files that the paths mean, in their order.
 pub(crate) fn gather(
     host: &HostRuntime,
     alloc: Global,
@@ -140,7 +140,8 @@ fn add_path(
     Ok(())
 }
 
-// A file that an earlier path stands for too is not added; that one is of the folder then. The first so many are those of earlier paths.
+// Does not add a file that an earlier path names too; the earlier file then belongs to the folder. The first `earlier` files are those of
+// earlier paths.
 fn add_filed(
     gathered: &mut Gathered,
     earlier: usize,

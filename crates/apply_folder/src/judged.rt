@@ -10,7 +10,8 @@ use run_times::Ink;
 use run_times::Piece::{Number, Text};
 use std::alloc::{AllocError, Global};
 
-/// Looks at each file that is no JSON, or that differs from what is loaded. Whether there is a warning; each is told, if that is wanted.
+/// Looks at each file that is not JSON, or that differs from what is loaded. It returns whether there is a warning, and reports each if
+/// that is asked for.
 pub(crate) fn judge_all(
     host: &HostRuntime,
     alloc: Global,
@@ -91,7 +92,7 @@ fn judge(
     }
 }
 
-// A file that is no JSON stays so, and its reason is told better.
+// A file that is not JSON stays unread, but gets this better reason.
 fn refuse(file: &mut Filed, why: String) {
     if !matches!(file.standing, Standing::Unread) {
         file.standing = Standing::Refused;
@@ -153,7 +154,7 @@ fn heed_setting(
     Ok(())
 }
 
-// Tells the warnings. Whether there is one.
+// Reports the warnings, and returns whether there is one.
 fn tell_warnings(
     host: &HostRuntime,
     alloc: Global,

@@ -9,8 +9,8 @@ use run_times::Ink;
 use std::alloc::{AllocError, Global};
 use std::io;
 
-/// Writes what the folders have loaded now, if it is another than before. Only the launcher's own user does: what lies in another user's folder may be a link
-/// by the time that it is written.
+/// Writes what the folders have loaded now, if that changed. Only the launcher's own user does so: a file in another user's folder may be a link by
+/// the time that it is written.
 pub(crate) fn keep(
     host: &HostRuntime,
     alloc: Global,
@@ -159,7 +159,7 @@ fn copied(alloc: Global, file: &AppliedFile) -> Result<AppliedFile, AllocError> 
     })
 }
 
-// Whether a job was loaded, and not unloaded for good.
+// Whether a job was loaded, and not unloaded permanently.
 fn is_left(jobs: &[Job], progress: &Progress, label: &str) -> bool {
     if job_of(jobs, label).is_none() {
         return false;

@@ -10,6 +10,7 @@ mod client;
 mod gathered;
 mod judged;
 mod kept;
+mod left;
 mod loaded;
 mod locked;
 mod planned;

@@ -12,22 +12,23 @@ use std::io::ErrorKind;
 use std::time::{Duration, SystemTime};
 use std::{fs, io, thread};
 
-/// For how many milliseconds a file may be behind what it tells: it is written within a second of a change, and a round later.
+/// For how many milliseconds a file may be out of date. A launcher writes it within a second of a change, and one pass of its event loop
+/// later.
 const BEHIND: u64 = 1_200;
 
-/// How often it is looked at again, and how many milliseconds lie between: three seconds and a half.
+/// How often it is looked at again, and how many milliseconds are between: three seconds and a half.
 const LOOKS: u32 = 70;
 
 const BETWEEN: u64 = 50;
 
-/// After so many looks a job is taken whose definition is not told, as it is for a moment after a load.
+/// After this many looks a job counts even if the file does not have its definition, as just after a load.
 const UNTOLD: u32 = 40;
 
 /// A loaded job.
 #[derive(Drop)]
 pub(crate) struct Job {
     pub(crate) label: String,
-    /// Empty, if the launcher does not tell it.
+    /// Empty, if the launcher does not report it.
     pub(crate) digest: String,
     pub(crate) is_running: bool,
     pub(crate) is_kept_alive: bool,
@@ -39,7 +40,7 @@ pub(crate) struct Job {
     /// The number of its run, and the second in which it began.
     pub(crate) run: u64,
     pub(crate) since: u64,
-    /// In seconds; 0 for ever.
+    /// In seconds; 0 means no limit.
     pub(crate) exit_time_out: u32,
     /// Whether a file says something else of it, so that its definition is wanted; and that, if it was found.
     pub(crate) wants_before: bool,
@@ -48,24 +49,24 @@ pub(crate) struct Job {
     pub(crate) was_disabled: bool,
 }
 
-/// What is loaded, by rising bytes of labels, and the file that told it.
+/// What is loaded, by rising bytes of labels, and the file that says so.
 #[derive(Drop)]
 pub(crate) struct Look {
     pub(crate) jobs: Vec<Job>,
     pub(crate) standing: Standing,
 }
 
-/// What is loaded now.
+/// What is loaded, as it was when the clock showed `asked` or later.
 pub(crate) fn look_at(
     host: &HostRuntime,
     alloc: Global,
     client: &mut Client,
     path: &str,
     places: &Option<Places>,
+    asked: &io::Result<SystemTime>,
 ) -> Result<Look, Stop> {
-    let asked = SystemTime::now(host);
     for turn in 0..LOOKS {
-        if let Some(look) = look_once(host, alloc, client, path, places, &asked)? {
+        if let Some(look) = look_once(host, alloc, client, path, places, asked)? {
             if all_told(look.jobs.as_slice()) {
                 return Ok(look);
             }
@@ -82,7 +83,7 @@ pub(crate) fn look_at(
     Err(Stop::Told(NO_ANSWER))
 }
 
-// A launcher of an earlier version tells of no job which definition it has.
+// A launcher of an earlier version does not report the definition of any job.
 fn checked(host: &HostRuntime, path: &str, look: Look) -> Result<Look, Stop> {
     for job in &look.jobs {
         if !job.digest.is_empty() {
@@ -105,7 +106,7 @@ fn all_told(jobs: &[Job]) -> bool {
     true
 }
 
-// None: the file may be behind.
+// None: the file may be out of date.
 fn look_once(
     host: &HostRuntime,
     alloc: Global,
@@ -143,14 +144,15 @@ fn tell_trouble(host: &HostRuntime, path: &str, trouble: Trouble) -> Stop {
     Stop::Told(NO_ANSWER)
 }
 
-// Whether all that was so when it was asked is in the file: it was written after that, or so long ago that it would have been written anew.
+// Whether the file has all that held when it was asked for. It was written after that, or so long ago that the launcher would have written
+// it again.
 fn is_current(host: &HostRuntime, path: &str, asked: &io::Result<SystemTime>) -> bool {
     let (Ok(asked), Ok(now)) = (asked, SystemTime::now(host)) else {
         return false;
     };
     let data = match fs::metadata(host, path) {
         Ok(data) => data,
-        // A launcher that begins has not written it yet. What else keeps it from being read is told by who reads it.
+        // A launcher that begins has not written it yet. Whoever reads the file reports what else keeps it from being read.
         Err(error) => return error.kind() != ErrorKind::NotFound,
     };
     let Ok(written) = data.modified() else {
@@ -165,7 +167,7 @@ fn is_current(host: &HostRuntime, path: &str, asked: &io::Result<SystemTime>) ->
     }
 }
 
-// The file has to be that of a launcher that lives, and of the one at the socket.
+// The file must be that of a running launcher, and of the one at the socket.
 fn check_launcher(
     host: &HostRuntime,
     path: &str,
@@ -197,7 +199,7 @@ fn stale(host: &HostRuntime, path: &str, why: &str) -> Result<(), Stop> {
     Err(Stop::Told(NO_ANSWER))
 }
 
-// Whether the lines of a list, each with its label behind the last tab, are those of these jobs.
+// Whether the lines of a list, each with its label after the last tab, are those of these jobs.
 fn have_labels(jobs: &[Job], list: &str) -> bool {
     let mut count: usize = 0;
     for line in list.lines().skip(1) {
@@ -269,7 +271,7 @@ fn job_with(alloc: Global, status: &JobStatus<'_>, has_calendar: bool) -> Result
     })
 }
 
-// Whether something keeps it alive, and no clock starts it.
+// Whether something keeps it alive, and it has no schedule.
 fn is_kept_alive(status: &JobStatus<'_>, has_calendar: bool) -> bool {
     let keys = &status.keys;
     let has_condition = keys.successful_exit.is_some()
@@ -279,7 +281,7 @@ fn is_kept_alive(status: &JobStatus<'_>, has_calendar: bool) -> bool {
     (status.facts.reasons.wants.keep_alive || has_condition) && !has_clock
 }
 
-// What the file beside the socket names is opened only if it is a plain file of the launcher's user; it may not be there yet.
+// Checks the status file that the places file names. It is opened only if it is a plain file of the launcher's user; it may be missing yet.
 fn check_status(host: &HostRuntime, path: &str, user: u32) -> Result<(), Stop> {
     match check_own_file(host, path, user) {
         Ok(()) => Ok(()),
@@ -292,7 +294,7 @@ fn check_status(host: &HostRuntime, path: &str, user: u32) -> Result<(), Stop> {
     }
 }
 
-/// Where the status file is: by the variable, else by the file beside the socket.
+/// Where the status file is: by the variable, else by the places file next to the socket.
 pub(crate) fn status_path(
     host: &HostRuntime,
     alloc: Global,

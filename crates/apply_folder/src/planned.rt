@@ -3,6 +3,7 @@
 use crate::carried::{Awaited, Outcome, Task, carry_out};
 use crate::client::Client;
 use crate::gathered::Filed;
+use crate::left::EndedJob;
 use crate::loaded::{Job, job_of};
 use crate::reasons::{Around, file_of, keys_of, outcome_text, planned_text};
 use crate::shown::{Line, show};
@@ -54,9 +55,11 @@ pub(crate) struct Progress {
     pub(crate) in_effect: Vec<usize>,
     /// The labels whose step is not tried again.
     pub(crate) tried: Vec<String>,
-    /// The labels that were unloaded for good.
+    /// The labels that were unloaded permanently.
     pub(crate) unloaded: Vec<String>,
     pub(crate) awaited: Vec<AwaitedJob>,
+    /// The jobs that were unloaded, permanently or to be loaded again.
+    pub(crate) ended: Vec<EndedJob>,
     pub(crate) same: u64,
 }
 
@@ -72,6 +75,7 @@ impl Progress {
             tried: Vec::new(alloc),
             unloaded: Vec::new(alloc),
             awaited: Vec::new(alloc),
+            ended: Vec::new(alloc),
             same: 0,
         }
     }
@@ -208,7 +212,7 @@ fn heeded<'a>(scene: &Scene<'_>, operation: Operation<'a>) -> Operation<'a> {
     }
 }
 
-// Whether the line of the job under the former label tells this load too.
+// Whether the line of the job under the former label covers this load too.
 fn is_told_before(scene: &Scene<'_>, step: &Step<'_>, file: Option<&Filed>) -> bool {
     let former = match (step.operation, file) {
         (
@@ -300,7 +304,7 @@ fn take_step<'x>(
     taken
 }
 
-// The word of a step, and its line.
+// The name of a step, and its line.
 fn show_step(
     host: &HostRuntime,
     alloc: Global,
@@ -352,7 +356,7 @@ fn lent<'a>(alloc: Global, keys: &'a [String]) -> Result<Vec<&'a str>, AllocErro
     Ok(names)
 }
 
-// A line for each file of the label, of which none decides.
+// A line for each file of the label, if none of them decides.
 fn show_each(
     host: &HostRuntime,
     alloc: Global,
@@ -489,7 +493,7 @@ fn act<'x>(
     }
     let moved = moved_job(scene, step, file, progress);
     let task = task_of(scene, step, around.job, file, moved);
-    let outcome = carry_out(host, alloc, client, &task)?;
+    let outcome = carry_out(host, alloc, client, &task, &mut progress.ended)?;
     note_outcome(alloc, scene, step, &outcome, progress)?;
     note_back(&outcome, moved, progress);
     let other = outcome_text(alloc, step, &outcome, task.before.is_some())?;

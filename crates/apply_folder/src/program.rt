@@ -7,6 +7,7 @@ use crate::client::Client;
 use crate::gathered::{Filed, Gathered, NextBoot, gather};
 use crate::judged::{has_open, judge_all};
 use crate::kept::keep;
+use crate::left::report_left;
 use crate::loaded::{Job, Look, job_of, look_at, status_path};
 use crate::locked::lock_beside;
 use crate::planned::{Progress, Scene, apply_once, awaited_in};
@@ -24,6 +25,7 @@ use plain_text::plain;
 use status_page::named_path;
 use std::alloc::{AllocError, Global};
 use std::fs::metadata;
+use std::io;
 use std::io::ErrorKind;
 use std::time::SystemTime;
 
@@ -45,10 +47,11 @@ A line for each step is printed: what is new is loaded, what changed is unloaded
 Exit status: 0 in effect, 2 something was left or waits, 65 a file can't be read; else the launcher's first refusal, 64 these words are no command, 69 no answer from the launcher.
 ";
 
-/// What stands in the folder of the launcher's store.
+/// The name of the file in the folder of the launcher's store.
 const APPLIED: &str = "applied.jsonl";
 
-/// Does what the words ask, the program's own name being the first, if they ask for `apply`, and answers the exit status. None: they ask for something else.
+/// Does what the arguments ask, if they ask for `apply`, and returns the exit status. The first argument is the program's own name. None: they ask
+/// for something else.
 pub fn jobctl_apply(host: &HostRuntime, alloc: Global, words: &[String]) -> Option<u8> {
     match meaning_of(alloc, words) {
         Ok(Meant::Other) => None,
@@ -114,7 +117,7 @@ fn run_beside(host: &HostRuntime, alloc: Global, words: &ApplyWords, settings: &
     status
 }
 
-// That of the words, else of the environment; else the one here, else the package's.
+// The socket of the arguments, else of the environment; else the one here, else the package's.
 fn socket_of<'a>(host: &HostRuntime, words: &'a ApplyWords, settings: &'a Settings) -> &'a str {
     match (&words.socket, &settings.socket) {
         (Some(socket), _) => socket.as_str(),
@@ -152,7 +155,7 @@ fn apply(
     let lock = if words.flags.dry_run {
         None
     } else {
-        lock_beside(host, alloc, socket.as_str())?
+        lock_beside(host, alloc, socket.as_str(), user)?
     };
     let ended = apply_beside(host, alloc, words, client, socket.as_str(), user);
     let_go(host, lock);
@@ -215,6 +218,8 @@ fn apply_beside(
     socket: &str,
     user: u32,
 ) -> Result<u8, Stop> {
+    // The launcher writes its status file because of the list, so the file is newer than this.
+    let asked = SystemTime::now(host);
     // A launcher writes its places before its first reply.
     let listed = client.list(host, alloc)?;
     drop(listed);
@@ -231,6 +236,7 @@ fn apply_beside(
         places: &places,
         path: path.as_str(),
         user,
+        asked: &asked,
     };
     let ended = match &state {
         Some(state) => with_state(&ground, client, &mut gathered, state.as_str()),
@@ -271,9 +277,11 @@ struct Ground<'a> {
     // The status file.
     path: &'a str,
     user: u32,
+    // Before the first question to the launcher.
+    asked: &'a io::Result<SystemTime>,
 }
 
-// Where it stands what applies loaded.
+// The path of the file that keeps what applies loaded.
 fn state_path(alloc: Global, places: &Option<Places>) -> Result<Option<String>, AllocError> {
     let Some(places) = places else {
         return Ok(None);
@@ -339,6 +347,12 @@ fn rounds(
             break;
         }
     }
+    report_left(
+        ground.host,
+        ground.alloc,
+        ground.places,
+        progress.ended.as_slice(),
+    )?;
     let flags = ground.words.flags;
     show_same(
         ground.host,
@@ -363,7 +377,9 @@ fn round(
     progress: &mut Progress,
 ) -> Result<bool, Stop> {
     let (host, alloc) = (ground.host, ground.alloc);
-    let mut look = look_at(host, alloc, client, ground.path, ground.places)?;
+    let now = SystemTime::now(host);
+    let asked = if is_first { ground.asked } else { &now };
+    let mut look = look_at(host, alloc, client, ground.path, ground.places, asked)?;
     mark_applied(host, alloc, gathered, applied, look.jobs.as_mut_slice())?;
     find_before(
         host,
@@ -424,7 +440,7 @@ fn is_shutting_down(
     Ok(shuts_down)
 }
 
-// Of the first plan alone, since files are read once.
+// Only of the first plan, since files are read once.
 fn judged(
     ground: &Ground<'_>,
     gathered: &mut Gathered,

@@ -1,4 +1,4 @@
-//! Why a step is, or is not, in words.
+//! Why a step is taken or left out, as text for people.
 
 use crate::carried::Outcome;
 use crate::gathered::{Filed, name_in};
@@ -100,7 +100,7 @@ fn decided_file<'a>(files: &'a [Filed], label: &str) -> Option<&'a Filed> {
     first
 }
 
-/// What is told of a step before it is carried out, or once it was, as planned.
+/// The text of a step before it is carried out, or after it went as planned.
 pub(crate) fn planned_text(
     around: &Around<'_>,
     label: &str,
@@ -216,7 +216,7 @@ fn put_running(around: &Around<'_>, file: Option<&Filed>, keys: &[String], ink: 
     });
 }
 
-// The time of the day of a second, behind its date.
+// The time of the day of a second, after its date.
 fn put_clock(around: &Around<'_>, second: u64, ink: &mut Ink) {
     match time_text(around.alloc, around.zone, second.min(MAX_WALL)) {
         Ok(text) => {
@@ -277,7 +277,7 @@ fn put_fault(why: Reason, file: Option<&Filed>, ink: &mut Ink) {
     });
 }
 
-/// What is told of a step that did not go as planned. None: it did.
+/// The text of a step that did not go as planned. None: it did.
 pub(crate) fn outcome_text(
     alloc: Global,
     step: &Step<'_>,

@@ -15,7 +15,8 @@ const LONGEST: u64 = 268_435_456;
 /// What the line of a load has.
 const LOAD: &str = "\"ev\":\"load\"";
 
-/// Gives each job of whose definition the text is wanted, and not known, that which the journal has with its digest. What can't be read gives none.
+/// Gives each job whose definition is needed and not known the text that the journal has with its digest. If the journal can't be read, it gives
+/// none.
 pub(crate) fn add_recorded(
     host: &HostRuntime,
     alloc: Global,
@@ -46,7 +47,7 @@ fn read_all(host: &HostRuntime, alloc: Global, journal: &str, jobs: &mut [Job]) 
     Ok(())
 }
 
-// Takes the definition of a line, if it is that of a load.
+// Takes the definition of a line, if the line is a load.
 fn take_line(alloc: Global, line: &[u8], jobs: &mut [Job]) -> Result<(), AllocError> {
     let Ok(text) = str::from_utf8(line) else {
         return Ok(());

@@ -8,12 +8,12 @@ use json_lines::{Field, put_line};
 use run_times::{Ink, Page, utc};
 use std::alloc::{AllocError, Global};
 
-/// How wide the word and the label of a line are at least.
+/// How wide the name and the label of a line are at least.
 const WORD_WIDTH: usize = 10;
 
 const LABEL_WIDTH: usize = 11;
 
-/// What is told of a step.
+/// What the line of a step says.
 #[derive(Clone, Copy)]
 pub(crate) struct Line<'a> {
     pub(crate) word: &'a str,
@@ -59,7 +59,7 @@ fn text_of(alloc: Global, line: &Line<'_>) -> Result<String, AllocError> {
     ink.into_text()
 }
 
-// Adds the text, and as many blanks as it lacks of the width; one at least.
+// Adds the text, and the blanks that it lacks of the width; one at least.
 fn put_padded(ink: &mut Ink, text: &str, width: usize) {
     ink.put_plain(text);
     let count = text.chars().count();

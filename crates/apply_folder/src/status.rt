@@ -5,7 +5,7 @@ ghost use Rattle.exit_status.specs.declared.TheConstants as statuses;
 
 use exit_status::{BAD_FILE, DIFFERS};
 
-/// What became of steps, as far as the exit status tells it.
+/// What became of steps, as far as the exit status says it.
 #[derive(Clone, Copy)]
 pub struct Ending {
     /// A file could not be read.

@@ -9,7 +9,7 @@ pub(crate) enum Stop {
     NoMemory,
     /// The launcher does not answer, or the standard output fails.
     Ask(Fault),
-    /// Something that was told, with this status.
+    /// An error that was reported, with this status.
     Told(u8),
 }
 

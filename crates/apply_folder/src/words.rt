@@ -1,4 +1,4 @@
-//! The words of `jobctl apply`.
+//! The arguments of `jobctl apply`.
 
 ghost use Rattle.std.specs.Prelude.{◌≡◌, ◌||◌, false};
 ghost use Rattle.apply_folder.specs.Wishes.{is_dry_run, is_prune, is_now, is_strict, is_wait, is_json};
@@ -7,7 +7,7 @@ use files_and_process::own_process::MARK;
 use history_model::Text;
 use std::alloc::{AllocError, Global};
 
-/// The word by which it is asked for.
+/// The subcommand.
 const WORD: &str = "apply";
 
 /// An option that takes no value.
@@ -21,7 +21,7 @@ pub enum Wish {
     Json,
 }
 
-/// Which of the options stand.
+/// Which of the options are set.
 #[derive(Clone, Copy)]
 pub struct ApplyFlags {
     /// Nothing is done: the plan is shown.
@@ -36,7 +36,7 @@ pub struct ApplyFlags {
 }
 
 impl ApplyFlags {
-    /// None stands.
+    /// No option is set.
     pub fn none() -> ApplyFlags
         ensures done { (result.dry_run ≡ false) × (result.prune ≡ false) × (result.at_once ≡ false) }
         ensures shown { (result.strict ≡ false) × (result.wait ≡ false) × (result.json ≡ false) }
@@ -51,7 +51,7 @@ impl ApplyFlags {
         }
     }
 
-    /// Those and this one: in which order they stand makes no difference.
+    /// These options and this one: their order makes no difference.
     pub fn with(self, wish: Wish) -> ApplyFlags
         ensures dry_run { result.dry_run ≡ self.dry_run || is_dry_run wish }
         ensures prune { result.prune ≡ self.prune || is_prune wish }
@@ -86,14 +86,14 @@ impl ApplyFlags {
 /// What is to be applied, and how.
 #[derive(Drop)]
 pub(crate) struct ApplyWords {
-    /// The control socket, if the words name it.
+    /// The control socket, if the arguments name it.
     pub(crate) socket: Option<Text>,
     pub(crate) flags: ApplyFlags,
     /// One at least.
     pub(crate) paths: Vec<Text>,
 }
 
-/// What words mean.
+/// What the arguments mean.
 #[derive(Drop)]
 pub(crate) enum Meant {
     /// They don't ask for `apply`.
@@ -104,20 +104,20 @@ pub(crate) enum Meant {
     Apply(ApplyWords),
 }
 
-/// What was read of the words so far.
+/// What was read of the arguments so far.
 #[derive(Drop)]
 struct WordReader {
     words: ApplyWords,
-    // The next word is the socket.
+    // The next argument is the socket.
     wants_socket: bool,
-    // No further word is an option.
+    // Later arguments are not options.
     is_behind_dashes: bool,
     is_help: bool,
-    // The first word that is no option, and what is said of it.
+    // The first argument that is not a valid option, and the message on it.
     wrong: Option<(&'static str, Text)>,
 }
 
-/// What the words mean, the program's own name being the first.
+/// What the arguments mean, the program's own name being the first.
 pub(crate) fn meaning_of(alloc: Global, words: &[String]) -> Result<Meant, AllocError> {
     let words = words.get(1..).unwrap_or(&[]);
     let Some(place) = place_of_word(words) else {
@@ -142,7 +142,7 @@ pub(crate) fn meaning_of(alloc: Global, words: &[String]) -> Result<Meant, Alloc
     reader.meaning(alloc)
 }
 
-// Where `apply` stands among the words as their subcommand.
+// The index of `apply`, if it is the subcommand among the arguments.
 fn place_of_word(words: &[String]) -> Option<usize> {
     let mut is_value = false;
     for (index, word) in words.iter().enumerate() {
@@ -219,7 +219,7 @@ impl WordReader {
         Ok(())
     }
 
-    // What all words mean.
+    // What all arguments mean.
     fn meaning(self, alloc: Global) -> Result<Meant, AllocError> {
         let WordReader {
             words,

@@ -1,4 +1,4 @@
--- What is told of no call, and of calls one after another.
+-- What is recorded of no call, and of calls one after another.
 use Rattle.std.proofs.Common.{List, [], ◌++◌, Option, sym, ap, ◌∙◌, append_assoc}
 use Rattle.std.proofs.lemmas.List.{append-nil}
 use Rattle.child_edge.specs.Calls.{ToldCall, Tells}
@@ -6,7 +6,7 @@ use Rattle.child_edge.specs.Calls.{ToldCall, Tells}
 pub tells_nothing : (a : Option (List ToldCall)) → Tells a [] a
 tells_nothing a = λ after is. (after, is, sym (append-nil after))
 
--- what is told one after another is told together
+-- what is recorded one after another is recorded together
 pub tells_append : (a b c : Option (List ToldCall)) (p q : List ToldCall) → Tells a p b → Tells b q c → Tells a (p ++ q) c
 tells_append a b c p q first second = λ after is.
     let s = second after is in

@@ -16,7 +16,7 @@ keeps_nothing (Some xs) None kept = absurd kept
 keeps_nothing (Some xs) (Some ys) kept = kept ∙ sym (append-nil xs)
 
 module _ {C F : Type 0} (contents : C → Option (List ℕ)) where
-  -- so many bytes of a piece were sent, and the others wait
+  -- some first bytes of a piece were sent, and the others wait
   pub piece_sent : (piece : List ℕ) (count : ℕ) (old new : Connection C F) → Appends (contents old.client) (contents new.client) (take count piece) →
       new.exchange ≡ record old.exchange { unsent = drop count piece } → IsOpen old.exchange → SendsPiece contents piece None old new
   piece_sent piece count old new sends is stays = record {

@@ -1,4 +1,4 @@
--- Room for clients, reckoned by hand.
+-- Room for clients, calculated manually.
 use Rattle.std.proofs.Common.{◌≡◌, Some, None, refl}
 use Rattle.child_edge.specs.Rooms.{room_by}
 

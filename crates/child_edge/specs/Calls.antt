@@ -1,4 +1,4 @@
--- What an edge tells: the calls that were made of it, oldest first, each with its answer.
+-- What an edge records: the calls that were made of it, oldest first, each with its answer.
 use Rattle.std.specs.Prelude.{◌≡◌, ℕ, ◌+◌, ◌%◌, ◌^◌, List, [], ◌∷◌, ◌++◌, Option, Some, None, Result, Ok, Err, Bool, true, false}
 use Rattle.history_model.specs.declared.Ended.{Ended}
 use Rattle.history_model.specs.declared.Obs.{Obs}
@@ -14,7 +14,7 @@ abbrev pub ToldCall : Type 0
 ToldCall = EdgeCall × Scripted
 
 -- From old to new the edge was called for exactly these entries, in this order. Nothing is claimed
--- of an edge that does not tell, nor from the call on at which it stops telling.
+-- of an edge that does not record its calls, nor from the call on at which it stops recording.
 abbrev pub Tells : Option (List ToldCall) → List ToldCall → Option (List ToldCall) → Type 0
 Tells old entries new =
     (after : List ToldCall) → new ≡ Some after
@@ -65,12 +65,12 @@ poll_answer (Ok None) = Running
 poll_answer (Ok (Some ended)) = Over ended
 poll_answer (Err fault) = fault_answer fault
 
--- of a look,
+-- of a path check,
 abbrev pub look_answer : Result Obs EdgeFault → Scripted
 look_answer (Ok seen) = Seen seen
 look_answer (Err fault) = fault_answer fault
 
--- and of a reading
+-- and of a clock reading
 abbrev pub read_answer : Result Reading EdgeFault → Scripted
 read_answer (Ok reading) = At reading
 read_answer (Err fault) = fault_answer fault

@@ -6,8 +6,8 @@ use Rattle.child_edge.specs.declared.plain.Scripted.{Scripted}
 use Rattle.child_edge.specs.declared.plain.Scripted.TheVariants.{Started, Done, Running, Over, Seen, At, Refused, NoMemory}
 use Rattle.child_edge.specs.Calls.{one_more, is_done, ToldCall}
 
--- The script, how many of its answers were given, the calls with their answers, how many of them
--- there is room for, whether all calls that were made are among them, and the count of failures.
+-- The script and how many of its answers were given; the calls with their answers and how many of them there is room
+-- for. Whether all calls that were made are among them, and the count of failures.
 pub record Memory : Type 0 where
   pub script : List Scripted
   pub used : ℕ
@@ -27,7 +27,7 @@ uncalled script room = record {
   failures = 0;
 }
 
--- what the edge tells
+-- what the edge records
 abbrev pub calls_told : Memory → Option (List ToldCall)
 calls_told m = if m.is_telling then Some m.calls else None
 
@@ -46,7 +46,7 @@ is_poll (At reading) = false
 is_poll Refused = false
 is_poll NoMemory = false
 
--- to a start, whose process id is at least 1
+-- to a start, whose PID is at least 1
 abbrev pub is_start : Scripted → Bool
 is_start (Started pid) = nat_lt 0 pid
 is_start Running = false
@@ -57,7 +57,7 @@ is_start (At reading) = false
 is_start Refused = false
 is_start NoMemory = false
 
--- to a look
+-- to a path check
 abbrev pub is_seen : Scripted → Bool
 is_seen (Seen seen) = true
 is_seen (Started pid) = false
@@ -68,7 +68,7 @@ is_seen (At reading) = false
 is_seen Refused = false
 is_seen NoMemory = false
 
--- to a reading of the clocks
+-- to a clock reading
 abbrev pub is_reading : Scripted → Bool
 is_reading (At reading) = true
 is_reading (Started pid) = false
@@ -132,7 +132,7 @@ entered call a m = record m {
   failures = counted a m.failures;
 }
 
--- the edge after a call that it refused and could not list: it tells no more
+-- the edge after a call that it refused and could not list: it records no more
 abbrev pub untold : Memory → Memory
 untold m = record m { is_telling = false; failures = one_more m.failures }
 

@@ -10,7 +10,7 @@ use Rattle.child_edge.specs.declared.connection.Progress.TheVariants.{Waits, May
 abbrev pub IsOpen : Bytes → Type 0
 IsOpen exchange = (exchange.is_request_whole ≡ true) × (exchange.is_reply_whole ≡ false)
 
--- it stays so, but for a connection that is to be let go
+-- it stays so, but for a connection that is to be disconnected
 abbrev pub StaysOpen : Progress → Bytes → Type 0
 StaysOpen Waits exchange = IsOpen exchange
 StaysOpen MayGoOn exchange = IsOpen exchange
@@ -31,7 +31,7 @@ WaitsOrLost MayGoOn = ⊥
 WaitsOrLost Ended = ⊥
 WaitsOrLost (Lost why) = ⊤
 
--- both ends were told, and nothing waits to be sent
+-- request and reply are whole, and nothing waits to be sent
 abbrev pub is_done : Bytes → Bool
 is_done exchange = exchange.is_request_whole && exchange.is_reply_whole && (length exchange.unsent == 0)
 
@@ -43,7 +43,7 @@ Rests Ended exchange = is_done exchange ≡ true
 Rests (Lost why) exchange = ⊥
 
 module _ {C F : Type 0} (contents : C → Option (List ℕ)) (remaining : F → Option (List ℕ)) where
-  -- Some bytes of the reply were read, in order. What was sent is a front of what waited to be sent and of these behind it; this is the rest.
+  -- Some bytes of the reply were read, in order. What was sent is a front of what waited to be sent and of these after it; this is the rest.
   pub record Sends (rest : List ℕ) (old new : Connection C F) : Type 0 where
     pub read : List ℕ
     pub reads : Consumes (remaining old.reply) (remaining new.reply) read

@@ -1,4 +1,4 @@
-//! What a start asks its look-out: all at once, one question for each part that has a path.
+//! What a start asks its helper process: all at once, one question for each part that has a path.
 
 use crate::failure::{Failure, Part};
 use crate::held::Held;
@@ -28,7 +28,7 @@ impl<'a> Asking<'a> {
         Ok(())
     }
 
-    // A stream of this process's own is not asked about: to the look-out its path means another.
+    // A stream of this process's own is not asked about: to the helper its path means another.
     fn add_stream(
         &mut self,
         part: Part,
@@ -65,8 +65,9 @@ impl<'a> Asking<'a> {
     }
 }
 
-/// Asks about all that the start needs, and waits half a second at most. What it opens is held until it is told to forget it. An error if a
-/// part hangs, is refused, or is of a kind whose open may wait. Nothing is held if the system starts no look-out.
+/// Asks about all that the start needs, and waits half a second at most. What it opens is held until a `forget`. An
+/// error if a part hangs, is refused, or is of a kind whose open may wait. Nothing is held if the system starts no
+/// helper.
 pub(crate) fn hold<
     P: OpenProcess + Drop,
     R: AllocGlobal + Clock + Files + Net + Processes<Started = P>,
@@ -124,7 +125,8 @@ fn ask<P: OpenProcess + Drop, R: AllocGlobal + Clock + Files + Net + Processes<S
     held
 }
 
-// The first stream that is refused counts, and else the folder. What is wrong with the program the system tells at the start.
+// The first stream that is refused counts, and else the folder. What is wrong with the program the system says at the
+// start.
 fn held_in(id: Option<u32>, asking: &Asking<'_>, answers: &[Answer]) -> Result<Held, Failure> {
     let mut held = Held::by(id);
     let mut of_folder = None;
@@ -243,7 +245,8 @@ pub(crate) fn first_silent<
     None
 }
 
-/// Why it is not known that the path answers: it gives none within half a second, or the system starts no look-out now.
+/// Why it is not known that the path answers: it gives no answer within half a second, or the system starts no helper
+/// now.
 pub(crate) fn silence<
     P: OpenProcess + Drop,
     R: AllocGlobal + Clock + Files + Net + Processes<Started = P>,

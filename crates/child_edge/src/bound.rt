@@ -30,7 +30,7 @@ impl Bound {
         notices.refused(job, asked, label, None, form, &[Error(error)]);
     }
 
-    /// Registers each socket that is not yet, up to the first that is refused, which is told.
+    /// Registers each socket that is not yet, up to the first that is refused, which is logged.
     pub(crate) fn register(
         &mut self,
         notices: &mut Notices,

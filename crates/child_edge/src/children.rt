@@ -22,8 +22,8 @@ use std::{io, mem};
 /// A job and one of its runs.
 pub(crate) type RunKey = (JobNo, u64);
 
-/// What is kept of a run beside its child: the connection that it serves, its job's label if there was memory for it, and its
-/// start if that is to be told.
+/// What is kept of a run besides its child. This is the connection that it serves, its job's label if there was memory
+/// for it, and its start if that must be logged.
 #[derive(Drop)]
 pub(crate) struct Kept {
     pub(crate) conn: Option<u64>,
@@ -54,7 +54,7 @@ struct Run<P: OpenProcess + Drop> {
 }
 
 impl<P: OpenProcess + Drop> Run<P> {
-    // Starts the command as the run's child, and answers its process id. A number of 0 is no child's.
+    // Starts the command as the run's child, and answers its PID. No child has PID 0.
     fn spawn<R: Processes<Started = P>>(&mut self, rt: &R, command: &mut Command) -> io::Result<u32>
         ensures { IfOk result (λ pid. 0 < pid) }
     {
@@ -71,7 +71,7 @@ impl<P: OpenProcess + Drop> Run<P> {
     }
 }
 
-/// The runs that have a child. A child that was not waited for keeps its process id, so no signal can reach another process.
+/// The runs that have a child. A child that was not waited for keeps its PID, so no signal can reach another process.
 #[derive(Drop)]
 pub(crate) struct Children<P: OpenProcess + Drop> {
     runs: BTreeMap<RunKey, Run<P>>,
@@ -84,7 +84,7 @@ impl<P: OpenProcess + Drop> Children<P> {
         }
     }
 
-    /// Starts the command for the run, and answers its process id. When it began is kept if its end is to be timed.
+    /// Starts the command for the run, and answers its PID. It keeps when the run began if its time must be logged.
     pub(crate) fn start<R: Clock + Files + Processes<Started = P>>(
         &mut self,
         rt: &R,
@@ -165,8 +165,9 @@ impl<P: OpenProcess + Drop> Children<P> {
         }
     }
 
-    /// Gives the run's child TERM, by `kill` of `/bin/sh`. It is asked for its end first: one that has ended gets no signal, as
-    /// its number is free, and for one that the system refuses to wait for TERM is refused, as its number may be another's.
+    /// Gives the run's child TERM, by `kill` of `/bin/sh`. It first asks whether the child has exited: one that has
+    /// gets no signal, as its PID is free. If the system refuses to wait for the child, TERM is refused, as the PID may
+    /// be another's.
     pub(crate) fn term<R: Net + Processes<Started = P>>(
         &mut self,
         rt: &R,
@@ -194,8 +195,8 @@ impl<P: OpenProcess + Drop> Children<P> {
         }
     }
 
-    /// The first child, from the job of this number on, that has ended or whose wait the system refuses: its job and run. It
-    /// stays until it is polled.
+    /// The first child, from the job of this number on, that has exited or whose wait the system refuses: its job and
+    /// run. It stays until it is polled.
     pub(crate) fn over_from(&mut self, job: JobNo) -> Option<RunKey> {
         let mut next = (job, 0);
         for _ in 0..self.runs.len() {
@@ -210,7 +211,7 @@ impl<P: OpenProcess + Drop> Children<P> {
         None
     }
 
-    /// How the run's child ended, if it did. It stays until it is removed.
+    /// How the run's child exited, if it did. It stays until it is removed.
     pub(crate) fn poll(&mut self, key: RunKey) -> io::Result<Option<Ended>> {
         let child = match self.child(key) {
             Ok(child) => child,
@@ -223,7 +224,7 @@ impl<P: OpenProcess + Drop> Children<P> {
         }
     }
 
-    /// The run has no child from now on. What was kept of it is handed back.
+    /// The run has no child from now on. What was kept of it is given back.
     pub(crate) fn remove(&mut self, key: RunKey) -> Option<Kept> {
         match self.runs.remove(&key) {
             Some(gone) => {
@@ -236,7 +237,7 @@ impl<P: OpenProcess + Drop> Children<P> {
     }
 }
 
-// The system tells a code of 0 to 255, or the number of a signal.
+// The system gives a code of 0 to 255, or the number of a signal.
 fn end_of(status: ExitStatus) -> Ended {
     match status.code() {
         Some(code) => Ended::Code((code & 0xff).unsigned_abs() as u8),

@@ -4,8 +4,8 @@ use std::fs::{DirEntry, Files};
 use std::{fs, io};
 
 /// Removes the spool files that lie in the folder: those with a name as the launcher gives them, `JOB-CONN.request` or
-/// `JOB-CONN.reply`, both numbers in plain decimals. Nothing else in the folder is touched. An `Err` if the folder can't
-/// be read or such a file can't be removed; those before it are gone.
+/// `JOB-CONN.reply`, both numbers in plain decimals. Nothing else in the folder is touched. An `Err` if the folder
+/// can't be read or such a file can't be removed; those before it are removed.
 pub fn clear_spool<R: AllocGlobal + Clone + Drop + Files>(rt: &R, folder: &str) -> io::Result<()> {
     let listing = match fs::read_dir(rt, folder) {
         Ok(listing) => listing,

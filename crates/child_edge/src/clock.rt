@@ -1,4 +1,4 @@
-//! The two clocks of a reading.
+//! The two clocks of a clock reading.
 
 use history_model::Reading;
 use std::io;

@@ -10,11 +10,13 @@ use std::alloc::{AllocError, Global};
 use std::os::unix::process::CommandExt;
 use std::process::Command;
 
-/// The command that the definition says: its program, which is also the child's own name for itself, its arguments, its
-/// directory, or the place where that is held, and its variables beside the launcher's. It has no streams yet.
+/// The command that the definition says. It has its program, which is also the child's own name for itself, and its
+/// arguments. It has its directory, or the place where that is held, and its variables besides the launcher's. What the
+/// run itself has is set first, so that the definition's value of such a variable counts. It has no streams yet.
 pub(crate) fn command_of(
     alloc: Global,
     def: &Def,
+    run: &[Variable],
     held: Option<&str>,
 ) -> Result<Command, AllocError>
     ensures program { IfOk result (λ c. command_program c ≡ def.now.program) }
@@ -23,10 +25,10 @@ pub(crate) fn command_of(
     ensures directory { IfOk result (λ c. command_dir c
         ≡ folder_at def.now.working_directory (option_map (λ place. place.now) held.entry)) }
     ensures variables { IfOk result (λ c. (name : List ℕ) →
-        command_var c name ≡ said_after name None def.now.environment) }
+        command_var c name ≡ said_after name (said_after name None run.now) def.now.environment) }
 {
     let mut command = Command::new(alloc, def.program())?;
-    match set_up(&mut command, def, held) {
+    match set_up(&mut command, def, run, held) {
         Ok(()) => Ok(command),
         Err(error) => {
             drop(command);
@@ -35,8 +37,13 @@ pub(crate) fn command_of(
     }
 }
 
-// What the definition says beside the program. The command is lent, so that no `?` has to drop it.
-fn set_up(command: &mut Command, def: &Def, held: Option<&str>) -> Result<(), AllocError>
+// What the definition says besides the program. The command is lent, so that no `?` has to drop it.
+fn set_up(
+    command: &mut Command,
+    def: &Def,
+    run: &[Variable],
+    held: Option<&str>,
+) -> Result<(), AllocError>
     requires { command_dir command.old ≡ None }
     ensures program { OnOk result (command_program command.new ≡ command_program command.old) }
     ensures name { OnOk result (command_arg0 command.new ≡ Some def.now.program) }
@@ -44,10 +51,11 @@ fn set_up(command: &mut Command, def: &Def, held: Option<&str>) -> Result<(), Al
         (command_args command.new ≡ command_args command.old ++ def.now.arguments) }
     ensures directory { OnOk result (command_dir command.new
         ≡ folder_at def.now.working_directory (option_map (λ place. place.now) held.entry)) }
-    ensures variables { OnOk result
-        (SetsVariables def.now.environment (command_var command.old) (command_var command.new)) }
+    ensures variables { OnOk result ((name : List ℕ) → command_var command.new name
+        ≡ said_after name (said_after name (command_var command.old name) run.now) def.now.environment) }
 {
     add_words(command, def.arguments())?;
+    add_variables(command, run)?;
     add_variables(command, def.environment())?;
     set_folder(command, def.working_directory(), held)?;
     command.arg0(def.program())?;

@@ -32,10 +32,11 @@ pub(crate) enum Progress {
 /// How many pieces of a reply are sent at a time, each of them as long as what of a reply may wait.
 const PIECES: u32 = 16;
 
-/// After how many seconds a client is let go that takes nothing of its reply.
+/// After how many seconds a client is disconnected that takes nothing of its reply.
 const STILL: u64 = 60;
 
-/// After how many seconds a client that takes nothing of the reply of a run which is over may go for a further one.
+/// After how many seconds a client that takes nothing of the reply of a run which is over may be disconnected for a
+/// further one.
 const PATIENCE: u64 = 5;
 
 /// The first and the last write of which the client took nothing, with none between them of which it took something.
@@ -53,13 +54,13 @@ pub(crate) struct Connection<C = Client, F = File> {
     pub(crate) reply: F,
     // Its job's label, if it was known and there was memory for it.
     pub(crate) label: Option<Text>,
-    // The run that it was served by has ended.
+    // The run that it was served by has exited.
     pub(crate) is_over: bool,
     // What the client took nothing of, since it took something last.
     pub(crate) refused: Option<Refused>,
 }
 
-// for the proof: who lets it go calls this, in place of letting each part go
+// for the proof: who drops it calls this, in place of dropping each part
 impl<C: Drop, F: Drop> Drop for Connection<C, F> {
     fn drop(self) {
         let Connection {
@@ -75,7 +76,7 @@ impl<C: Drop, F: Drop> Drop for Connection<C, F> {
 }
 
 impl Refused {
-    // For so many seconds it took nothing of what it was offered.
+    // For how many seconds it took nothing of what it was offered.
     fn seconds(&self) -> u64
         ensures { result ≡ (instant_nanos self.now.last - instant_nanos self.now.first) / 1_000_000_000 }
     {
@@ -84,8 +85,8 @@ impl Refused {
 }
 
 impl<C, F> Connection<C, F> {
-    /// Whether the run that it was served by is over, and the client was offered the reply for 5 seconds and took nothing of it. Nobody else
-    /// may go for a further client.
+    /// Whether the run that it was served by is over, and the client was offered the reply for 5 seconds and took
+    /// nothing of it. No other client may be disconnected for a further one.
     pub(crate) fn is_spent(&self) -> bool
         ensures { result ≡ true → IsSpent self.now }
     {
@@ -247,7 +248,7 @@ impl<C: Write, F: Read> Connection<C, F> {
     }
 }
 
-// So many of the piece's bytes were sent, and nothing waited before it: the others wait now, in their order.
+// `sent` of the piece's bytes were sent, and nothing waited before it: the others wait now, in their order.
 fn keep_rest(exchange: &mut Exchange, piece: &[u8], sent: usize)
     ensures { exchange.old.unsent ≡ [] → exchange.old.is_reply_whole ≡ false →
         length piece.now ≤ MAX_UNSENT →

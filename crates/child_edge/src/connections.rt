@@ -1,14 +1,15 @@
 //! Connections of jobs' sockets, from the end of their request to the end of their reply.
 //!
-//! Three kinds are held: those that wait for their run, those whose run goes on, and those whose run is over and whose client
-//! has still to take what it wrote. One of the third kind is let go for a further client only if it is spent: its client was offered the reply
-//! for 5 seconds and took nothing of it. Of these the one goes that took nothing for longest. One whose run is still to come or goes on is never
-//! let go for another.
+//! Three kinds are held. The first wait for their run. The run of the second goes on. The run of the third is over, and
+//! their client has still to take what it wrote. One of the third kind is disconnected for a further client only if it
+//! is spent: its client was offered the reply for 5 seconds and took nothing of it. Of these the one is disconnected
+//! that took nothing for longest. One whose run is still to come or goes on is never disconnected for another.
 //!
-//! Three bounds are kept, beyond which a further client has to wait until one is spent or gone. Of all jobs together as many are held as there
-//! is room for, since each of them takes two descriptors. Of each job 64 of the third kind are held. So that clients who wait for one slow job
-//! leave room for those of others, a job has no more of the first two kinds than its share: 64 at most, and fewer than there is room left beside
-//! those of all jobs. A job alone has half the room, two have a third each.
+//! Three bounds are kept. Beyond them a further client has to wait until a connection is spent or has ended. Of all
+//! jobs together no more are held than there is room for, since each takes two descriptors. Of each job 64 of the third
+//! kind are held. Clients who wait for one slow job must leave room for those of others. So a job has no more of the
+//! first two kinds than its share: 64 at most, and fewer than those of all jobs leave room for. A job alone has half
+//! the room, two have a third each.
 
 ghost use Rattle.std.specs.Prelude.{◌≡◌, None, true};
 ghost use Rattle.std.specs.Option.{IsSomeAnd};
@@ -22,10 +23,12 @@ use crate::failure::{Failure, Part, culprit};
 use crate::held::Held;
 use crate::maps::key_from;
 use crate::notices::{Asked, LetGo, Notices, OF_ROOM};
+use crate::run_variable::own_variables;
 use crate::spool::Spooled;
 use crate::start::Start;
 use crate::streams::{own_streams, served_streams};
 use crate::words::Hole::{Error, Text as Words};
+use files_and_process::run_names::LauncherId;
 use history_model::{Ended, JobNo, MAX_CONNECTIONS, Text};
 use socket_demand::Exchange;
 use std::alloc::{AllocError, Global};
@@ -43,7 +46,8 @@ type Key = (JobNo, u64);
 /// How many connections of a job are held whose run is over.
 const OVER: usize = 64;
 
-/// As many milliseconds replies are forwarded at a time. Then those of the other connections are left for the next time.
+/// For how many milliseconds replies are forwarded at a time. Then those of the other connections are left for the next
+/// time.
 const LONGEST: u64 = 5;
 
 /// A connection that is spent, and since when its client takes nothing.
@@ -70,6 +74,8 @@ struct Tally {
 pub(crate) struct Connections {
     alloc: Global,
     folder: String,
+    // Which process this launcher is, if runs are to have its name.
+    launcher: Option<LauncherId>,
     held: BTreeMap<Key, Connection>,
     // The clock, as it was read last.
     now: Instant,
@@ -84,6 +90,7 @@ impl Connections {
         Connections {
             alloc,
             folder,
+            launcher: None,
             held: BTreeMap::new(alloc),
             now,
             first: (0, 0),
@@ -91,7 +98,14 @@ impl Connections {
         }
     }
 
-    // A clock that can't be read stands still.
+    /// From now on each run has this launcher's name in its variables.
+    pub(crate) fn name_runs(&mut self, launcher: LauncherId)
+        ensures { self.new.held ≡ self.old.held }
+    {
+        self.launcher = Some(launcher);
+    }
+
+    // A clock that can't be read does not go on.
     fn read_clock(&mut self, rt: &impl Clock)
         ensures { self.new.held ≡ self.old.held }
     {
@@ -100,7 +114,8 @@ impl Connections {
         }
     }
 
-    /// Whether a further client of the job has to wait: none of the bounds leaves room for it, also if one that is spent is let go.
+    /// Whether a further client of the job has to wait: none of the bounds leaves room for it, also if a spent one is
+    /// disconnected.
     pub(crate) fn must_wait(&mut self, job: JobNo, room: usize) -> bool {
         let held = self.tally(job);
         let is_full = self.held.len() >= room && held.stillest.is_none();
@@ -111,9 +126,10 @@ impl Connections {
         must_wait
     }
 
-    /// Spools the request and holds the connection. A number that is in use is refused; so is one more connection of a job that has its
-    /// share, or where as many are held as there is room for and none is spent. Another one is let go only if it is spent. After an `Err`
-    /// the client is let go, which is told, and no file is left.
+    /// Spools the request and holds the connection. A number that is in use is refused. One more connection is refused
+    /// if its job has its share, or if the connections fill the room and none is spent. Another one is disconnected
+    /// only if it is spent. After an `Err` the client is disconnected and no file is left. It logs why, unless the
+    /// number was in use.
     pub(crate) fn take<R: Clock + Files<File = File>>(
         &mut self,
         rt: &R,
@@ -150,7 +166,7 @@ impl Connections {
         }
     }
 
-    // Makes the connection's files and puts it beside the others. After an `Err` no file is left.
+    // Makes the connection's files and adds it to the others. After an `Err` no file is left.
     fn hold<R: Files<File = File>>(
         &mut self,
         rt: &R,
@@ -186,7 +202,7 @@ impl Connections {
         }
     }
 
-    // Puts the connection beside the others. After an `Err` its files are removed.
+    // Adds the connection to the others. After an `Err` its files are removed.
     fn put<R: Files>(&mut self, rt: &R, key: Key, connection: Connection) -> io::Result<()>
         ensures { held_at self.old.held key ≡ None → TakesOne self.old.held self.new.held }
     {
@@ -203,7 +219,7 @@ impl Connections {
         }
     }
 
-    // Why one more of the job can't be held, also if another were let go. None: there is room for it now.
+    // Why one more of the job can't be held, also if another were disconnected. None: there is room for it now.
     fn want_of_room<R: Files>(
         &mut self,
         rt: &R,
@@ -247,7 +263,7 @@ impl Connections {
         tally
     }
 
-    // Lets the connection go for a further one, if it is spent. It says whether it was.
+    // Disconnects the client for a further one, if its connection is spent. It says whether it was.
     fn let_spent_go<R: Files>(
         &mut self,
         rt: &R,
@@ -268,7 +284,7 @@ impl Connections {
         }
     }
 
-    /// The command that the start's definition says, with its streams. What a look-out holds is taken from there.
+    /// The command that the start's definition says, with its streams. What a helper process holds is taken from there.
     pub(crate) fn command_for<R: Files<File = File>>(
         &mut self,
         rt: &R,
@@ -296,15 +312,23 @@ impl Connections {
     fn command_at(&self, start: Start<'_>, held: &Held) -> Result<Command, AllocError> {
         let place = held.path_of(self.alloc, Part::Folder)?;
         let command = match &place {
-            Some(place) => command_of(self.alloc, start.def, Some(place.as_str())),
-            None => command_of(self.alloc, start.def, None),
+            Some(place) => self.command_in(start, Some(place.as_str())),
+            None => self.command_in(start, None),
         };
         drop(place);
         command
     }
 
-    // A run that serves a connection reads its request and writes its reply. If one of these files is lost, the client is let go and
-    // the run is started without it, as one whose client said nothing and takes nothing: what waits behind it is served.
+    fn command_in(&self, start: Start<'_>, place: Option<&str>) -> Result<Command, AllocError> {
+        let own = own_variables(self.alloc, self.launcher, start)?;
+        let command = command_of(self.alloc, start.def, own.as_slice(), place);
+        drop(own);
+        command
+    }
+
+    // A run that serves a connection reads its request and writes its reply. If one of these files is lost, the client
+    // is disconnected. The run is started without it, as one whose client sent nothing and takes nothing: what waits
+    // after it is served.
     fn give_streams<R: Files<File = File>>(
         &mut self,
         rt: &R,
@@ -332,7 +356,7 @@ impl Connections {
         }
     }
 
-    /// The run has ended so, of which this was kept.
+    /// The run has exited so, of which this was kept.
     pub(crate) fn run_ended<R: Clock + Files>(
         &mut self,
         rt: &R,
@@ -352,7 +376,7 @@ impl Connections {
         drop(kept);
     }
 
-    // The run that served the connection has ended.
+    // The run that served the connection has exited.
     fn end<R: Files>(&mut self, rt: &R, notices: &mut Notices, key: Key) {
         if let Some(connection) = self.held.get_mut(&key) {
             connection.is_over = true;
@@ -360,7 +384,7 @@ impl Connections {
         self.bound_over(rt, notices, key.0);
     }
 
-    // If more of the job's are over than may be, one is let go, if one is spent.
+    // If more of the job's are over than may be, one is disconnected, if one is spent.
     fn bound_over<R: Files>(&mut self, rt: &R, notices: &mut Notices, job: JobNo)
         ensures { LetsGoSpent self.old.held self.new.held }
     {
@@ -374,7 +398,7 @@ impl Connections {
         let _was_spent = self.let_spent_go(rt, notices, still.key, LetGo::Job(OVER));
     }
 
-    /// Lets the connection go, if it is held, and removes its files. Why its client was let go is told, if it was.
+    /// Closes the connection, if it is held, and removes its files. It logs why it disconnected the client, if it did.
     pub(crate) fn close<R: Files>(
         &mut self,
         rt: &R,
@@ -392,7 +416,7 @@ impl Connections {
         drop(connection);
     }
 
-    /// Lets each connection go, and removes its files.
+    /// Closes each connection, and removes its files.
     pub(crate) fn close_all<R: Files>(&mut self, rt: &R, notices: &mut Notices) {
         for _ in 0..self.held.len() {
             if let Some(key) = key_from(&self.held, (0, 0)) {
@@ -401,9 +425,10 @@ impl Connections {
         }
     }
 
-    /// Sends each client what its run has written since, and lets those go that have it all, and those that can't be sent it.
-    /// Once 5 milliseconds are over, those of the other connections are left for the next time, which begins with them. It says
-    /// whether one may go on at once, or one that had to wait may have a place. Where none is held no call of the system is made.
+    /// Sends each client what its run has written since. It closes the connections of those that have it all, and of
+    /// those that can't be sent it. Once 5 milliseconds are over, those of the other connections are left for the next
+    /// time, which begins with them. It says whether one may go on at once, or one that had to wait may have a place.
+    /// Where none is held no call of the system is made.
     pub(crate) fn forward<R: Clock + Files>(&mut self, rt: &R, notices: &mut Notices) -> bool {
         if self.held.is_empty() {
             return false;
@@ -467,13 +492,13 @@ impl Connections {
 }
 
 impl Tally {
-    // Of the job as many wait and are served as may be beside those of others.
+    // Whether 64 of the job's connections wait or are served, or no fewer than those of all jobs leave room for.
     fn has_share(&self, room: usize) -> bool {
         let share = room.saturating_sub(self.of_all).min(MAX_CONNECTIONS);
         self.served > 0 && self.served >= share
     }
 
-    // One more is held, beside those of the job.
+    // One more is held, besides those of the job.
     fn add(&mut self, job: JobNo, key: Key, connection: &Connection) {
         let is_own = key.0 == job;
         if !connection.is_over {

@@ -27,8 +27,8 @@ pub(crate) struct Failure {
 }
 
 impl Failure {
-    /// Whether a spool file is lost: it is gone, or another is at its name, or it may not be opened any more. A run that
-    /// needs it can never be started.
+    /// Whether a spool file is lost: it was removed, or another is at its name, or it may not be opened any more. A run
+    /// that needs it can never be started.
     pub(crate) fn is_lost(&self) -> bool {
         let kind = self.error.kind();
         matches!(self.part, Part::Request | Part::Reply)
@@ -54,8 +54,8 @@ impl Failure {
     }
 }
 
-/// Whose error a spawn's is: the system does not tell the folder's from the program's. A look-out has tried the folder; if there was none, it
-/// is tried here.
+/// Whose error a spawn's is: the system does not say whether it is the folder's or the program's. A helper process has
+/// tried the folder; if there was none, it is tried here.
 pub(crate) fn culprit<R: Files>(
     rt: &R,
     alloc: Global,

@@ -1,12 +1,12 @@
-//! What a look-out holds open for a start: each part by the number that it has there.
+//! What a helper process holds open for a start: each part by the number that it has there.
 
 use crate::failure::Part;
 use std::alloc::{AllocError, Global};
 
-/// The look-out's process, if what it holds can be opened, and the number of each part that it holds.
+/// The helper's PID, if what it holds can be opened, and the number of each part that it holds.
 #[derive(Clone, Copy)]
 pub(crate) struct Held {
-    /// The parts were looked at by a look-out.
+    /// A helper checked the parts.
     pub(crate) is_asked: bool,
     id: Option<u32>,
     folder: Option<u64>,
@@ -58,7 +58,7 @@ impl Held {
         }
     }
 
-    /// Whether the part was opened by the look-out.
+    /// Whether the helper opened the part.
     pub(crate) fn has(&self, part: Part) -> bool {
         self.number_of(part).is_some()
     }

@@ -1,5 +1,5 @@
-//! The outside of the launcher as four small traits: children, sockets, paths and the clock. Each tells its calls with
-//! their answers, and counts its failures. [`MemoryEdge`] answers from a script, for tests.
+//! The outside of the launcher as four small traits: children, sockets, paths and the clock. Each records its calls
+//! with their answers, and counts its failures. [`MemoryEdge`] answers from a script, for tests.
 #![tactic(auto)]
 
 mod asking;
@@ -24,6 +24,7 @@ mod paths;
 mod plain;
 mod reserve;
 mod room;
+mod run_variable;
 mod shell;
 mod sockets;
 mod spool;

@@ -13,7 +13,7 @@ use std::io;
 use std::io::ErrorKind;
 use std::net::{Ipv4Addr, Net, SocketAddr};
 
-/// How many clients that are gone are passed over at a time.
+/// How many clients that have left are passed over at a time.
 const GONE: u32 = 64;
 
 #[derive(Drop)]
@@ -62,7 +62,7 @@ impl Listener {
         }
     }
 
-    /// The next client that waits, if one does. One that was gone before it was let in is passed over.
+    /// The next client that waits, if one does. One that left before it was let in is passed over.
     pub(crate) fn accept(&self) -> io::Result<Option<Client>> {
         for _ in 0..GONE {
             match self.try_accept() {

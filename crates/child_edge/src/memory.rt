@@ -11,12 +11,12 @@ use history_model::{Ended, JobNo, Obs, Reading};
 use std::alloc::{AllocError, Global};
 use std::marker::Model;
 
-/// Answers each call by the next answer of a script, and lists the calls with the answers that it gave, as many as it
-/// has room for.
+/// Answers each call by the next answer of a script, and lists the calls with the answers that it gave, within its
+/// room.
 ///
-/// An answer of another kind than the call's, a process id of 0, and a script that has ended are `Refused`. A call for
-/// which there is no room is `Refused` and not listed. A close or a release takes no answer of the script and is listed
-/// as done; past the room it is done and not listed. Each fault adds one to the count of failures.
+/// An answer of another kind than the call's, a PID of 0, and a script that has ended are `Refused`. A call for which
+/// there is no room is `Refused` and not listed. A close or a release takes no answer of the script and is listed as
+/// done; past the room it is done and not listed. Each fault adds one to the count of failures.
 #[derive(Drop)]
 pub struct MemoryEdge {
     script: Vec<Scripted>,
@@ -69,7 +69,7 @@ impl EdgeCall {
 }
 
 impl MemoryEdge {
-    /// An edge that answers by this script, and has room to list so many calls. The room is taken here; `AllocError` if
+    /// An edge that answers by this script, and has room to list `room` calls. The room is taken here; `AllocError` if
     /// there is no memory for it.
     pub fn new(alloc: Global, script: Vec<Scripted>, room: usize) -> Result<MemoryEdge, AllocError>
         ensures { IfOk result (λ e. e ≡ uncalled script.items room) }
@@ -85,8 +85,8 @@ impl MemoryEdge {
         })
     }
 
-    /// The calls that were made, oldest first, with the answers that they were given: all of them, while they are at most
-    /// as many as there is room for, and else the first ones. Takes no memory.
+    /// The calls that were made, oldest first, with the answers that they were given. All of them, while there is room
+    /// for them, and else the first ones. Takes no memory.
     pub fn calls(&self) -> &[(EdgeCall, Scripted)]
         ensures { result.now ≡ self.now.calls }
     {

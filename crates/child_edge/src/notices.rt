@@ -1,4 +1,4 @@
-//! What the edge has to tell in words: what the system refused and, if it is asked for, what became of each run.
+//! The notices of the edge: what the system refused and, if it is asked for, what became of each run.
 
 ghost use Rattle.std.specs.Prelude.{◌≡◌};
 
@@ -17,26 +17,27 @@ use std::{io, mem};
 /// What a notice is about.
 #[derive(Clone, Copy)]
 pub enum NoticeKind {
-    /// The system refused something, or a client was let go.
+    /// The system refused something, or a client was disconnected.
     Refusal,
-    /// A run started or ended, or was given a signal.
+    /// A run started or exited, or was given a signal.
     Run,
 }
 
-/// One line to be told. The text has no name of the program before it, and neither a newline nor another control character.
+/// One line to be logged. The text has no name of the program before it, and neither a newline nor another control
+/// character.
 #[derive(Drop)]
 pub struct Notice {
     pub kind: NoticeKind,
     pub text: Text,
 }
 
-/// How many notices wait to be told; of further ones their number alone is kept.
+/// How many notices wait to be logged; of further ones their number alone is kept.
 const ROOM: usize = 64;
 
-/// Of how many paths the reasons are remembered; of further ones none is told.
+/// Of how many paths the reasons are remembered; of further ones none is logged.
 const PATHS: usize = 1024;
 
-/// What was asked of the system for a job. Of each the reason is told when it is another than the last.
+/// What was asked of the system for a job. Of each the reason is logged when it is another than the last.
 #[derive(Clone, Copy)]
 pub(crate) enum Asked {
     Start,
@@ -54,7 +55,7 @@ pub(crate) enum Asked {
     Client,
 }
 
-/// Why a client of a job's socket was let go.
+/// Why a client of a job's socket was disconnected.
 #[derive(Clone, Copy)]
 pub(crate) enum LetGo {
     /// It took nothing of its reply for a minute.
@@ -63,18 +64,18 @@ pub(crate) enum LetGo {
     Write(io::Error),
     /// Its reply could not be read.
     Read(io::Error),
-    /// So many connections of the job are held whose run is over, and it was still for longest.
+    /// The job has this many connections whose run is over, and of these it took nothing for longest.
     Job(usize),
-    /// So many connections are held of all jobs, and it was still for longest.
+    /// All jobs have this many connections, and of these it took nothing for longest.
     Room(usize),
-    /// So many connections are held of all jobs, each of which has its run still before it.
+    /// All jobs have this many connections, each of which has its run still before it.
     NoRoom(usize),
-    /// Of the job as many wait and are served as may be beside those of others.
+    /// 64 of the job's connections wait or are served, or no fewer than those of all jobs leave room for.
     Share,
 }
 
 impl LetGo {
-    // Whose last reason it is, and what is told.
+    // Whose last reason it is, and what is logged.
     fn said(self) -> (Asked, &'static str, Hole<'static>) {
         match self {
             LetGo::Still => (
@@ -112,31 +113,31 @@ impl LetGo {
     }
 }
 
-/// What a job's runs ask for: a job that is loaded anew begins with none of it told.
+/// What a job's runs ask for. When a job is loaded again, none of it counts as logged.
 const OF_RUNS: [Asked; 4] = [Asked::Start, Asked::Term, Asked::Kill, Asked::Wait];
 
-/// What the bounds on connections ask for: they are told anew once the job holds none.
+/// What the bounds on connections ask for: these are logged again once the job holds none.
 pub(crate) const OF_ROOM: [Asked; 4] = [Asked::Over, Asked::Room, Asked::NoRoom, Asked::Share];
 
-/// After so many requests that were answered well a refusal for want of memory is told anew.
+/// How many requests must be answered well before a refusal for want of memory is logged again.
 const WELL: u32 = 1_000;
 
 /// A job, and the number of what was asked of the system for it.
 type Call = (JobNo, u8);
 
-/// The notices that wait, and the reason that was told last for each call of a job and for each path.
+/// The notices that wait, and the reason that was logged last for each call of a job and for each path.
 #[derive(Drop)]
 pub(crate) struct Notices {
     alloc: Global,
-    /// What becomes of runs is told too.
+    /// What becomes of runs is logged too.
     pub(crate) tells_runs: bool,
     waiting: VecDeque<Notice>,
     dropped: u64,
     told: BTreeMap<Call, String>,
     paths: BTreeMap<String, String>,
-    /// Why the last start was refused; none if it went well, or if there was no memory for the words.
+    /// Why the last start was refused; none if it went well, or if there was no memory for the reason.
     pub(crate) start_refusal: Option<String>,
-    // A refusal for want of memory is to be told; and how many requests were answered well since the last one.
+    // A refusal for want of memory has to be logged; and how many requests were answered well since the last one.
     is_short: bool,
     well: u32,
 }
@@ -156,7 +157,7 @@ impl Notices {
         }
     }
 
-    /// The oldest notice, taken out. Once those that had room are told, one says how many had none.
+    /// The oldest notice, taken out. Once those that had room are logged, one says how many had none.
     pub(crate) fn next(&mut self) -> Option<Notice> {
         if let Some(notice) = self.waiting.pop_front() {
             return Some(notice);
@@ -176,7 +177,7 @@ impl Notices {
         })
     }
 
-    // Without memory for the line itself it is told later.
+    // Without memory for the line itself it is logged later.
     fn short(&mut self) -> Option<Notice> {
         let text = filled(self.alloc, "a request was refused: memory was refused", &[])?;
         self.is_short = false;
@@ -186,8 +187,8 @@ impl Notices {
         })
     }
 
-    /// A request was answered: refused for want of memory, or otherwise. The first such refusal is told, and the first behind 1,000 other
-    /// answers in a row.
+    /// A request was answered: refused for want of memory, or otherwise. The first such refusal is logged, and the
+    /// first after 1,000 other answers in a row.
     pub(crate) fn answered(&mut self, is_short: bool) {
         if is_short {
             self.is_short = self.is_short | (self.well >= WELL);
@@ -197,7 +198,7 @@ impl Notices {
         }
     }
 
-    /// Tells what became of a run, if runs are told.
+    /// Logs what became of a run, if runs are logged.
     pub(crate) fn run(&mut self, form: &str, holes: &[Hole<'_>]) {
         if self.tells_runs && self.has_place() {
             let line = filled(self.alloc, form, holes);
@@ -205,7 +206,7 @@ impl Notices {
         }
     }
 
-    /// What became of a start. With its first run a job begins with none of what its runs ask for told.
+    /// What became of a start. At the first run of a job, nothing of what its runs ask for counts as logged.
     pub(crate) fn started(&mut self, start: Start<'_>, answer: Result<u32, Failure>) {
         let (job, run) = start.key;
         if run <= 1 {
@@ -261,7 +262,7 @@ impl Notices {
         self.refused(job, asked, label, Some(run), form, &holes);
     }
 
-    /// A run was given the signal of this name. Nothing is told without its job's label.
+    /// A run was given the signal of this name. Nothing is logged without its job's label.
     pub(crate) fn signalled<'x>(
         &mut self,
         (job, run): RunKey,
@@ -288,8 +289,8 @@ impl Notices {
         self.refused(job, asked, label, Some(run), "cannot $: $", &holes);
     }
 
-    /// A run has ended, of which this was kept: if its start was, its time is told too, in seconds with one place. Nothing is told
-    /// without its job's label.
+    /// A run has exited, of which this was kept. If its start was kept, its time is logged too, in seconds with one
+    /// decimal. Nothing is logged without its job's label.
     pub(crate) fn ended<R: Clock>(&mut self, rt: &R, run: u64, ended: Ended, kept: &Kept) {
         let took = match kept.since {
             Some(since) => since.elapsed(rt).ok(),
@@ -320,8 +321,8 @@ impl Notices {
         self.run(form, &holes);
     }
 
-    /// The call for the job was refused, as the form says: that is told if it was not told last of this call. Nothing is told without
-    /// the job's label.
+    /// The call for the job was refused, as the form says. That is logged unless it was what was logged last of this
+    /// call. Nothing is logged without the job's label.
     pub(crate) fn refused(
         &mut self,
         job: JobNo,
@@ -348,7 +349,7 @@ impl Notices {
         drop(reason);
     }
 
-    // Whether another reason was told last of this call, or none.
+    // Whether another reason was logged last of this call, or none.
     fn is_news(&self, call: Call, reason: &str) -> bool {
         match self.told.get(&call) {
             Some(last) => last.as_str() != reason,
@@ -356,13 +357,13 @@ impl Notices {
         }
     }
 
-    /// A client of the job was let go.
+    /// A client of the job was disconnected.
     pub(crate) fn let_go(&mut self, job: JobNo, label: Option<&str>, why: LetGo) {
         let (asked, form, hole) = why.said();
         self.refused(job, asked, label, None, form, &[hole]);
     }
 
-    /// The call for the job was done: the next refusal is told, whatever its reason.
+    /// The call for the job was done: the next refusal is logged, whatever its reason.
     pub(crate) fn done(&mut self, job: JobNo, asked: Asked) {
         if !self.told.is_empty() {
             drop(self.told.remove(&(job, asked as u8)));
@@ -376,7 +377,7 @@ impl Notices {
         }
     }
 
-    /// What became of a look at the path.
+    /// What became of a check of the path.
     pub(crate) fn looked(&mut self, path: &str, answer: io::Result<Obs>) {
         match answer {
             Ok(_) if self.paths.is_empty() => {}
@@ -385,7 +386,7 @@ impl Notices {
         }
     }
 
-    // A look at the path was refused, for this reason.
+    // A check of the path was refused, for this reason.
     fn unseen(&mut self, path: &str, error: io::Error) {
         let holes = [Words(path), Error(error)];
         let Some(reason) = filled(self.alloc, "cannot look at $: $", &holes) else {
@@ -410,7 +411,7 @@ impl Notices {
         }
     }
 
-    /// What a look-out holds can't be opened, since its folder in /proc is closed to this process.
+    /// What a helper process holds can't be opened, since its folder in /proc is closed to this process.
     pub(crate) fn shut(&mut self) {
         if self.has_place() {
             let form = "streams are opened by their paths: /proc is closed to the launcher";
@@ -419,7 +420,7 @@ impl Notices {
         }
     }
 
-    /// There can be no look-out, so the launcher looks and opens for itself.
+    /// There can be no helper process, so the launcher checks and opens paths itself.
     pub(crate) fn alone(&mut self) {
         if self.has_place() {
             let form =
@@ -438,7 +439,7 @@ impl Notices {
         true
     }
 
-    // Whether the line is told from now on. Want of memory drops it.
+    // Whether the line waits to be logged from now on. Want of memory drops it.
     fn add(&mut self, kind: NoticeKind, line: Option<String>) -> bool {
         match line {
             Some(line) => {

@@ -1,4 +1,5 @@
-//! The edge of the operating system: real children, job sockets with their connections, paths and the clock. It does not tell its calls.
+//! The edge of the operating system: real children, job sockets with their connections, paths and the clock. It does
+//! not record its calls.
 
 ghost use Rattle.std.specs.Prelude.{◌≡◌, ◌<◌, None, IfOk, OnOk, OnErr};
 ghost use Rattle.child_edge.specs.Calls.{one_more};
@@ -17,6 +18,7 @@ use crate::start::Start;
 use crate::{
     ChildEdge, Client, ClockEdge, Edge, EdgeFault, Notice, PathEdge, SocketEdge, clock, paths,
 };
+use files_and_process::run_names::LauncherId;
 use history_model::definition::Def;
 use history_model::{Ended, JobNo, Obs, Reading};
 use look_out::{Hung, Looks, Openings, Seen};
@@ -42,10 +44,11 @@ pub struct OsEdge<R: Processes> {
     looks: Looks,
     openings: Openings,
     hung: Hung<R::Started>,
-    // That what the look-out holds can't be opened was told, and that there can be no look-out.
+    // It was logged that what the helper holds can't be opened, and that there can be no helper.
     is_shut_told: bool,
     is_alone_told: bool,
-    // Let go for a start that lacks a descriptor, a TERM, the first question of a round of looks, and a look of the edge's own.
+    // Released for a start that lacks a descriptor, a TERM, the first question of a series of checks, and a check of
+    // the edge's own.
     reserve: Reserve,
     is_first_question: bool,
     sockets: Sockets,
@@ -54,7 +57,7 @@ pub struct OsEdge<R: Processes> {
     failures: u64,
 }
 
-// for the proof: who lets it go calls this, in place of letting each part go
+// for the proof: who drops it calls this, in place of dropping each part
 impl<R: Drop + Processes> Drop for OsEdge<R> {
     fn drop(self) {
         let OsEdge {
@@ -123,17 +126,18 @@ impl<R: Processes> OsEdge<R> {
         self.failures
     }
 
-    /// The oldest of what is to be told and was not, if there is something: what the system refused, with its own reason, and
-    /// what became of runs if [`log_runs`](OsEdge::log_runs) asked for that. 64 wait at most; of further ones the number is told.
-    /// A refusal is told at its first time, when its reason changes, and anew after the call was done. Want of memory drops it.
+    /// The oldest notice that has to be logged and was not, if there is one. It is what the system refused, with its
+    /// own reason. Or it is what became of runs, if [`log_runs`](OsEdge::log_runs) asked for that. 64 wait at most; of
+    /// further ones the number is logged. A refusal is logged at its first time, when its reason changes, and again
+    /// after the call was done. Want of memory drops it.
     pub fn next_notice(&mut self) -> Option<Notice>
         ensures { self.new ≡ self.old }
     {
         self.notices.next()
     }
 
-    /// Why the last start was refused: what could not be done, with the system's reason. None if it went well, or if there was no memory
-    /// for the words.
+    /// Why the last start was refused: what could not be done, with the system's reason. None if it went well, or if
+    /// there was no memory for the reason.
     pub fn start_refusal(&self) -> Option<&str> {
         match &self.notices.start_refusal {
             Some(words) => Some(words.as_str()),
@@ -141,31 +145,39 @@ impl<R: Processes> OsEdge<R> {
         }
     }
 
-    /// A request of a control client was answered: it was refused for want of memory, or not. The first such refusal is told, and the first
-    /// behind 1,000 other answers in a row. Takes no memory.
+    /// A request of a control client was answered: it was refused for want of memory, or not. The first such refusal is
+    /// logged, and the first after 1,000 other answers in a row. Takes no memory.
     pub fn note_answer(&mut self, is_short: bool)
         ensures { self.new ≡ self.old }
     {
         self.notices.answered(is_short);
     }
 
-    /// From now on each start, end, TERM and KILL of a run is told too. Takes no memory.
+    /// From now on each start, exit, TERM and KILL of a run is logged too. Takes no memory.
     pub fn log_runs(&mut self)
         ensures { self.new ≡ self.old }
     {
         self.notices.tells_runs = true;
     }
 
-    /// As many clients there is room for now, beside the sockets of jobs that are held: see [`room_for`](crate::room_for). As many
-    /// connections of jobs' sockets are held at a time by the whole launcher, each with two descriptors: those that wait for their run,
-    /// those whose run goes on, and those whose client has still to take what its run wrote. Of the last kind a job holds at most 64.
-    /// Takes no memory.
+    /// From now on each run has `JOBD_RUN` with its name in its variables, by which what it leaves running is found (see
+    /// [`run_name`](files_and_process::run_names::run_name)). Without this call a run has no such variable. Takes no memory.
+    pub fn name_runs(&mut self, launcher: LauncherId)
+        ensures { self.new ≡ self.old }
+    {
+        self.connections.name_runs(launcher);
+    }
+
+    /// How many clients there is room for now, besides the sockets of jobs that are held: see
+    /// [`room_for`](crate::room_for). The whole launcher holds at most this number of connections of jobs' sockets at a
+    /// time, each with two descriptors. They are those that wait for their run, those whose run goes on, and those
+    /// whose client has still to take what its run wrote. Of the last kind a job holds at most 64. Takes no memory.
     pub fn room(&self) -> usize {
         self.sockets.room()
     }
 
-    /// The next client that waits at one of the job's sockets, if there is one. A client that the system does not let in is
-    /// told as a notice, once until one comes in.
+    /// The next client that waits at one of the job's sockets, if there is one. A client that the system does not let
+    /// in gives a notice, once until one comes in.
     pub fn accept(&mut self, job: JobNo) -> Option<Client>
         ensures { self.new ≡ self.old }
     {
@@ -177,15 +189,15 @@ impl<R: Processes> OsEdge<R> {
         self.sockets.listener_from(job)
     }
 
-    /// Which bind gave the job its sockets, if it has some: each bind of this edge has a number of its own, so a client that
-    /// came to sockets which were given up since is known. Takes no memory.
+    /// Which bind gave the job its sockets, if it has some. Each bind of this edge has a number of its own, so a client
+    /// that came to sockets which were given up since is known. Takes no memory.
     pub fn bind_of(&self, job: JobNo) -> Option<u64> {
         self.sockets.bind_of(job)
     }
 
-    /// The least number, this one or above it, of a job whose child has ended, or of whose child the system does not tell; and
-    /// the child's run. The system is asked once about each child up to that one, and no failure is counted. The child stays:
-    /// `poll` tells how it ended, or is refused. Takes no memory.
+    /// The least number, this one or above it, of a job whose child has exited, or of whose child the system says
+    /// nothing; and the child's run. It asks the system once about each child up to that one, and counts no failure.
+    /// The child stays: `poll` says how it exited, or is refused. Takes no memory.
     pub fn over_from(&mut self, job: JobNo) -> Option<(JobNo, u64)>
         ensures { self.new ≡ self.old }
     {
@@ -222,7 +234,7 @@ impl<R: Processes> OsEdge<R> {
         }
     }
 
-    // What was asked for the run's child was refused: that is told and counted.
+    // What was asked for the run's child was refused: that is logged and counted.
     fn refuse(&mut self, key: RunKey, asked: Asked, what: &str, error: io::Error) -> EdgeFault
         ensures { self.new ≡ one_more self.old }
     {
@@ -254,9 +266,9 @@ impl<R: Processes> OsEdge<R> {
 }
 
 impl<R: Clock + Files<File = File> + Processes> OsEdge<R> {
-    /// This process may have as many descriptors, or nobody knows how many: from now on room for clients is reckoned by that, and a
-    /// bind that would leave none is refused. From now on too, what a start, a TERM and a look need of descriptors is held back, by the
-    /// null device, opened: no client takes it.
+    /// How many descriptors this process may have, if that is known. From now on room for clients is calculated by
+    /// that, and a bind that would leave none is refused. From now on too, what a start, a TERM and a path check need
+    /// of descriptors is held back, by the null device, opened: no client takes it.
     pub fn set_limit(&mut self, descriptors: Option<u64>)
         ensures { self.new ≡ self.old }
     {
@@ -264,10 +276,11 @@ impl<R: Clock + Files<File = File> + Processes> OsEdge<R> {
         self.reserve.take(&self.rt);
     }
 
-    /// Whether a further client of the job whose request came whole has to wait for a place: as many of the job wait or are served as
-    /// there is room left beside those of all jobs, or 64; or as many are held as there is [`room`](OsEdge::room) for, or 64 of the job
-    /// whose run is over, and none of them is spent. One is spent whose run is over and whose client was offered the reply for 5 seconds and took
-    /// nothing of it. Takes no memory.
+    /// Whether a further client of the job whose request came whole has to wait for a place. First case: the job has 64
+    /// that wait or are served, or the most that those of all jobs leave room for. Second case: the connections fill
+    /// the [`room`](OsEdge::room), and none of them is spent. Third case: 64 of the job have a run that is over, and
+    /// none of these is spent. One is spent if its run is over and its client was offered the reply for 5 seconds and
+    /// took nothing of it. Takes no memory.
     pub fn must_wait(&mut self, job: JobNo) -> bool
         ensures { self.new ≡ self.old }
     {
@@ -275,11 +288,13 @@ impl<R: Clock + Files<File = File> + Processes> OsEdge<R> {
         self.connections.must_wait(job, room)
     }
 
-    /// Holds a connection whose request came whole, under the job and a number that it has had for no other: its request
-    /// is spooled, and the run that is started with the number serves it. If as many are held as there is [`room`](OsEdge::room) for, one
-    /// that is spent is let go for it, and no other; of these the one whose client takes nothing for longest. If none is spent, or the job
-    /// has its share, the new one is refused; ask before whether it [`must_wait`](OsEdge::must_wait). After an `Err`, which is counted as a
-    /// failure and told, the client is let go and nothing is left.
+    /// Holds a connection whose request came whole, under the job and a number that it has had for no other. Its
+    /// request is spooled, and the run that is started with the number serves it.
+    ///
+    /// If the connections fill the [`room`](OsEdge::room), a spent one is disconnected for it, and no other; of these
+    /// the one whose client takes nothing for longest. If none is spent, or the job has its share, the new one is
+    /// refused; ask before whether it [`must_wait`](OsEdge::must_wait). After an `Err`, which is counted as a failure,
+    /// the client is disconnected and nothing is left. It logs why, unless the number was in use.
     pub fn take(
         &mut self,
         job: JobNo,
@@ -300,17 +315,19 @@ impl<R: Clock + Files<File = File> + Processes> OsEdge<R> {
         self.answered(answer)
     }
 
-    /// Sends the client of each connection what its run has written since, as much as it takes at once. Lets those go that
-    /// have all that a run wrote which has ended; and, which is told, those whose client is gone or has taken nothing of its
-    /// reply for a minute. It says whether one may go on at once. While none is held it makes no call of the system.
+    /// Sends the client of each connection what its run has written since, up to what it takes at once. It closes a
+    /// connection whose run has exited and whose client has all that it wrote. It also disconnects a client that has
+    /// left or has taken nothing of its reply for a minute, and logs that. It says whether one may go on at once. While
+    /// none is held it makes no call of the system.
     pub fn forward(&mut self) -> bool
         ensures { self.new ≡ self.old }
     {
         self.connections.forward(&self.rt, &mut self.notices)
     }
 
-    /// Lets each connection go that is held, and removes its files from the spool: at the end, so that nothing is left there of
-    /// clients that took no reply. Ends the shell that is kept for TERM and the look-outs, even if they were stopped. Takes no memory.
+    /// Closes each connection that is held, and removes its files from the spool. It is for the end, so that nothing is
+    /// left there of clients that took no reply. Ends the shell that is kept for TERM and the helper processes, even if
+    /// they were stopped. Takes no memory.
     pub fn let_all_go(&mut self)
         ensures { self.new ≡ self.old }
     {
@@ -322,7 +339,7 @@ impl<R: Clock + Files<File = File> + Processes> OsEdge<R> {
         self.hung.reap();
     }
 
-    // Looks without a look-out.
+    // Checks a path without a helper.
     fn look_alone(&mut self, path: &str) -> io::Result<Obs>
     where
         R: AllocGlobal + Clone + Drop,
@@ -335,7 +352,7 @@ impl<R: Clock + Files<File = File> + Processes> OsEdge<R> {
         answer
     }
 
-    // Starts the run. If that fails for want of a descriptor, those in reserve are let go, and it is tried once more.
+    // Starts the run. If that fails for want of a descriptor, those in reserve are released, and it is tried once more.
     fn launch_at_last(&mut self, start: Start<'_>) -> Result<u32, Failure>
     where
         R: AllocGlobal + Net,
@@ -351,7 +368,7 @@ impl<R: Clock + Files<File = File> + Processes> OsEdge<R> {
         }
     }
 
-    // Starts the run over what a look-out holds for it, and has that forgotten.
+    // Starts the run over what a helper holds for it, and has that forgotten.
     fn launch(&mut self, start: Start<'_>) -> Result<u32, Failure>
     where
         R: AllocGlobal + Net,
@@ -396,7 +413,7 @@ impl<R: Clock + Files<File = File> + Processes> OsEdge<R> {
         }
     }
 
-    // At the first start or look for which there can be no look-out, that is told.
+    // Logs, at the first start or path check for which there can be no helper, that there can be none.
     fn tell_alone(&mut self)
         ensures { self.new ≡ self.old }
     {
@@ -406,7 +423,7 @@ impl<R: Clock + Files<File = File> + Processes> OsEdge<R> {
         }
     }
 
-    // At the first start over a look-out whose folder in /proc is closed, that is told.
+    // Logs, at the first start over a helper whose folder in /proc is closed, that it is.
     fn tell_shut(&mut self, held: Held)
         ensures { self.new ≡ self.old }
     {
@@ -477,7 +494,7 @@ impl<R: AllocGlobal + Clock + Files<File = File> + Net + Processes> ChildEdge fo
 
 impl<R: AllocGlobal + Clock + Clone + Drop + Files<File = File> + Net + Processes> PathEdge
     for OsEdge<R> {
-    // it keeps no record of its looks
+    // it keeps no record of its checks
     ghost Looks = { λ path answer old new. Unit {0} };
 
     fn begin_looks(&mut self) {
@@ -490,7 +507,7 @@ impl<R: AllocGlobal + Clock + Clone + Drop + Files<File = File> + Net + Processe
         self.looks.ask(&self.rt, &mut self.hung, path, up)
     }
 
-    // The first question of a round starts the look-out, if there is none.
+    // The first question of a series starts the helper, if there is none.
     fn is_seen(&mut self, path: &str) -> bool {
         let up = clock::up(&self.rt, self.made);
         if self.is_first_question {

@@ -1,5 +1,5 @@
-//! Observations of paths, as launchd.plist(5) speaks of them under WatchPaths, QueueDirectories and PathState: out of a look-out's answers,
-//! or, if the system starts none, of looks of this process's own.
+//! Observations of paths, as launchd.plist(5) speaks of them under WatchPaths, QueueDirectories and PathState. They
+//! come out of a helper's answers or, if the system starts none, of checks by this process itself.
 
 ghost use Rattle.std.specs.Prelude.{◌≡◌, ◌+◌, ◌-◌, ◌*◌, ◌^◌, min, Some, IfOk};
 ghost use Rattle.child_edge.specs.Sights.{sight_in};
@@ -18,7 +18,7 @@ const ABSENT: Obs = Obs {
     stamp: 0,
 };
 
-/// What a look-out saw. An error if it was refused, or gave no answer.
+/// What a helper saw. An error if it was refused, or gave no answer.
 pub(crate) fn sight_of_seen(seen: Seen) -> io::Result<Obs>
     ensures { IfOk result (λ obs. (answer : Answer) × (seen ≡ Seen.Answered answer) × (sight_in answer ≡ Some obs)) }
 {
@@ -46,7 +46,7 @@ fn sight_of_answer(answer: Answer) -> io::Result<Obs>
     })
 }
 
-/// Looks at the path. That nothing is there is an observation too, also if a folder above it is a file.
+/// Checks the path. That nothing is there is an observation too, also if a folder above it is a file.
 pub(crate) fn look<R: Files + AllocGlobal + Clone + Drop>(rt: &R, path: &str) -> io::Result<Obs> {
     match fs::metadata(rt, path) {
         Ok(data) => sight_of(rt, path, &data),
@@ -82,7 +82,7 @@ fn is_absence(error: &io::Error) -> bool {
     matches!(error.kind(), ErrorKind::NotFound | ErrorKind::NotADirectory)
 }
 
-// A folder that may not be read has no entry that is told; that it is there, is.
+// A folder that may not be read counts as one without an entry. It is known that it is there.
 fn has_entry<R: Files + AllocGlobal + Clone + Drop>(rt: &R, path: &str) -> io::Result<bool> {
     let mut listing = match fs::read_dir(rt, path) {
         Ok(listing) => listing,

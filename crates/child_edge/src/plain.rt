@@ -5,50 +5,51 @@ use history_model::{Ended, JobNo, Obs, Reading};
 /// Why the outside did not do what a call asked.
 #[derive(Clone, Copy)]
 pub enum EdgeFault {
-    /// No memory was to be had for the call.
+    /// There was no memory for the call.
     NoMemory,
     /// The system, or the script of a [`MemoryEdge`](crate::MemoryEdge), refused the call.
     Refused,
 }
 
-/// A call of the outside: which one, and for whose run. A path and a definition that were handed in are not told.
+/// A call of the outside: which one, and for whose run. It does not have the path or the definition that the call was
+/// given.
 #[derive(Clone, Copy, PartialEq, Eq)]
 pub enum EdgeCall {
-    /// The job's run is to be started, with the connection that it serves if there is one.
+    /// A start of the job's run, with the connection that it serves if there is one.
     Start {
         job: JobNo,
         run: u64,
         conn: Option<u64>,
     },
-    /// The run's child is to get TERM.
+    /// TERM for the run's child.
     Term {
         job: JobNo,
         run: u64,
     },
-    /// The run's child is to get KILL.
+    /// KILL for the run's child.
     Kill {
         job: JobNo,
         run: u64,
     },
-    /// It is asked whether the run's child has ended.
+    /// It is asked whether the run's child has exited.
     Poll {
         job: JobNo,
         run: u64,
     },
-    /// The job's sockets are to be bound.
+    /// A bind of the job's sockets.
     Bind {
         job: JobNo,
     },
-    /// A connection that waits is to be closed.
+    /// The end of a connection that waits.
     Close {
         job: JobNo,
         conn: u64,
     },
-    /// The job's sockets are to be given up.
+    /// The job's sockets are given up.
     Release {
         job: JobNo,
     },
-    /// A path is looked at.
+    /// A path is checked.
     Look,
     /// The clocks are read.
     Clock,
@@ -57,17 +58,17 @@ pub enum EdgeCall {
 /// An answer of the outside to one call.
 #[derive(Clone, Copy, PartialEq, Eq)]
 pub enum Scripted {
-    /// A start: the process id of the child, at least 1.
+    /// A start: the PID of the child, at least 1.
     Started(u32),
     /// TERM, KILL, bind, close or release: it was done.
     Done,
-    /// A poll: the child has not ended.
+    /// A poll: the child has not exited.
     Running,
-    /// A poll: how the child ended.
+    /// A poll: how the child exited.
     Over(Ended),
-    /// A look: what was seen at the path.
+    /// A path check: what was seen at the path.
     Seen(Obs),
-    /// A reading of the clocks.
+    /// A clock reading.
     At(Reading),
     /// Any call but close and release: it was refused.
     Refused,

@@ -1,11 +1,12 @@
-//! Descriptors that no client takes: the null device, opened. What a start, a TERM or a look has to open takes their place.
+//! Descriptors that no client takes: the null device, opened. What a start, a TERM or a path check has to open takes
+//! their place.
 
 use std::alloc::Global;
 use std::fs::{File, Files};
 use std::io;
 
-/// As many are held back. A first start takes the most at a time: the two ends of a look-out's socket, what tells that it was started,
-/// and three streams, one of which may be opened twice.
+/// How many are held back. A first start takes the most at a time. It needs the two ends of a helper's socket, what
+/// reports that it was started, and three streams, one of which may be opened twice.
 const MOST: usize = 8;
 
 /// ENFILE and EMFILE: the system, or this process, has no descriptor left (open(2)).
@@ -31,12 +32,12 @@ impl Reserve {
         }
     }
 
-    /// Lets all go: the next calls of the system find as many free.
+    /// Releases all: the next calls of the system find them free.
     pub(crate) fn let_go(&mut self) {
         self.held.clear();
     }
 
-    /// Takes as many as are lacking, up to the first that the system or the memory refuses.
+    /// Takes all that are lacking, up to the first that the system or the memory refuses.
     pub(crate) fn take<R: Files<File = File>>(&mut self, rt: &R) {
         for _ in self.held.len()..MOST {
             let Ok(file) = File::open(rt, "/dev/null") else {

@@ -1,8 +1,9 @@
-//! TERM, by `kill` of `/bin/sh`: the one signal beside KILL that a child is given, and the kit has no call for it.
+//! TERM, by `kill` of `/bin/sh`. A child is given no other signal but KILL, and the kit has no call for TERM.
 //!
-//! One shell is kept, since a shell for each TERM costs more than a millisecond of the loop. It reads numbers from a socket, one a
-//! line, and answers each with the status of its `kill`. It ends once its socket does, so also if the launcher is killed. What it
-//! is asked has its answer before anything else is done: no number waits in it whose process may be gone.
+//! One shell is kept, since a shell for each TERM costs more than a millisecond of the loop. It reads numbers from a
+//! socket, one a line, and answers each with the status of its `kill`. It ends once its socket does, so also if the
+//! launcher is killed. What it is asked has its answer before anything else is done. So no number waits in it whose
+//! process may have exited.
 
 use std::alloc::{AllocError, Global};
 use std::io::{Read, Write};
@@ -69,7 +70,7 @@ impl<P: OpenProcess + Drop> KeptShell<P> {
         }
     }
 
-    // Whether `kill` of the shell that is kept ended with 0. None: no shell can be kept, or it gives no answer.
+    // Whether `kill` of the shell that is kept exited with 0. None: no shell can be kept, or it gives no answer.
     fn ask<R: Net + Processes<Started = P>>(&mut self, rt: &R, pid: u32) -> Option<bool> {
         if !self.is_running() && !self.begin(rt) {
             return None;
@@ -85,7 +86,7 @@ impl<P: OpenProcess + Drop> KeptShell<P> {
         answer
     }
 
-    // Starts a shell, once the one before it is gone. False: there is none.
+    // Starts a shell, once the one before it has exited. False: there is none.
     fn begin<R: Net + Processes<Started = P>>(&mut self, rt: &R) -> bool {
         self.end();
         if !self.is_gone() {
@@ -126,7 +127,7 @@ impl<P: OpenProcess + Drop> KeptShell<P> {
     }
 }
 
-// What the shell writes of a number is a line, and comes whole. Its end, and anything else, is no answer.
+// What the shell writes of a number is a line, and comes whole. Its end, and anything else, is not an answer.
 fn answer_to(socket: &mut UnixStream, line: &str) -> Option<bool> {
     if socket.write_all(line.as_bytes()).is_err() {
         return None;
@@ -184,7 +185,7 @@ fn start_at<R: Processes>(
     }
 }
 
-// Whether `kill` of a shell for this TERM alone ended with 0.
+// Whether `kill` of a shell for this TERM alone exited with 0.
 fn run_shell<R: Processes>(rt: &R, alloc: Global, pid: u32) -> io::Result<bool> {
     let text = match format!(in alloc; "kill -s TERM {pid}") {
         Ok(text) => text,

@@ -1,4 +1,4 @@
-//! The listening sockets that are bound, by job, and how many clients there is room for beside them.
+//! The listening sockets that are bound, by job, and how many clients they leave room for.
 
 ghost use Rattle.std.specs.Prelude.{◌≡◌, ◌<◌, length, IsErr};
 ghost use Rattle.child_edge.specs.Listeners.{how_many, and_more};
@@ -25,12 +25,12 @@ use std::net::Net;
 use std::process::{OpenProcess, Processes};
 use std::rt::Clock;
 
-/// The sockets of each job. As much room there is for clients as the limit leaves beside the sockets that are held now.
+/// The sockets of each job. The room for clients is what the limit and the sockets that are held now leave.
 #[derive(Drop)]
 pub(crate) struct Sockets {
     alloc: Global,
     jobs: BTreeMap<JobNo, Bound>,
-    // As many descriptors this process may have, if that is known.
+    // How many descriptors this process may have, if that is known.
     limit: Option<u64>,
     room: usize,
     // How many binds were made.
@@ -40,7 +40,7 @@ pub(crate) struct Sockets {
     ghost reckoned: { room ≡ room_by limit (how_many jobs) },
 }
 
-// As many sockets are held.
+// How many sockets are held.
 fn count_of(jobs: &BTreeMap<JobNo, Bound>) -> u64
     ensures { result ≡ how_many jobs.now }
 {
@@ -49,7 +49,7 @@ fn count_of(jobs: &BTreeMap<JobNo, Bound>) -> u64
     })
 }
 
-// As much room there is beside the sockets that are held.
+// How many clients the sockets that are held leave room for.
 fn room_beside(jobs: &BTreeMap<JobNo, Bound>, limit: Option<u64>) -> usize
     ensures { result ≡ room_by limit (how_many jobs.now) }
 {
@@ -86,7 +86,7 @@ impl Sockets {
         }
     }
 
-    /// From now on the room is reckoned by this limit on descriptors, or as if there were none.
+    /// From now on the room is calculated by this limit on descriptors, or as if there were none.
     pub(crate) fn set_limit(&mut self, limit: Option<u64>)
         ensures limit { self.new.limit ≡ limit }
         ensures jobs { self.new.jobs ≡ self.old.jobs }
@@ -95,14 +95,14 @@ impl Sockets {
         self.room = room_beside(&self.jobs, limit);
     }
 
-    /// As many clients there is room for beside the sockets that are held now.
+    /// How many clients the sockets that are held now leave room for.
     pub(crate) fn room(&self) -> usize
         ensures { result ≡ room_by self.now.limit (how_many self.now.jobs) }
     {
         self.room
     }
 
-    /// Binds each socket of the definition for the job, or none, which is told. A job that has sockets is refused.
+    /// Binds each socket of the definition for the job, or none, which is logged. A job that has sockets is refused.
     pub(crate) fn bind<
         R: Files<File = File> + Net<Listener = std::net::TcpListener, Stream = std::net::TcpStream>,
     >(&mut self, rt: &R, notices: &mut Notices, job: JobNo, def: &Def) -> io::Result<()>
@@ -119,7 +119,7 @@ impl Sockets {
         }
     }
 
-    /// It is not known that the path of the definition's socket at this place answers: none is bound, which is told.
+    /// It is not known that the path of the definition's socket at this place answers: none is bound, which is logged.
     pub(crate) fn hangs(
         &self,
         notices: &mut Notices,
@@ -156,7 +156,8 @@ impl Sockets {
         None
     }
 
-    /// Gives up the job's sockets, and leaves their files, which is told: it is not known that the path of one of them answers.
+    /// Gives up the job's sockets, leaves their files, and logs that: it is not known that the path of one of them
+    /// answers.
     pub(crate) fn leave(&mut self, notices: &mut Notices, job: JobNo, error: io::Error) {
         if let Some(bound) = self.take_out(job) {
             let form = "cannot remove the files of its sockets: $";
@@ -165,7 +166,7 @@ impl Sockets {
         }
     }
 
-    // The job has no sockets from now on: they are handed out, and their room with them.
+    // The job has no sockets from now on: they are the result, and their room is free.
     fn take_out(&mut self, job: JobNo) -> Option<Bound>
         ensures { self.new.limit ≡ self.old.limit }
     {
@@ -295,8 +296,8 @@ impl Sockets {
         }
     }
 
-    /// The next client that waits at one of the job's sockets, if there is one. An accept that the system refuses is told, and
-    /// left for later.
+    /// The next client that waits at one of the job's sockets, if there is one. An accept that the system refuses is
+    /// logged, and left for later.
     pub(crate) fn accept(&self, notices: &mut Notices, job: JobNo) -> Option<Client> {
         let bound = self.jobs.get(&job)?;
         for listener in bound.listeners.iter() {
@@ -326,8 +327,9 @@ impl Sockets {
         Some(bound.bind)
     }
 
-    /// Has clients that come to a socket which the poll doesn't know yet wake it, under the token. A socket that the poll
-    /// refuses is told and tried again at the next call, and those of other jobs are tried all the same. `Err` then.
+    /// Has clients that come to a socket which the poll doesn't know yet wake it, under the token. A socket that the
+    /// poll refuses is logged and tried again at the next call, and those of other jobs are tried all the same. `Err`
+    /// then.
     pub(crate) fn register(
         &mut self,
         notices: &mut Notices,
@@ -367,7 +369,7 @@ fn register_all(
     answer
 }
 
-// Tells that the job's sockets were not bound.
+// Logs that the job's sockets were not bound.
 fn tell_fault(notices: &mut Notices, job: JobNo, def: &Def, fault: BindFault) -> io::Result<()>
     ensures { IsErr result }
 {

@@ -1,10 +1,10 @@
-//! The spool: for each connection a file with the client's request, which its run reads, and one for the reply, which its
-//! run writes.
+//! The spool: for each connection a file with the client's request, which its run reads, and one for the reply, which
+//! its run writes.
 //!
-//! Both are made anew. Where something lies at the name already, be it a file, a link or a FIFO, it is left as it is, and the
-//! connection is refused: the number of a connection is used once, so the next one has another name. What a launcher left that
-//! was killed is cleared at the start. When the run is started, each file is opened again, if it is still the one that was
-//! made; nothing else is opened.
+//! Both are new files. Where something lies at the name already, be it a file, a link or a FIFO, it is left as it is,
+//! and the connection is refused. The number of a connection is used once, so the next one has another name. What a
+//! launcher left that was killed is cleared at the start. When the run is started, each file is opened again, if it is
+//! still the one that was made; nothing else is opened.
 
 ghost use Rattle.std.specs.Prelude.{◌≡◌, IfOk, IsOkAnd, string_bytes};
 ghost use Rattle.child_edge.specs.Spool.{IsNamed, file_name};
@@ -57,14 +57,14 @@ impl Spooled {
         }
     }
 
-    /// Opens the request to be read from its beginning. `NotFound` if it is gone, or another file is at its name.
+    /// Opens the request to be read from its beginning. `NotFound` if it was removed, or another file is at its name.
     pub(crate) fn read_request<R: Files<File = File>>(&self, rt: &R) -> io::Result<File> {
         let mut how = OpenOptions::new();
         how.read(true);
         self.request.open(rt, &how)
     }
 
-    /// Opens the reply to be written at its end. `NotFound` if it is gone, or another file is at its name.
+    /// Opens the reply to be written at its end. `NotFound` if it was removed, or another file is at its name.
     pub(crate) fn write_reply<R: Files<File = File>>(&self, rt: &R) -> io::Result<File> {
         let mut how = OpenOptions::new();
         how.append(true);

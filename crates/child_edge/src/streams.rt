@@ -1,13 +1,15 @@
 //! The streams of a child: a plain file, a terminal, a device of the system's memory, or the null device.
 //!
-//! An open of anything else may wait for ever, as that of a FIFO without a peer does, and there is no open that does not. So a
-//! look-out opens each path first, after a look at it, and holds it; the launcher opens what is held (`/proc/LOOK-OUT/fd/N`), so
-//! nothing that is put at the path since comes between, and no lease of the file can be taken (fcntl(2), F_SETLEASE). A file system
-//! that begins to hang in the tenth of a millisecond between the two opens is waited for.
+//! An open of anything else may wait for ever, as that of a FIFO without a peer does, and there is no open that does
+//! not. So a helper process opens each path first, after it has checked it, and holds it. The launcher opens what is
+//! held (`/proc/HELPER/fd/N`). So nothing that is put at the path since comes between, and no lease of the file can
+//! be taken (fcntl(2), F_SETLEASE). The launcher waits for a file system that begins to hang in the tenth of a
+//! millisecond between the two opens.
 //!
-//! Where that folder is closed to the launcher, an output that the look-out has opened is opened by its path to be read and
-//! written, which waits at no FIFO, and then by its number here to be appended to. An input is opened by its path; so is everything if
-//! the system starts no look-out: then each path is looked at first, and what was opened is looked at again.
+//! That folder may be closed to the launcher. Then an output that the helper has opened is opened by its path to be
+//! read and written, which waits at no FIFO. After that it is opened by its number here to be appended to. An input is
+//! opened by its path. If the system starts no helper, everything is: then each path is checked first, and what was
+//! opened is checked again.
 
 use crate::failure::{Failure, Part};
 use crate::held::Held;
@@ -132,7 +134,7 @@ fn set(part: Part, stream: Stdio, command: &mut Command) {
     };
 }
 
-// The file at the path, as the look-out holds it, if it does.
+// The file at the path, as the helper holds it, if it does.
 fn opened_as<R: Files<File = File>>(
     rt: &R,
     alloc: Global,
@@ -155,7 +157,7 @@ fn opened_as<R: Files<File = File>>(
     }
 }
 
-// What is held is there, and was looked at.
+// What is held is there, and was checked.
 fn open_held<R: Files<File = File>>(rt: &R, part: Part, place: &str) -> io::Result<File> {
     let is_read = matches!(part, Part::Input);
     let mut how = OpenOptions::new();
@@ -164,7 +166,8 @@ fn open_held<R: Files<File = File>>(rt: &R, part: Part, place: &str) -> io::Resu
     how.open(rt, place)
 }
 
-// An open both ways waits at no FIFO. What was opened is looked at, and opened again by its number to be appended to alone.
+// An open both ways waits at no FIFO. What was opened is checked, and opened again by its number to be appended to
+// alone.
 fn open_both_ways<R: Files<File = File>>(rt: &R, alloc: Global, path: &str) -> io::Result<File> {
     let mut how = OpenOptions::new();
     how.read(true);

@@ -1,4 +1,4 @@
-//! The lines that the edge has to tell: forms whose holes are filled. Each is absent where there was no memory for it.
+//! The lines of the edge's notices: forms whose holes are filled. Each is absent where there was no memory for it.
 
 use Hole::{Error, Host, Number, Text};
 use history_model::definition::{Address, Socket};
@@ -7,10 +7,10 @@ use std::fmt::Write;
 use std::io;
 use std::net::Ipv4Addr;
 
-/// How many bytes of a text are told: the longest path has no more.
+/// How many bytes of a text are logged: the longest path has no more.
 const LONGEST: usize = 1_024;
 
-/// What stands in a hole.
+/// What is in a hole.
 #[derive(Clone, Copy)]
 pub(crate) enum Hole<'a> {
     Text(&'a str),
@@ -26,7 +26,7 @@ pub(crate) fn filled(alloc: Global, form: &str, holes: &[Hole<'_>]) -> Option<St
     whole(line, answer)
 }
 
-/// The refusal that the form tells, behind the job's label and the run if it is one of a run.
+/// The refusal that the form says, after the job's label and the run if it is one of a run.
 pub(crate) fn refusal(
     alloc: Global,
     label: &str,
@@ -92,8 +92,9 @@ fn put(line: &mut String, hole: Option<&Hole<'_>>) -> Result<(), AllocError> {
     }
 }
 
-// The text with `?` for each control character: a path may hold a newline, and what stands behind it would pass for a line
-// of the launcher's own. Of a longer text the beginning is told: a line is then taken whole by a pipe, which takes 4,096 bytes.
+// The text with `?` for each control character: a path may hold a newline, and what comes after it would pass for a
+// line of the launcher's own. Of a longer text the beginning is logged: a pipe then takes a line whole, which takes
+// 4,096 bytes.
 fn put_plain(line: &mut String, text: &str) -> Result<(), AllocError> {
     let start = line.len();
     for letter in text.chars() {
@@ -109,7 +110,7 @@ fn put_plain(line: &mut String, text: &str) -> Result<(), AllocError> {
     Ok(())
 }
 
-/// What is told of a socket that could not be bound.
+/// What is logged of a socket that could not be bound.
 pub(crate) fn cannot_bind(
     socket: Option<&Socket>,
     error: io::Error,

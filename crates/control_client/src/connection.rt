@@ -16,13 +16,13 @@ pub const REPLY: usize = 1_048_576;
 #[derive(Drop)]
 pub struct Connection {
     reader: BufReader<UnixStream>,
-    // The longest wait for a part of an answer, in seconds; 0 for ever.
+    // The longest wait for a part of an answer, in seconds; 0 means no limit.
     patience: u32,
 }
 
 impl Connection {
-    /// Connects to the launcher whose socket is at the path. An answer is waited for so many seconds, or for ever if they
-    /// are 0.
+    /// Connects to the launcher whose socket is at the path. An answer is waited for `patience` seconds, or for ever if
+    /// they are 0.
     pub fn open<R: Net>(
         rt: &R,
         alloc: Global,
@@ -36,7 +36,7 @@ impl Connection {
     }
 
     /// Sends a request's line, and waits for its reply. A launcher that has no room for a client says so and ends the
-    /// connection, so what it said is heard also if the request can't be sent.
+    /// connection. So it reads that reply also if the request can't be sent.
     pub fn ask(&mut self, alloc: Global, request: &[u8]) -> Result<Replied, Fault> {
         let sent = self.reader.get_mut().write_all(request);
         match sent {
@@ -62,7 +62,7 @@ impl Connection {
 }
 
 /// Waits for the next reply and takes it. A fault: the connection fails or ends before the reply does, the reply has more
-/// than [`REPLY`] bytes before its newline, or it is none; want of memory.
+/// than [`REPLY`] bytes before its newline, or it is not a reply; want of memory.
 pub fn hear<B: BufRead>(alloc: Global, reader: &mut B) -> Result<Replied, Fault> {
     let mut line = Vec::new(alloc);
     match read_line(reader, &mut line) {

@@ -22,11 +22,11 @@ pub enum Fault {
     TooLong,
     /// The journal's line of the request would be longer than a line may be, so that `jobd replay` could not read it.
     LongRecord,
-    /// The file is no definition, so its label is not known.
+    /// The file is not a definition, so its label is not known.
     Definition(DefFault),
     /// The launcher can't be reached, or the connection failed.
     Connection(io::Error),
-    /// The launcher took the connection, and no answer came within so many seconds.
+    /// The launcher took the connection, but did not answer within this many seconds.
     Silent(u32),
     /// The connection ended before the reply did.
     NoReply,
@@ -59,8 +59,8 @@ impl Display for Fault {
 }
 
 impl Fault {
-    /// The exit status that tells it, as sysexits.h has them: 65 of a file, 69 of the launcher, 74 of the output; 1 for want
-    /// of memory. If the output's reader has gone, `READER_GONE`.
+    /// The exit status for the fault, as sysexits.h has them: 65 of a file, 69 of the launcher, 74 of the output; 1 for want
+    /// of memory. If the output's reader has closed it, `READER_GONE`.
     pub fn status(&self) -> u8 {
         match self {
             Fault::NoMemory => NO_MEMORY,
@@ -101,7 +101,8 @@ impl From<AllocError> for Fault {
     }
 }
 
-/// Tells what the fault is about, and why. That the output's reader has gone is no fault of the program, and is not told.
+/// Reports what the fault is about, and why. It does not report that the output's reader has closed it, since this is not a
+/// fault of the program.
 pub(crate) fn tell<R: Eprint>(rt: &R, alloc: Global, about: &str, fault: &Fault) {
     if fault.status() == READER_GONE {
         return;
@@ -114,7 +115,7 @@ pub(crate) fn tell<R: Eprint>(rt: &R, alloc: Global, about: &str, fault: &Fault)
     let _written = eprintln!(rt; "jobctl: {about}: {fault}");
 }
 
-/// Tells so that a launcher can't be reached whose socket nothing named, while the package's is there.
+/// Reports that a launcher can't be reached whose socket nothing named, while the package's socket exists.
 pub(crate) fn tell_unnamed<R: Eprint>(rt: &R, about: &str, fault: &Fault) {
     let _written = eprintln!(rt;
         "jobctl: {about} (JOBD_SOCKET is not set; the package's launcher is at /run/jobd/jobd.sock): {fault}"

@@ -1,4 +1,4 @@
-//! What is told of a label beside the reply: that nothing of it is loaded, which labels are near it, and what becomes of a setting.
+//! Notes on a label besides the reply: that nothing is loaded under it, which labels are similar, and what becomes of a setting.
 
 use crate::session::Session;
 use ctl_protocol::Request;
@@ -38,7 +38,8 @@ fn asked_of(label: &Text, is_set: bool, is_disabled: bool) -> Asked<'_> {
     }
 }
 
-/// Tells on standard error what is to be known of the label of a command that was answered with this code. What keeps it from being known is not told.
+/// Prints notes on standard error about the label of a command that was answered with this code. If it can't get what it needs for them, it prints
+/// nothing.
 pub(crate) fn tell_about<R: Net + Eprint>(
     rt: &R,
     alloc: Global,
@@ -82,7 +83,7 @@ fn text_about(alloc: Global, asked: &Asked<'_>, list: &str) -> Result<String, Al
     Ok(text)
 }
 
-// The label stands behind the last tab of a line of the list.
+// The label follows the last tab of a line of the list.
 fn label_in(line: &str) -> &str {
     match line.rsplit_once('\t') {
         Some((_, label)) => label,
@@ -90,7 +91,8 @@ fn label_in(line: &str) -> &str {
     }
 }
 
-fn is_listed(list: &str, label: &str) -> bool {
+/// Whether a list has a job of this label.
+pub(crate) fn is_listed(list: &str, label: &str) -> bool {
     for line in list.lines().skip(1) {
         if label_in(line) == label {
             return true;

@@ -1,10 +1,11 @@
-//! What the control program `jobctl` does once its words are read: files become requests, requests go to the launcher on its
+//! The control program `jobctl`, once its arguments are read. Files become requests, requests go to the launcher on its
 //! control socket, and replies become texts and an exit status.
 #![tactic(auto)]
 
 mod connection;
 mod fault;
 mod labels;
+mod left;
 mod program;
 mod reply;
 mod request;

@@ -2,6 +2,7 @@
 
 use crate::fault::{Fault, tell};
 use crate::labels::tell_about;
+use crate::left::report_left;
 use crate::request::{label_of, text_at};
 use crate::session::Session;
 use crate::settings::{SettingFault, Settings, settings_of};
@@ -13,18 +14,18 @@ use history_model::{Ask, KeyName, Reason, Refusal, Text, TextRef, is_label};
 use launchctl_words::{Command, Paths, WordFault, Words, explain, read_words, read_words_beside};
 use plain_text::plain;
 use std::alloc::Global;
-use std::fs::{Files, metadata, symlink_metadata};
+use std::fs::{File, Files, metadata, symlink_metadata};
 use std::io::{self, ErrorKind, IsTerminal};
 use std::net::Net;
-use std::rt::Env;
+use std::rt::{Clock, Env};
 
 /// The control socket if nothing names one.
 pub const SOCKET: &str = "jobd.sock";
 
-/// That of the package.
+/// The control socket of the package.
 pub const PACKAGED: &str = "/run/jobd/jobd.sock";
 
-/// Whether somebody reads at once what is told on the standard error, and what is printed on the standard output.
+/// Whether standard error, and standard output, is a terminal, so that somebody reads at once what is printed there.
 pub trait Watched {
     fn is_watched(&self) -> bool;
 
@@ -48,7 +49,7 @@ enum Deed {
     Unload { writes_setting: bool },
 }
 
-/// What the words come to.
+/// What the arguments ask for.
 enum Task<'a> {
     Files(Deed, &'a Paths),
     Request(Request<'a>),
@@ -103,26 +104,37 @@ fn task_of(command: &Command) -> Task<'_> {
     }
 }
 
-/// Does what the words ask, the program's own name being the first, and answers the exit status: the first that is not 0 of
-/// the replies' codes and the faults', else 0. Of a fault: 64 the words, 65 a file, 69 the launcher can't be reached or sends
-/// no reply of at most [`crate::REPLY`] bytes, 74 the standard output, 1 want of memory. One request is made for each file,
-/// in their order, and a file's fault leaves out that file alone.
+/// Does what the arguments ask, and returns the exit status. The first argument is the program's own name. The status is the first that is not 0 of
+/// the replies' codes and the faults', else 0. It makes one request for each file, in their order, and a file's fault leaves out that file alone.
 ///
-/// A reply's text goes to the standard output at code 0, else to the standard error, behind a line that names its file if
-/// there are several. Below that of a faulty definition a terminal is told what says where the fault is. A fault is one line on the standard error that names what it is about, and the reason. If the standard
-/// output's reader has gone, nothing is told and the status is [`crate::READER_GONE`].
+/// A fault's status is 64 for the arguments, 65 for a file, 74 for the standard output, and 1 for want of memory. It is 69 if the launcher can't be
+/// reached or sends no reply of at most [`crate::REPLY`] bytes.
 ///
-/// A word of an unload that is no path, and of which no file has the name, is the label of a loaded job, if there is one.
+/// A reply's text goes to the standard output at code 0, else to the standard error. If there are several files, a line with the file's name comes
+/// first. After the reply to a faulty definition, a terminal gets a hint which command shows where the fault is. A fault is one line on the standard
+/// error that names what it is about, and the reason. If the standard output's reader has closed it, nothing is reported and the status is
+/// [`crate::READER_GONE`].
 ///
-/// Of the environment, `JOBD_SOCKET` is the control socket if the words name none, and `JOBCTL_TIMEOUT` the seconds for which
-/// an answer is waited (30 if absent, 0 for ever); after them the status is 69. One that can't be read: 64.
+/// An argument of an unload may be the label of a loaded job, if it is not a path and no file has this name. After an unload, if the job is removed
+/// within a third of a second, the standard error gets a line for each process that runs of the job left running.
 ///
-/// A word that was not UTF-8 has a [`MARK`] at its end. One that names a file to load or to unload is that file's fault, any other is no command: 64.
-pub fn jobctl<R: Net + Files + Env + Print + Eprint + Watched + AllocGlobal + Clone + Drop>(
-    rt: &R,
-    alloc: Global,
-    words: &[String],
-) -> u8 {
+/// In the environment, `JOBD_SOCKET` is the control socket if the arguments name none. `JOBCTL_TIMEOUT` is how many seconds it waits for an answer
+/// (30 if absent; 0 means no limit); after them the status is 69. If a variable can't be read, the status is 64.
+///
+/// An argument that was not UTF-8 has a [`MARK`] at its end. If it names a file to load or to unload, it is that file's fault. Any other makes the
+/// arguments invalid: 64.
+pub fn jobctl<
+    R: Net
+        + Files<File = File>
+        + Env
+        + Clock
+        + Print
+        + Eprint
+        + Watched
+        + AllocGlobal
+        + Clone
+        + Drop,
+>(rt: &R, alloc: Global, words: &[String]) -> u8 {
     let settings = match settings_of(rt) {
         Ok(settings) => settings,
         Err(fault) => return tell_setting(rt, fault),
@@ -161,7 +173,7 @@ pub fn jobctl<R: Net + Files + Env + Print + Eprint + Watched + AllocGlobal + Cl
     }
 }
 
-// How many of the words are not UTF-8, the program's own name left out.
+// How many of the arguments are not UTF-8, the program's own name left out.
 fn marks_of(words: &[String]) -> usize {
     let mut count = 0usize;
     for word in words.iter().skip(1) {
@@ -172,7 +184,7 @@ fn marks_of(words: &[String]) -> usize {
     count
 }
 
-// Whether a word is not UTF-8 that names no file to load or to unload.
+// Whether an argument is not UTF-8 and does not name a file to load or to unload.
 fn has_more_marks(words: &[String], command: &Command) -> bool {
     let mut left = marks_of(words);
     match command {
@@ -193,7 +205,7 @@ fn refuse_mark<R: Eprint>(rt: &R) -> u8 {
     USAGE
 }
 
-// What the words mean beside the environment's socket, if it names one.
+// What the arguments mean, given the environment's socket, if it names one.
 fn read_by(alloc: Global, settings: &Settings, words: &[String]) -> Result<Words, WordFault> {
     match &settings.socket {
         Some(socket) => read_words_beside(alloc, words, socket.as_str()),
@@ -201,7 +213,7 @@ fn read_by(alloc: Global, settings: &Settings, words: &[String]) -> Result<Words
     }
 }
 
-/// Tells what keeps the environment from being read, and gives the exit status.
+/// Reports what keeps the environment from being read, and returns the exit status.
 pub fn tell_setting<R: Eprint>(rt: &R, fault: SettingFault) -> u8 {
     let (name, why) = match fault {
         SettingFault::NoMemory => return want_memory(rt),
@@ -236,31 +248,41 @@ fn explain_words<R: Print + Eprint>(rt: &R, alloc: Global, words: &[String]) -> 
     }
 }
 
-fn hand_in<R: Net + Files + Print + Eprint + Watched + AllocGlobal + Clone + Drop>(
-    rt: &R,
-    alloc: Global,
-    session: &mut Session,
-    deed: Deed,
-    paths: &Paths,
-) {
+fn hand_in<
+    R: Net + Files<File = File> + Clock + Print + Eprint + Watched + AllocGlobal + Clone + Drop,
+>(rt: &R, alloc: Global, session: &mut Session, deed: Deed, paths: &Paths) {
     let Ok(files) = files_at(rt, paths.as_slice()) else {
         session.note(want_memory(rt));
         return;
     };
     let is_named = files.len() > 1;
+    let mut unloaded = Vec::new(alloc);
     for file in files.iter() {
-        if let Err(fault) = hand_in_one(rt, alloc, session, deed, file, is_named) {
-            session.fail(rt, alloc, file.path.as_str(), &fault);
-            let is_last = fault.is_last();
-            drop(fault);
-            if is_last {
-                break;
+        match hand_in_one(rt, alloc, session, deed, file, is_named) {
+            Ok(Some(label)) => note_unloaded(label, &mut unloaded),
+            Ok(None) => {}
+            Err(fault) => {
+                session.fail(rt, alloc, file.path.as_str(), &fault);
+                let is_last = fault.is_last();
+                drop(fault);
+                if is_last {
+                    break;
+                }
             }
         }
     }
     drop(files);
+    report_left(rt, alloc, session, unloaded.as_slice());
+    drop(unloaded);
 }
 
+// If there is no memory for it, it does not look for what its runs left.
+fn note_unloaded(label: Text, unloaded: &mut Vec<Text>) {
+    let noted = unloaded.push(label);
+    drop(noted);
+}
+
+// The label, if it was unloaded.
 fn hand_in_one<R: Net + Files + Print + Eprint + Watched>(
     rt: &R,
     alloc: Global,
@@ -268,7 +290,7 @@ fn hand_in_one<R: Net + Files + Print + Eprint + Watched>(
     deed: Deed,
     file: &Found,
     is_named: bool,
-) -> Result<(), Fault> {
+) -> Result<Option<Text>, Fault> {
     let path = file.path.as_str();
     let shown = plain(alloc, path)?;
     let name = shown.as_str();
@@ -282,7 +304,7 @@ fn hand_in_one<R: Net + Files + Print + Eprint + Watched>(
             let _written = eprintln!(rt;
                 "jobctl: {name}: no definition in this folder (*.plist, *.json)"
             );
-            return Ok(());
+            return Ok(None);
         }
         Kind::File => {}
     }
@@ -294,15 +316,20 @@ fn hand_in_one<R: Net + Files + Print + Eprint + Watched>(
     match read {
         Ok(text) => {
             let answer = session.ask(rt, alloc, &request_with(deed, &text), heading);
-            drop(text);
-            point_out(rt, deed, name, answer?);
-            Ok(())
+            match (deed, answer) {
+                (Deed::Unload { .. }, Ok(0)) => Ok(Some(text)),
+                (_, answer) => {
+                    drop(text);
+                    point_out(rt, deed, name, answer?);
+                    Ok(None)
+                }
+            }
         }
         Err(fault) => Err(fault),
     }
 }
 
-// The label that the word of an unload is: no file of that name is there, and a job of that label is loaded.
+// The label that the argument of an unload means, if no file has this name, and a job of this label is loaded.
 fn word_for<R: Net + Files>(
     rt: &R,
     alloc: Global,
@@ -326,7 +353,7 @@ fn word_for<R: Net + Files>(
     }
 }
 
-// Whether a word is a label, and neither a path nor the name of a definition's file.
+// Whether an argument is a label, and neither a path nor the name of a definition's file.
 fn may_be_label(word: &str) -> bool {
     let is_file = word.contains('/') || word.ends_with(".json") || word.ends_with(".plist");
     !is_file && is_label(word)
@@ -339,7 +366,7 @@ fn is_there<R: Files>(rt: &R, path: &str) -> bool {
     }
 }
 
-// A terminal is told what says where a faulty definition has its fault.
+// On a terminal, names the command that shows where a faulty definition has its fault.
 fn point_out<R: Eprint + Watched>(rt: &R, deed: Deed, name: &str, code: u8) {
     let is_faulty = code == Refusal::BadDefinition(Reason::NotJson, KeyName::NoKey).code();
     if is_faulty && matches!(deed, Deed::Load { .. }) && rt.is_watched() {
@@ -347,8 +374,8 @@ fn point_out<R: Eprint + Watched>(rt: &R, deed: Deed, name: &str, code: u8) {
     }
 }
 
-/// What the request for a file says: the text of its definition, or for an unload the label in it. A fault of the file: it can't be read, is
-/// too long for a line, or is not UTF-8; for an unload also if it is no definition, so that its label is not known.
+/// What the request for a file says: the text of its definition, or for an unload the label in it. A fault of the file: it can't be read, is too long
+/// for a line, or is not UTF-8. For an unload it is a fault too if the file is not a definition, so that its label is not known.
 fn text_for<R: Files>(rt: &R, alloc: Global, deed: Deed, path: &str) -> Result<Text, Fault> {
     let text = text_at(rt, alloc, path)?;
     match deed {

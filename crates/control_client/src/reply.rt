@@ -5,15 +5,15 @@ use json_kinds::json_value;
 use serde_json::Value;
 use std::alloc::{AllocError, Global};
 
-/// A reply: the code, 0 if there is no refusal, and the text.
+/// A reply: the code, which is 0 without a refusal, and the text.
 #[derive(Drop)]
 pub struct Replied {
     pub code: u8,
     pub text: Text,
 }
 
-/// The reply that a line is, its newline left out: an object with a `code` from 0 to 255 and a `text`. None if it is no
-/// such object. `AllocError` if memory ran out.
+/// The reply in a line without its newline: an object with a `code` from 0 to 255 and a `text`. None if the line is not
+/// such an object. `AllocError` if memory ran out.
 pub(crate) fn read_reply(alloc: Global, line: &[u8]) -> Result<Option<Replied>, AllocError> {
     match json_value(alloc, line)? {
         Some(value) => reply_in(alloc, &value),

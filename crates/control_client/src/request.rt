@@ -12,8 +12,8 @@ use std::io;
 /// What a process has open already: the user named it, and it is waited for.
 const STREAMS: [&str; 3] = ["/dev/stdin", "/dev/fd/", "/proc/self/fd/"];
 
-/// The text of the file. A fault: it can't be read, is no plain file, is too long for a line, or is not UTF-8. Only plain files are opened, since others
-/// may wait, but for this process's own streams.
+/// The text of the file. A fault: it can't be read, is not a plain file, is too long for a line, or is not UTF-8. Only plain files are opened, since
+/// others may wait; the exception is this process's own streams.
 pub(crate) fn text_at<R: Files>(rt: &R, alloc: Global, path: &str) -> Result<Text, Fault> {
     let read = if STREAMS.iter().any(|front| path.starts_with(*front)) {
         read_stream(rt, alloc, path)
@@ -40,7 +40,7 @@ fn read_stream<R: Files>(rt: &R, alloc: Global, path: &str) -> io::Result<Option
     })
 }
 
-/// The label of the definition that the text is. A fault: it is none.
+/// The label of the definition that the text is. A fault: it is not a definition.
 pub(crate) fn label_of(alloc: Global, text: Text) -> Result<Text, Fault> {
     let read = read_def(alloc, text.as_str().as_bytes());
     drop(text);

@@ -17,17 +17,17 @@ use std::net::Net;
 pub(crate) struct Session {
     socket: Text,
     connection: Option<Connection>,
-    // The longest wait for a part of an answer, in seconds; 0 for ever.
+    // The longest wait for a part of an answer, in seconds; 0 means no limit.
     patience: u32,
-    // Nothing names the socket, and that of the package is there.
+    // Nothing names the socket, and the package's socket exists.
     is_unnamed: bool,
     // The first that is not 0.
     status: u8,
 }
 
 impl Session {
-    /// No request yet to the launcher at the socket, whose answers are waited for so many seconds, or for ever if they are 0.
-    /// `is_unnamed`: nothing names the socket, and that of the package is there.
+    /// No request yet to the launcher at the socket. Its answers are waited for `patience` seconds, or for ever if they are
+    /// 0. `is_unnamed`: nothing names the socket, and that of the package exists.
     pub(crate) fn new(socket: Text, patience: u32, is_unnamed: bool) -> Session {
         Session {
             socket,
@@ -36,6 +36,11 @@ impl Session {
             is_unnamed,
             status: 0,
         }
+    }
+
+    /// The path of the launcher's control socket.
+    pub(crate) fn socket(&self) -> &str {
+        self.socket.as_str()
     }
 
     pub(crate) fn status(&self) -> u8 {
@@ -48,7 +53,7 @@ impl Session {
         }
     }
 
-    /// Asks this and prints the reply's text, behind the name if there are both. Gives the reply's code.
+    /// Sends the request and prints the reply's text, after the name if there are both. Returns the reply's code.
     pub(crate) fn ask<R: Net + Print + Eprint + Watched>(
         &mut self,
         rt: &R,
@@ -63,7 +68,8 @@ impl Session {
         Ok(reply.code)
     }
 
-    /// Asks this, prints the reply's text, and tells what kept the request from its reply. Gives the reply's code.
+    /// Sends the request, prints the reply's text, and reports what kept the request from its reply. Returns the reply's
+    /// code.
     pub(crate) fn ask_once<R: Net + Print + Eprint + Watched>(
         &mut self,
         rt: &R,
@@ -106,7 +112,7 @@ impl Session {
         }
     }
 
-    /// Tells what kept the request for the file from its reply. That the output's reader has gone is not told.
+    /// Reports what kept the request for the file from its reply. It does not report that the output's reader has closed it.
     pub(crate) fn fail<R: Eprint>(&mut self, rt: &R, alloc: Global, file: &str, fault: &Fault) {
         let status = fault.status();
         let about = match status {
@@ -123,8 +129,8 @@ impl Session {
     }
 }
 
-// To the standard output at code 0, else to the standard error. The file's name stands before it if there is one, but on the
-// standard output only if something is said. A terminal gets no control character of it but its newlines and tabs.
+// Prints to the standard output at code 0, else to the standard error. The file's name comes first if there is one, but on
+// the standard output only if there is text. On a terminal the only control characters are its newlines and tabs.
 fn print<R: Print + Eprint + Watched>(
     rt: &R,
     alloc: Global,

@@ -10,9 +10,9 @@ const PATIENCE: u32 = 30;
 /// What the environment says.
 #[derive(Drop)]
 pub struct Settings {
-    /// `JOBD_SOCKET`: the launcher's control socket, if the words name none.
+    /// `JOBD_SOCKET`: the launcher's control socket, if the arguments name none.
     pub socket: Option<String>,
-    /// `JOBCTL_TIMEOUT`: the longest wait for a part of an answer, in seconds; 0 for ever.
+    /// `JOBCTL_TIMEOUT`: the longest wait for a part of an answer, in seconds; 0 means no limit.
     pub patience: u32,
 }
 
@@ -22,7 +22,7 @@ pub enum SettingFault {
     NoMemory,
     /// `JOBD_SOCKET` is not UTF-8.
     Socket,
-    /// `JOBCTL_TIMEOUT` is no number from 0 to 4,294,967,295.
+    /// `JOBCTL_TIMEOUT` is not a number from 0 to 4,294,967,295.
     Patience,
 }
 

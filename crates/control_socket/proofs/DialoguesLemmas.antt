@@ -18,7 +18,7 @@ module _ {A : Type 0} {Answered : List ℕ → Reply → A → A → Type 0} {fi
   converses_reads talk (inr (inl ends)) = ended talk ends
   converses_reads {now = now} talk (inr (inr same)) = subst (λ d. Converses Answered first from d now) (sym same) talk
 
-  -- it ends with no line behind its steps, or with those of a talk that was broken off
+  -- it ends with no line after its steps, or with those of a talk that was broken off
   pub ends_here : {last : Dialogue} {now : A} → Converses Answered first from last now → EndsWith Answered first from now
   ends_here {last = last} {now = now} all = record { last = last; before = now; converses = all; loses = unanswered }
 

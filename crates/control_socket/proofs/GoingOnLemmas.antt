@@ -9,7 +9,7 @@ use Rattle.control_socket.specs.Dialogues.{Converses}
 use Rattle.control_socket.proofs.WaitingLemmas.{inside_of}
 
 module _ {A : Type 0} {Answered : List ℕ → Reply → A → A → Type 0} where
-  -- the client of the key went on and stays, or is let go
+  -- the client of the key went on and stays, or is disconnected
   pub moved : {P E : Type 0} {key : ℕ} {old mid new : Slab Client} {client : Client} {before after : A} (on : Client) (progress : Result P E) →
       get old key ≡ Some client → mid ≡ with_value old key on → OnOk progress ((client.failed ≡ None) × Converses Answered client.dialogue before on.dialogue after) →
       MayEnd Answered client before after → StaysOrGoes key progress mid new → MovesOn Answered key old before new after

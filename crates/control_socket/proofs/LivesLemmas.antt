@@ -1,4 +1,4 @@
--- Clients live by their own dialogues, over any rounds.
+-- Clients go on by their own dialogues, over any calls of `serve`.
 use Rattle.std.proofs.Common.{◌≡◌, ◌≢◌, ◌⊎◌, ◌==◌, ◌∙◌, ◌++◌, ℕ, List, [], Bool, true, false, Option, Some, None, IfSome, IsSome, inl, inr, refl, sym, ap, subst, append_assoc, arith}
 use Rattle.std.proofs.lemmas.List.{append-nil}
 use Rattle.std.proofs.lemmas.Bool.Decides.{nat_tests}

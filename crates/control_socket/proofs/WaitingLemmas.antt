@@ -74,7 +74,7 @@ module _ {up : ℕ} where
   all_append : {old mid new : Slab Client} → AllWait up old mid → AllWait up mid new → AllWait up old new
   all_append {old = old} {mid = mid} {new = new} one more = record { each = λ key. at_append up (get old key) (get mid key) (get new key) (one.each key) (more.each key) }
 
-  -- in the same round
+  -- in the same `serve`
   pub all_then : {then : ℕ} {old mid new : Slab Client} → then ≡ up → AllWait up old mid → AllWait then mid new → AllWait up old new
   all_then {mid = mid} {new = new} same one more = all_append one (subst (λ now. AllWait now mid new) same more)
 

@@ -10,7 +10,7 @@ abbrev pub StaysOrGoes : {P E : Type 0} → ℕ → Result P E → Slab Client �
 StaysOrGoes key progress old new = (IsOk progress × (new ≡ old)) ⊎ Updates old new key None
 
 module _ {A : Type 0} (Answered : List ℕ → Reply → A → A → Type 0) where
-  -- A client that is let go went on by the steps of its dialogue up to its end; one of which a read failed before had no line answered.
+  -- A client that is disconnected went on by the steps of its dialogue up to its end; one of which a read failed before had no line answered.
   abbrev pub MayEnd : Client → A → A → Type 0
   MayEnd old before after =
       ((old.failed ≡ None) × EndsWith Answered old.dialogue before after) ⊎ (IsSome old.failed × (after ≡ before))

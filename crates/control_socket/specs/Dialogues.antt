@@ -42,7 +42,7 @@ pub record Ends (old new : Dialogue) : Type 0 where
   pub intake : new.intake ≡ intake_ended old.intake
   pub replies : new.replies.items ≡ old.replies.items
 
--- so many bytes of the replies were sent, the first ones
+-- `count` bytes of the replies were sent, the first ones
 pub record Sends (count : ℕ) (old new : Dialogue) : Type 0 where
   pub requests : new.requests ≡ old.requests
   pub intake : new.intake ≡ old.intake
@@ -78,7 +78,7 @@ intake_after TooLong = Refused
 intake_after Refused = Refused
 intake_after Over = Over
 
--- what it is then told: that a line was too long, as the reply to it
+-- the reply that it then gets: that a line was too long
 abbrev pub told_after : Intake → List ℕ
 told_after TooLong = reply_line (record { refusal = Some BadRequest; text = [] })
 told_after Open = []
@@ -87,8 +87,8 @@ told_after Refused = []
 told_after Over = []
 
 module _ {A : Type 0} (Answered : List ℕ → Reply → A → A → Type 0) where
-  -- The client's next whole line is answered, once, and the line of the reply comes behind those that wait to be sent. If there is none, the
-  -- client may be told that a line was too long.
+  -- The client's next whole line is answered, once, and the line of the reply comes after those that wait to be sent. If there is none, the
+  -- client may get the reply that a line was too long.
   abbrev pub Answers : Option (List ℕ) → Dialogue → A → Dialogue → A → Type 0
   Answers None old before new after = (after ≡ before) × (new.has_lines ≡ false)
       × (new.intake ≡ intake_after old.intake)
@@ -128,14 +128,14 @@ module _ {A : Type 0} (Answered : List ℕ → Reply → A → A → Type 0) whe
     sent : {count : ℕ} {mid new : Dialogue} {now : A} →
         Converses first from mid now → Sends count mid new → Converses first from new now
 
-  -- answers that were broken off, behind some
+  -- answers that were broken off, after some
   pub record TalkEnds (first : Dialogue) (from after : A) : Type 0 where
     pub last : Dialogue
     pub before : A
     pub talks : Talks first from last before
     pub loses : Loses last before after
 
-  -- A dialogue that ends: it went on by its steps alone, and the reply to the line behind them may be lost.
+  -- A dialogue that ends: it went on by its steps alone, and the reply to the line after them may be lost.
   pub record EndsWith (first : Dialogue) (from after : A) : Type 0 where
     pub last : Dialogue
     pub before : A

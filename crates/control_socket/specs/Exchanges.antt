@@ -19,7 +19,7 @@ brought_by piece feed Refused = []
 brought_by piece feed Over = []
 
 module _ {A : Type 0} (Answered : List ℕ → Reply → A → A → Type 0) where
-  -- the line of the reply to a line of the client, or what it is told where there is none
+  -- the line of the reply to a line of the client, or the other reply that it gets
   abbrev pub reply_to : (line : Option (List ℕ)) (old : Dialogue) (before : A) (new : Dialogue) (after : A) →
       Answers Answered line old before new after → List ℕ
   reply_to None old before new after answers = told_after old.intake

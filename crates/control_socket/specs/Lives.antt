@@ -15,14 +15,14 @@ abbrev pub IsVacant : Slab Client → Type 0
 IsVacant clients = (key : ℕ) → get clients key ≡ None
 
 module _ {A : Type 0} (Answered : List ℕ → Reply → A → A → Type 0) where
-  -- Clients are served, and clients come, in any order and any number of times. In between who answers may have gone on by itself.
+  -- Clients are served, and clients come, in any order and any number of times. In between who answers may have changed by itself.
   pub data Rounds (first : Slab Client) : Slab Client → Type 0 where
     no_round : Rounds first first
     served : {mid new : Slab Client} {before after : A} →
         Rounds first mid → AllGoOn Answered mid before new after → Rounds first new
     taken : {up : ℕ} {mid new : Slab Client} → Rounds first mid → AllWait up mid new → Rounds first new
 
-  -- A dialogue that began empty: rounds served it, and between them it heard what came. Other clients may have been answered meanwhile.
+  -- A dialogue that began empty: calls of `serve` served it, and between them it took what came. Other clients may have been answered meanwhile.
   pub data Lives : Dialogue → Type 0 where
     came : {dialogue : Dialogue} → IsEmpty dialogue → Lives dialogue
     went_on : {mid new : Dialogue} {before after : A} → Lives mid → Converses Answered mid before new after → Lives new
@@ -39,7 +39,7 @@ module _ {A : Type 0} (Answered : List ℕ → Reply → A → A → Type 0) whe
         AnswersClients from mid → Lives dialogue → GivesLine dialogue.requests (Some line) rest →
         Answered line reply mid new → AnswersClients from new
 
--- the lines that pieces brought between two rounds
+-- the lines that pieces brought between two calls of `serve`
 abbrev pub brought_as : {old new : Dialogue} → Reads old new → List (List ℕ)
 brought_as {old = old} (inl (piece, takes)) = brought_by piece old.requests old.intake
 brought_as (inr other) = []

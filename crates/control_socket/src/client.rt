@@ -26,31 +26,31 @@ pub(crate) enum Progress {
     Ended,
 }
 
-/// How many pieces are read in a round.
+/// How many pieces are read in a call of `serve`.
 pub(crate) const PIECES: u32 = 4;
 
-/// How often a write is tried in a round.
+/// How often a write is tried in a call of `serve`.
 const WRITES: u32 = 4;
 
-/// A client that takes nothing of its reply for so many milliseconds may be let go for a new one.
+/// For how many milliseconds a client may take nothing of its reply, before it may be disconnected for a new one.
 const STUCK: u64 = 1_000;
 
 #[derive(Drop)]
 pub(crate) struct Client {
     stream: UnixStream,
     dialogue: Dialogue,
-    // The last round in which it was looked at; 0 if there was none since it came, or since something came between two rounds.
+    // The number of the last `serve` that checked it; 0 if none did since it came, or since something came between two.
     looked: u64,
-    // The last round in which it came, sent something, or had a line or a reply under way.
+    // The number of the last `serve` in which it came, sent something, or had a line or a reply under way.
     heard: u64,
     // The `up` at which it last took something of a reply, or had none to take.
     taken: u64,
-    // Between two rounds a read failed so.
+    // A read between two calls of `serve` failed so.
     failed: Option<io::Error>,
 }
 
 impl Client {
-    /// A client that came after the round of this number.
+    /// A client that came after the `serve` of this number.
     pub(crate) fn new(alloc: Global, stream: UnixStream, round: u64) -> Client
         ensures { IsFresh result }
     {
@@ -70,17 +70,18 @@ impl Client {
         !self.dialogue.to_send().is_empty()
     }
 
-    /// Whether no round looked at it yet, or none since something came.
+    /// Whether no `serve` checked it yet, or none since something came.
     pub(crate) fn is_new(&self) -> bool {
         self.looked == 0
     }
 
-    /// Since which round the client is silent, if the round of this number looked at it and found nothing under way.
+    /// Since which `serve` the client is silent, if the one of this number checked it and found nothing under way.
     pub(crate) fn silent_since(&self, round: u64) -> Option<u64> {
         (self.looked == round && self.heard < round).then_some(self.heard)
     }
 
-    /// Since which `up` the client takes nothing of its reply, if the round of this number found it so, and that is a second ago.
+    /// Since which `up` the client takes nothing of its reply, if the `serve` of this number found it so, and that is a
+    /// second ago.
     pub(crate) fn stuck_since(&self, round: u64, up: u64) -> Option<u64> {
         (self.looked == round && self.is_stuck(up)).then_some(self.taken)
     }
@@ -91,20 +92,21 @@ impl Client {
         self.has_unsent() && up.saturating_sub(self.taken) >= STUCK
     }
 
-    /// Takes a piece that came between two rounds. True: one came, or the read failed, and the next round has to look at it first.
+    /// Takes a piece that came between two calls of `serve`. True: one came, or the read failed, and the next `serve`
+    /// has to check it first.
     pub(crate) fn hear(&mut self, room: &mut [u8]) -> bool
         ensures { Waits self.old self.new }
     {
         let has_come = self.read_or_note(room);
         if has_come {
-            // The next round answers it.
+            // The next `serve` answers it.
             self.heard = self.looked.saturating_add(1);
             self.looked = 0;
         }
         has_come
     }
 
-    // As `read`. An error is kept for the next round, and true is given.
+    // As `read`. An error is kept for the next `serve`, and true is given.
     fn read_or_note(&mut self, room: &mut [u8]) -> bool
         ensures { Waits self.old self.new }
     {
@@ -117,7 +119,8 @@ impl Client {
         }
     }
 
-    /// Whether it may go for another one: it says nothing, and is told that there is no place for it; or it takes nothing of its reply.
+    /// Whether it may be disconnected for another one. It may if it is silent, and then it gets the reply that there is
+    /// no place for it. It may also if it takes nothing of its reply.
     pub(crate) fn makes_way(&mut self, up: u64) -> bool
         ensures waits { Waits self.old self.new }
         ensures may { result ≡ true → MayGo up self.new }

@@ -28,10 +28,10 @@ pub const CLIENTS: usize = 64;
 /// How many bytes are read at once.
 const PIECE: usize = 16_384;
 
-/// As many milliseconds of `up` lie between two looks at the socket's file at least.
+/// How many milliseconds of `up` lie at least between two checks of the socket's file.
 const BETWEEN_LOOKS: u64 = 1_000;
 
-/// So many milliseconds of `up` no place has to be found before a new client is turned away.
+/// For how many milliseconds of `up` no place must have been found before a new client is turned away.
 const FULL: u64 = 1_000;
 
 /// The control socket: one listener at a path, and its clients.
@@ -52,20 +52,20 @@ pub struct ControlSocket {
     notices: Notices,
     // A descriptor that is kept for an accept which finds none free. None, as long as the system gives none.
     spare: Option<File>,
-    // How many rounds there were, and the `up` of the last.
+    // How many calls of `serve` there were, and the `up` of the last.
     rounds: u64,
     up: u64,
-    // The `up` from which on it is looked whether the socket's file is there.
+    // The `up` from which on the socket's file is checked again.
     next_look: u64,
-    // The next round begins with this key.
+    // The next `serve` begins with this key.
     first: usize,
-    // The last round looked at every client.
+    // The last `serve` checked every client.
     is_whole: bool,
     // Since this `up` no place was found for a new client.
     full_since: Option<u64>,
 }
 
-// for the proof: who lets it go calls this, in place of letting each part go
+// for the proof: who drops it calls this, in place of dropping each part
 impl Drop for ControlSocket {
     fn drop(self) {
         let ControlSocket {
@@ -94,9 +94,9 @@ impl Drop for ControlSocket {
 #[derive(Clone, Copy)]
 enum Place {
     Free,
-    /// In the place of the client of this key, which is let go.
+    /// In the place of the client of this key, which is disconnected.
     Of(usize),
-    /// That is known only once a round looked at every client.
+    /// Not known until a `serve` checked every client.
     Unknown,
     Nowhere,
 }
@@ -113,7 +113,7 @@ struct Taking {
     is_over: bool,
 }
 
-/// How a client stands still: it says nothing, or it takes nothing of its reply.
+/// In which way a client does nothing: it sends nothing, or it takes nothing of its reply.
 #[derive(Clone, Copy)]
 enum Still {
     Silent,
@@ -122,9 +122,10 @@ enum Still {
 
 impl ControlSocket {
     /// Binds the socket at the path, for this user alone (mode 0600). A socket file on which nobody listens any more is
-    /// replaced. A lock on the file of the path and `.lock`, which is made if it is absent, is held as long as the socket
-    /// lives. `AddrInUse`: somebody listens at the path or holds the lock, or a file of another kind is at one of them; it is
-    /// left as it is. Any other error is that of the system's call, or `OutOfMemory`; then no socket of ours is left.
+    /// replaced. While the socket is open, it holds a lock on the file of the path and `.lock`, which is made if it is
+    /// absent. `AddrInUse`: somebody listens at the path or holds the lock, or a file of another kind is at one of
+    /// them; it is left as it is. Any other error is that of the system's call, or `OutOfMemory`; then no socket of
+    /// ours is left.
     pub fn open<R: Files<File = File> + Net>(
         rt: &R,
         alloc: Global,
@@ -174,7 +175,7 @@ impl ControlSocket {
         registry.register(&mut self.listener, token, Interest::READABLE)
     }
 
-    /// How many clients are served at a time from now on, one at least and [`CLIENTS`] at most. None is let go by this.
+    /// How many clients are served at a time from now on, one at least and [`CLIENTS`] at most. This disconnects none.
     pub fn set_room(&mut self, clients: usize)
         ensures most { self.new.most ≡ min 64 (max 1 clients) }
         ensures clients { self.new.clients ≡ self.old.clients }
@@ -187,11 +188,13 @@ impl ControlSocket {
         self.mark
     }
 
-    /// A round: moves each client on. Reads what came, at most 65,536 bytes, answers whole lines in their order, at most
-    /// [`crate::LINES`], and sends what is taken. First each client has one piece and one line; further ones come behind those of
-    /// all clients. Once a line was answered and the limit says that there is no more time, no further line is answered and no
-    /// further client moved on; the next round begins with the client behind. A client that is done or gone, or that there is
-    /// no memory for, is closed. True: one of them may go on at once.
+    /// Moves each client on. From each it reads what came, at most 65,536 bytes. It answers whole lines in their order,
+    /// at most [`crate::LINES`], and sends what is taken. First each client has one piece and one line; further ones
+    /// come after those of all clients.
+    ///
+    /// The limit may say, after a line was answered, that there is no more time. Then no further line is answered and
+    /// no further client moved on, and the next call begins with the client after it. A client that is done, has left,
+    /// or finds no memory is closed. True: one of them may go on at once.
     pub fn serve<A: Answers, L: Limit>(
         &mut self,
         alloc: Global,
@@ -260,7 +263,7 @@ impl ControlSocket {
         self.settle(key, progress)
     }
 
-    // Lets the client of the key go that is done, or gone. True: it may go on at once.
+    // Closes the client of the key if it is done, or has left. True: it may go on at once.
     fn settle(&mut self, key: usize, progress: io::Result<Progress>) -> bool
         ensures { StaysOrGoes key progress self.old.clients self.new.clients }
     {
@@ -280,21 +283,13 @@ impl ControlSocket {
         }
     }
 
-    /// Takes the clients that wait, after a `serve`, which lets go of the clients that are done. Where as many are there already as
-    /// may be ([`set_room`](ControlSocket::set_room)), the one is let go that has been silent for longest: the last `serve` found nothing new of it, no whole line to
-    /// answer and nothing to send, and nothing came since. It gets the reply `too many clients` of code 2. If none is silent, one is let go that has taken nothing of its
-    /// reply for longest, and for a second at
-    /// least. If there is none of these too, the new client waits. If no place was found for a second, and the last `serve` looked at every client, it gets that reply, and is
-    /// closed. No line of a client is answered here.
+    /// Takes the clients that wait. Call it after a `serve`, which closes the clients that are done. It answers no line
+    /// of a client.
     ///
-    /// Without a free descriptor the system refuses an accept also if nobody waits. So it is tried once more by the descriptor that is
-    /// kept for this. If nobody waits, that is kept again, nobody is let go, and nothing is told. If somebody waits, the refusal is
-    /// told, and the longest silent client is let go if there is no other way to keep a descriptor again. If no client is silent, the
-    /// one that becomes silent first is let go for it, unless a descriptor gets free before; until then who comes has to wait.
-    ///
-    /// Once a second of `up` at most it looks whether the socket's file is still the one that was bound, and then the lock's. If the first is not, it
-    /// binds the socket anew as [`open`](ControlSocket::open) does, and keeps its clients; if the second is not, it takes the lock on a new one.
-    /// That, or why it can't be done, is told. Where the system does not say whether a file is there, that is told, and nothing is made.
+    /// If there are already the most clients that may be ([`set_room`](ControlSocket::set_room)), a silent or a stuck
+    /// client is disconnected for the new one. The new client waits if there is neither, and is turned away after a
+    /// second (`place`). Without a free descriptor it accepts by the one that is kept for this (`try_once_more`). Once
+    /// a second of `up` at most it checks the files of the socket and of its lock (`keep_file`).
     pub fn accept<R: Files<File = File> + Net>(&mut self, rt: &R, registry: &Registry)
         ensures { AllWait self.old.up self.old.clients self.new.clients }
     {
@@ -305,7 +300,10 @@ impl ControlSocket {
         }
     }
 
-    // Binds the socket anew if its file is gone, or another is in its place, and takes the lock anew if its file is.
+    // Checks that the socket's file is still the one that was bound, and then the lock's. If the first is not, it binds
+    // the socket again as `open` does, and keeps its clients. If the second is not, it takes the lock on a new file. It
+    // reports that, or why it can't be done. If the system does not say whether a file is there, it reports this, and
+    // makes nothing.
     fn keep_file<R: Files<File = File> + Net>(&mut self, rt: &R, registry: &Registry)
         ensures { self.new.clients ≡ self.old.clients }
     {
@@ -319,7 +317,8 @@ impl ControlSocket {
         }
     }
 
-    // Takes the lock anew if its file is gone, or another is in its place. The one that is held is kept until then.
+    // Takes the lock on a new file if its file was removed, or another is in its place. The one that is held is kept
+    // until then.
     fn keep_lock<R: Files<File = File>>(&mut self, rt: &R)
         ensures { self.new.clients ≡ self.old.clients }
     {
@@ -345,7 +344,7 @@ impl ControlSocket {
         }
     }
 
-    // Under the lock that is held; if the lock's file is gone too, under a new one.
+    // Under the lock that is held; if the lock's file was removed too, under a new one.
     fn bind_again<R: Files<File = File> + Net>(
         &mut self,
         rt: &R,
@@ -457,7 +456,7 @@ impl ControlSocket {
         }
     }
 
-    // Nobody waits any more.
+    // Nobody waits any more. It disconnects nobody and reports nothing; `accept_all` keeps a descriptor again.
     fn end_well(&mut self, taking: &mut Taking)
         ensures clients { self.new.clients ≡ self.old.clients }
         ensures up { self.new.up ≡ self.old.up }
@@ -476,7 +475,8 @@ impl ControlSocket {
         self.notices.accept_refused(error);
     }
 
-    // An accept was refused. Once a descriptor is given up for one more.
+    // An accept was refused. Without a free descriptor the system refuses an accept also if nobody waits. So a
+    // descriptor is given up once for one more.
     fn try_once_more(&mut self, error: Error, taking: &mut Taking)
         ensures wait { AllWait self.old.up self.old.clients self.new.clients }
         ensures up { self.new.up ≡ self.old.up }
@@ -505,8 +505,9 @@ impl ControlSocket {
         self.spare.is_some()
     }
 
-    // Frees a descriptor for one more accept: the spare one, or if a client has it, that of the longest silent one. False: no client is
-    // silent.
+    // Frees a descriptor for one more accept: the spare one, or if a client has it, that of the longest silent one.
+    // False: no client is silent. Then a later call disconnects the one that becomes silent first, unless a descriptor
+    // becomes free before. Until then a new client has to wait.
     fn free_descriptor(&mut self) -> bool
         ensures wait { AllWait self.old.up self.old.clients self.new.clients }
         ensures up { self.new.up ≡ self.old.up }
@@ -517,7 +518,8 @@ impl ControlSocket {
         self.let_silent_go()
     }
 
-    // Somebody waited where an accept was refused with this error.
+    // Somebody waited where an accept was refused with this error. It reports the refusal. It disconnects the longest
+    // silent client if it can keep no descriptor again in another way.
     fn give_way<R: Files<File = File>>(&mut self, rt: &R, error: Error)
         ensures wait { AllWait self.old.up self.old.clients self.new.clients }
         ensures up { self.new.up ≡ self.old.up }
@@ -542,7 +544,8 @@ impl ControlSocket {
         }
     }
 
-    // The client that is silent for longest, and still is. Who sent something since the last round looked at it is not silent.
+    // The client that is silent for longest, and still is. The last `serve` found nothing new of it, no whole line to
+    // answer and nothing to send. A client that sent something since that `serve` is not silent.
     fn silent(&mut self) -> Option<usize>
         ensures wait { AllWait self.old.up self.old.clients self.new.clients }
         ensures up { self.new.up ≡ self.old.up }
@@ -558,7 +561,7 @@ impl ControlSocket {
         None
     }
 
-    // Takes what the client of the key sent since the last round. False: nothing came.
+    // Takes what the client of the key sent since the last `serve`. False: nothing came.
     fn hear(&mut self, key: usize) -> bool
         ensures waits { WaitsAt key self.old.up self.old.clients self.new.clients }
         ensures up { self.new.up ≡ self.old.up }
@@ -569,7 +572,8 @@ impl ControlSocket {
         }
     }
 
-    // Lets the client of the key go for another one, if it may go.
+    // Disconnects the client of the key for another one, if it may. A silent one gets the reply `too many clients` of
+    // code 2.
     fn let_go(&mut self, key: usize)
         ensures wait { AllWait self.old.up self.old.clients self.new.clients }
         ensures up { self.new.up ≡ self.old.up }
@@ -591,7 +595,7 @@ impl ControlSocket {
         }
     }
 
-    // False: the system refuses to tell when the client is ready.
+    // False: the system refuses to report when the client is ready.
     fn welcome(&mut self, registry: &Registry, stream: UnixStream, place: Place) -> bool
         ensures wait { AllWait self.old.up self.old.clients self.new.clients }
         ensures up { self.new.up ≡ self.old.up }
@@ -609,7 +613,7 @@ impl ControlSocket {
         }
     }
 
-    // False: the system refuses to tell when the client is ready.
+    // False: the system refuses to report when the client is ready.
     fn admit(&mut self, registry: &Registry, stream: UnixStream) -> bool
         ensures wait { AllWait self.old.up self.old.clients self.new.clients }
         ensures up { self.new.up ≡ self.old.up }
@@ -651,6 +655,8 @@ impl ControlSocket {
         let _sent = stream.write(TOO_MANY);
     }
 
+    // The place of the next client. A client is turned away only if no place was found for a second; until then it
+    // waits.
     fn place(&mut self) -> Place
         ensures wait { AllWait self.old.up self.old.clients self.new.clients }
         ensures up { self.new.up ≡ self.old.up }
@@ -671,6 +677,9 @@ impl ControlSocket {
         place
     }
 
+    // A free place, or else that of the client that is silent for longest. If none is silent, that of the one that takes
+    // nothing of its reply for longest, and for a second at least. `Nowhere` only if the last `serve` checked every
+    // client, and nothing came since.
     fn place_now(&mut self) -> Place
         ensures wait { AllWait self.old.up self.old.clients self.new.clients }
         ensures up { self.new.up ≡ self.old.up }
@@ -697,7 +706,7 @@ impl ControlSocket {
         false
     }
 
-    // The client that stands still so for longest.
+    // The client that does nothing in this way for longest.
     fn longest(&self, how: Still) -> Option<usize> {
         let mut least = u64::MAX;
         let mut longest = None;
@@ -716,11 +725,15 @@ impl ControlSocket {
         longest
     }
 
-    /// The next line on what was refused, without a newline: an accept, or a client that was let go for want of memory or since
-    /// a read or a write failed. Each is told once, and again when its reason changes; an accept also after a call of `accept`
-    /// that took a client and was refused nothing, a client after one that had all its replies. A client that only went away is
-    /// not told. That the socket's file or the lock's was gone and is made again is told each time; why it can't be made again, or looked at, once
-    /// for each reason, until both are there.
+    /// The next line on what was refused, without a newline. It is about an accept, or about a client that was
+    /// disconnected for want of memory or since a read or a write failed. Each is logged once, and again when its
+    /// reason changes.
+    ///
+    /// An accept is logged again also after a call of `accept` that took a client and was refused nothing. A client is
+    /// logged again also after one that had all its replies. A client that only went away is not logged.
+    ///
+    /// That the socket's file or the lock's was removed and is made again is logged each time. Why it can't be made
+    /// again, or checked, is logged once for each reason, until both are there.
     pub fn next_notice(&mut self) -> Option<Text>
         ensures clients { self.new.clients ≡ self.old.clients }
     {
@@ -770,7 +783,7 @@ fn memory_for(alloc: Global, path: &str) -> Result<(Text, Vec<u8>, Slab<Client>)
     }
 }
 
-// The listener at the path, with the lock beside it.
+// The listener at the path, with the lock next to it.
 fn bind<R: Files<File = File> + Net>(
     rt: &R,
     alloc: Global,

@@ -56,7 +56,7 @@ impl Dialogue {
         is_read && !self.has_lines && self.replies.len() <= UNSENT
     }
 
-    /// Takes the next piece of what the client sends. What comes behind a line that is too long is dropped.
+    /// Takes the next piece of what the client sends. What comes after a line that is too long is dropped.
     pub(crate) fn take(&mut self, piece: &[u8]) -> Result<(), AllocError>
         ensures { OnOk result (Takes piece.now self.old self.new) }
     {
@@ -175,7 +175,7 @@ impl Dialogue {
         self.replies.as_slice()
     }
 
-    /// So many bytes of it were sent.
+    /// `count` bytes of it were sent.
     pub(crate) fn sent(&mut self, count: usize)
         ensures { Sends count self.old self.new }
     {

@@ -11,8 +11,8 @@ ghost use Rattle.control_socket.specs.Lives.{AnswersClients, IsAlive, IsVacant, 
 
 use crate::turn::Answers;
 
-/// The bytes that a client was sent, and those that wait to be sent, are together what waited at first and then the lines of the replies to
-/// its own lines, in their order, each once.
+/// Take the bytes that a client was sent, and after them those that wait to be sent. They are what waited at first, and
+/// then the lines of the replies to its own lines, in their order, each once.
 pub fn a_client_is_sent_the_replies_to_its_lines<A: Answers>(answers: &A)
     ensures sent { (first new : Dialogue) (from after : A) →
         (all : Converses A.Answered first from new after) →
@@ -25,13 +25,14 @@ pub fn a_client_is_sent_the_replies_to_its_lines<A: Answers>(answers: &A)
     let _ = answers;
 }
 
-/// Behind any rounds of a socket that began with no client, in which clients are served and clients come, each line that is answered where clients are
-/// served is the next whole line of one client, which came with an empty dialogue and went on by the pieces that came for it alone.
+/// A socket began with no client, and then clients were served and clients came, in any order. Each line that is
+/// answered where clients are served is the next whole line of one client. That client came with an empty dialogue, and
+/// went on by the pieces that came for it alone.
 pub fn each_line_is_a_clients_next<A: Answers>(answers: &A)
     ensures lines { (first mid new : Slab Client) (before after : A) →
         IsVacant first → Rounds A.Answered first mid → AllGoOn A.Answered mid before new after →
         AnswersClients A.Answered before after }
-    // So lives each client that has a place, unless a read of it failed.
+    // This holds for each client that has a place, unless a read of it failed.
     ensures clients { (first new : Slab Client) →
         IsVacant first → Rounds A.Answered first new →
         (key : ℕ) → IfSome (get new key) (IsAlive A.Answered) }

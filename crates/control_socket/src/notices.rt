@@ -1,10 +1,10 @@
-//! What was refused to the control socket, so that it is told once.
+//! What was refused to the control socket, so that it is logged once.
 
 use history_model::Text;
 use std::alloc::{AllocError, Global};
 use std::io::{Error, ErrorKind};
 
-/// Refusals of one kind: the last, until something went well, and what is still to be told.
+/// Refusals of one kind: the last, until something went well, and what is still to be logged.
 #[derive(Clone, Copy)]
 struct Refusals {
     last: Option<Error>,
@@ -24,20 +24,20 @@ enum Told {
     Lock,
 }
 
-/// The refusals of the control socket. They take no memory until they are told.
+/// The refusals of the control socket. They take no memory until they are logged.
 #[derive(Clone, Copy)]
 pub(crate) struct Notices {
     accepts: Refusals,
     clients: Refusals,
-    // That a look at the socket's file, or at the lock's, was refused.
+    // That a check of the socket's file, or of the lock's, was refused.
     looks: Refusals,
     // That the socket's file can't be made again.
     files: Refusals,
-    // It was made again, and this was not told.
+    // It was made again, and this was not logged.
     is_made_again: bool,
     // That the lock can't be taken again.
     locks: Refusals,
-    // It was taken again, and this was not told.
+    // It was taken again, and this was not logged.
     is_taken_again: bool,
 }
 
@@ -73,38 +73,39 @@ impl Notices {
         }
     }
 
-    /// The socket's file and the lock's are those that were made: the next refusal to look at one, or to make it again, is told.
+    /// The socket's file and the lock's are those that were made. The next refusal to check one, or to make it again,
+    /// is logged.
     pub(crate) fn files_stand(&mut self) {
         self.looks.last = None;
         self.files.last = None;
         self.locks.last = None;
     }
 
-    /// Whether the socket's file or the lock's is there was not told.
+    /// The system refused to say whether the socket's file or the lock's is there.
     pub(crate) fn look_refused(&mut self, error: Error) {
         self.looks.note(error);
     }
 
-    /// The socket's file was gone, and is made again.
+    /// The socket's file was removed, and is made again.
     pub(crate) fn made_again(&mut self) {
         self.files.last = None;
         self.files.due = None;
         self.is_made_again = true;
     }
 
-    /// The socket's file is gone, and can't be made again.
+    /// The socket's file was removed, and can't be made again.
     pub(crate) fn not_made_again(&mut self, error: Error) {
         self.files.note(error);
     }
 
-    /// The lock's file was gone, and the lock is held on a new one.
+    /// The lock's file was removed, and the lock is held on a new one.
     pub(crate) fn taken_again(&mut self) {
         self.locks.last = None;
         self.locks.due = None;
         self.is_taken_again = true;
     }
 
-    /// The lock's file is gone, and no lock on a new one can be had.
+    /// The lock's file was removed, and no lock can be taken on a new one.
     pub(crate) fn not_taken_again(&mut self, error: Error) {
         self.locks.note(error);
     }
@@ -114,24 +115,25 @@ impl Notices {
         self.accepts.note(error);
     }
 
-    /// All clients that waited were taken: the next refusal is told again.
+    /// All clients that waited were taken: the next refusal is logged again.
     pub(crate) fn accepted(&mut self) {
         self.accepts.last = None;
     }
 
-    /// A client was let go for want of memory, or since a read or a write failed. One that only went away is not told.
+    /// A client was disconnected for want of memory, or since a read or a write failed. One that only went away is not
+    /// logged.
     pub(crate) fn let_go(&mut self, error: Error) {
         if !is_going_away(error.kind()) {
             self.clients.note(error);
         }
     }
 
-    /// A client had all its replies: the next one that is let go is told again.
+    /// A client had all its replies: the next one that is disconnected is logged again.
     pub(crate) fn ended_well(&mut self) {
         self.clients.last = None;
     }
 
-    /// The next line to be told. None also for want of memory for it: it then stays.
+    /// The next line to be logged. None also for want of memory for it: it then stays.
     pub(crate) fn next(&mut self, alloc: Global) -> Option<Text> {
         let (told, error) = self.due()?;
         let Ok(line) = line_of(alloc, told, error) else {
@@ -149,7 +151,7 @@ impl Notices {
         Some(Text::new(line))
     }
 
-    // What is to be told first, and the error behind it, if it ends with one.
+    // What has to be logged first, and the error at the end of its line, if it has one.
     fn due(&self) -> Option<(Told, Option<Error>)> {
         if self.accepts.due.is_some() {
             return Some((Told::Accept, self.accepts.due));

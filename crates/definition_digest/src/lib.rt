@@ -7,7 +7,6 @@ ghost use Rattle.serde_json.specs.Written.{compact_text, has_float};
 ghost use Rattle.serde_json.specs.View.{view};
 ghost use Rattle.sha2.specs.Sha256.{sha256};
 
-use json_kinds::json_value;
 use serde_json::Value;
 use sha2::{Digest, Sha256};
 use std::alloc::{AllocError, Global};
@@ -34,16 +33,6 @@ pub fn digest_of_value(alloc: Global, value: &Value) -> Result<DefinitionDigest,
     let digest = digest_of_text(text.as_str());
     drop(text);
     Ok(digest)
-}
-
-/// That of the definition that the bytes are. None: they are no JSON text.
-pub fn digest_of(alloc: Global, json: &[u8]) -> Result<Option<DefinitionDigest>, AllocError> {
-    let Some(value) = json_value(alloc, json)? else {
-        return Ok(None);
-    };
-    let digest = digest_of_value(alloc, &value);
-    drop(value);
-    Ok(Some(digest?))
 }
 
 fn digest_of_text(text: &str) -> DefinitionDigest

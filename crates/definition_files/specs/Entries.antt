@@ -1,4 +1,4 @@
--- The entries of a line: each choice of its fields beside each of the others.
+-- The entries of a line: each choice of its fields with each of the others.
 use Rattle.std.specs.Prelude.{◌≡◌, ℕ, Bool, not, ◌&&◌, ◌++◌, [], ◌∷◌, List, map, Option, Some, None, if◌then◌else◌}
 use Rattle.std.specs.List.{flat_map, list_any}
 use Rattle.history_model.specs.declared.Entry.{Entry}

@@ -31,7 +31,8 @@ is_fault (Err f) = true
 abbrev pub LineJudged : Type 0
 LineJudged = List ℕ × LineVerdict
 
--- From old to new this one was judged beside. Nothing is claimed of a keeper that does not tell.
+-- From old to new this one was judged too. Nothing is claimed of a keeper that does not record what it
+-- judged.
 abbrev pub TellsLine : Option (List LineJudged) → List LineJudged → Option (List LineJudged) → Type 0
 TellsLine old found new =
     (after : List LineJudged) → new ≡ Some after

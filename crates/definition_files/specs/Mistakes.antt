@@ -1,4 +1,4 @@
--- What a definition may say and seldom means, as far as its keys tell (launchd.plist(5)).
+-- What a definition may say and seldom means, as far as its keys show (launchd.plist(5)).
 use Rattle.std.specs.Prelude.{ℕ, Bool, true, false, not, ◌&&◌, ◌||◌, ◌==◌, nat_lt, List, [], ◌∷◌, length, Option, Some, None, is_some, is_none, ◌%◌, if◌then◌else◌}
 use Rattle.std.specs.List.{list_any, filter}
 use Rattle.history_model.specs.declared.Entry.{Entry}
@@ -7,7 +7,7 @@ use Rattle.history_model.specs.Definitions.{has_sockets}
 use Rattle.definition_files.specs.declared.check.mistakes.Mistake.{Mistake}
 use Rattle.definition_files.specs.declared.check.mistakes.Mistake.TheVariants.{NothingStarts, SeveralConditions, AnyFailure, ShortInterval, LeftOut, NeverMatches, EachMinute, EachHour, ShortMonth, EitherDay, NeverWaited, NeverQueued, HastyQueue, HastyEnd, LongInterval, CrashAlone, OnceKept, NeverKilled, LongEnding, LostOutput}
 
--- it stands, and is true
+-- it is set, and true
 abbrev pub is_true : Option Bool → Bool
 is_true (Some value) = value
 is_true None = false
@@ -89,7 +89,7 @@ abbrev pub is_long : Option ℕ → Bool
 is_long (Some interval) = nat_lt 86400 interval && interval % 1000 == 0 && not (interval % 86400 == 0)
 is_long None = false
 
--- a crash alone starts the job anew; an exit with a failing code is none
+-- only a crash starts the job again; an exit with a failing code is not a crash
 abbrev pub is_of_crashes_alone : Described → Bool
 is_of_crashes_alone d = is_true d.crashed && is_none d.successful_exit && not d.keep_alive
 
@@ -139,7 +139,7 @@ is_made NeverKilled d = d.exit_time_out == 0
 is_made LongEnding d = nat_lt 120 d.exit_time_out
 is_made LostOutput d = loses_output d
 
--- all, in the order in which they are told
+-- all, in the order in which they are shown
 abbrev pub all_mistakes : List Mistake
 all_mistakes =
     NothingStarts ∷ SeveralConditions ∷ AnyFailure ∷ ShortInterval ∷ LeftOut ∷ NeverMatches

@@ -29,8 +29,8 @@ verdict_on came.Nothing = Well
 abbrev pub FileRead : Type 0
 FileRead = List ℕ × Contents
 
--- From old to new exactly these files were read, in this order. Nothing is claimed of a source that
--- does not tell what it read.
+-- From old to new exactly these files were read, in this order. Nothing is claimed of a source that does
+-- not record what it read.
 abbrev pub Tells : Option (List FileRead) → List FileRead → Option (List FileRead) → Type 0
 Tells old found new =
     (after : List FileRead) → new ≡ Some after

@@ -8,8 +8,8 @@ ghost use Rattle.definition_files.specs.Coming.{last_looked_at};
 use calendar_due::{Calendar, Zone};
 use history_model::{Entry, MAX_WALL};
 
-/// How far ahead a minute of the calendar is looked for, in seconds: 2,930 days. Any entry that matches at all on a civil clock
-/// without gaps does so in each 2,922 days: between the 29th of February 2096 and that of 2104 there is none.
+/// How far ahead a minute of the calendar is looked for, in seconds: 2,930 days. Any entry that matches at all on a civil clock without
+/// gaps does so in each 2,922 days: there is no 29th of February between those of 2096 and 2104.
 const FARTHEST: u64 = 253_152_000;
 
 /// The least whole minute after the second that some entry matches in the zone; none if there is none within 2,930 days. Both in

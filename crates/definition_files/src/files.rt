@@ -18,11 +18,11 @@ pub struct Asked<'a> {
     pub longest: usize,
     /// The zone of the entries of calendars.
     pub zone: &'a Zone,
-    /// The line that names the zone, where something is told in it; empty, if it need not be named.
+    /// The line that names the zone, if something is shown in it; empty, if it need not be named.
     pub zone_line: &'a str,
     /// The second of Unix time from which on the clock is looked at.
     pub from: u64,
-    /// What is told is told as objects of JSON, a line each.
+    /// Whether the report is made of objects of JSON, a line each.
     pub is_json: bool,
 }
 
@@ -31,17 +31,17 @@ pub struct Asked<'a> {
 pub enum Contents {
     /// These bytes were read.
     Bytes(Vec<u8>),
-    /// It can't be read; and this was told.
+    /// It can't be read; and this was reported.
     Unread,
-    /// It is too long; and this was told.
+    /// It is too long; and this was reported.
     TooLong,
-    /// It is a folder without a definition; and this was told.
+    /// It is a folder without a definition; and this was reported.
     Nothing,
 }
 
 /// Reads the files of definitions.
 pub trait DefinitionSource {
-    /// What was read, oldest first: each file's path, and what it came to. A source that does not tell it has none.
+    /// What was read, oldest first: each file's path, and what it came to. None for a source that does not record it.
     ghost told: { Self → Option (List FileRead) };
 
     /// What the file came to. The one refusal is of memory.
@@ -50,7 +50,7 @@ pub trait DefinitionSource {
             ((string_bytes file.now.path, contents) ∷ []) (Self.told self.new)) };
 }
 
-/// The files of the system; `-` is standard input. They don't tell what was read of them.
+/// The files of the system; `-` is standard input. They don't record what was read of them.
 #[derive(Clone, Copy)]
 pub struct HostFiles<'a> {
     pub host: &'a HostRuntime,
@@ -69,7 +69,7 @@ impl DefinitionSource for HostFiles<'_> {
     }
 }
 
-//// The path that stands for standard input.
+/// The path that means standard input.
 const INPUT: &str = "-";
 
 // The bytes of standard input; none if they are more than `longest`.

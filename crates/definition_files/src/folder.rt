@@ -43,7 +43,7 @@ pub(crate) fn laid_out_with(
     Ok(bytes)
 }
 
-// Adds the tokens that are left, which are at most so many.
+// Adds the tokens that are left, of which there are `most` at most.
 fn put_each(
     reader: &mut Reader<'_>,
     most: usize,
@@ -75,9 +75,9 @@ fn names_service(token: Token<'_>) -> bool {
     }
 }
 
-/// Writes the bytes as a file of this name, with `.json` behind it, in the folder: a new one, and never over what is there. Whether it
-/// did; if not, that was told with the system's reason, and nothing else was changed. A file that could not be written whole is
-/// told too, and stays.
+/// Writes the bytes as a file of this name, followed by `.json`, in the folder: a new one, and never over what is there. It returns whether it
+/// did. If not, it reported that with the system's reason, and changed nothing else. If a file could not be written whole, it reports that too,
+/// and the file stays.
 pub(crate) fn put_new(
     host: &HostRuntime,
     alloc: Global,

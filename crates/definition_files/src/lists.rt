@@ -14,7 +14,7 @@ use run_times::Ink;
 use run_times::telling::Outcome;
 use std::alloc::{AllocError, Global};
 
-/// The JSON of a property list in XML; none if the bytes are no such list, or one that is refused. `AllocError` if memory ran out.
+/// The JSON of a property list in XML; None if the bytes are not such a list, or are a refused one. `AllocError` if memory ran out.
 pub fn json_of_list(alloc: Global, bytes: &[u8]) -> Result<Option<Vec<u8>>, AllocError> {
     match json_of(alloc, bytes) {
         Ok(made) => Ok(Some(made)),
@@ -23,9 +23,10 @@ pub fn json_of_list(alloc: Global, bytes: &[u8]) -> Result<Option<Vec<u8>>, Allo
     }
 }
 
-/// Each of the lists as a definition in JSON, a line for each member and item: a file of its own name in the folder, never over what is
-/// there, or in the text if there is no folder. What is wrong with a list is told, with its line. The status is 65 if a file can't be
-/// read, or can't be written; else 1 if a list was refused or is too long: the others are written all the same; else 0.
+/// Each of the lists as a definition in JSON, a line for each member and item. It is a file of its own name in the folder, never over what
+/// is there; without a folder it is in the text. What is wrong with a list is reported, with its line. The status is 65 if a file can't be
+/// read, or can't be written. Otherwise it is 1 if a list was refused or is too long: the others are written all the same. Otherwise it is
+/// 0.
 pub fn lists_as_json<S: DefinitionSource>(
     host: &HostRuntime,
     alloc: Global,
@@ -96,7 +97,7 @@ fn add_file<S: DefinitionSource>(
     }
 }
 
-// Adds the list as JSON, or tells why there is nothing to add.
+// Adds the list as JSON, or reports why there is nothing to add.
 fn add_list(
     host: &HostRuntime,
     alloc: Global,
@@ -162,7 +163,7 @@ fn keep_list(
     }
 }
 
-// The name of a file, without the folders before it and `.plist` behind.
+// The name of a file, without the folders before it and without `.plist` at its end.
 fn stem_of(path: &str) -> &str {
     let name = match path.rsplit_once('/') {
         Some((_, name)) => name,

@@ -26,9 +26,9 @@ struct Job {
     by_interval: Option<u64>,
 }
 
-/// So many coming starts of the definitions, in the order of time, each after the second. Each file is read once. An interval is counted
-/// from there, as if the job were loaded then. The status is 65 if a file can't be read or is no definition: the others' starts are
-/// written all the same. A job that the clock never starts is told.
+/// The next `count` starts of the definitions, in the order of time, each after the second. Each file is read once. An interval is counted from
+/// the second, as if the job were loaded then. The status is 65 if a file can't be read or is not a definition: the others' starts are written
+/// all the same. A job that the clock never starts is reported.
 pub fn coming_starts<S: DefinitionSource>(
     host: &HostRuntime,
     alloc: Global,
@@ -57,7 +57,7 @@ pub fn coming_starts<S: DefinitionSource>(
     }
 }
 
-// Adds the jobs of the files, and answers the verdicts on them.
+// Adds the jobs of the files, and returns the verdicts on them.
 fn add_jobs<S: DefinitionSource>(
     host: &HostRuntime,
     alloc: Global,
@@ -79,7 +79,7 @@ fn add_jobs<S: DefinitionSource>(
     Ok(verdicts)
 }
 
-// Adds the file's job, if it has one. A fault was told.
+// Adds the file's job, if it has one. A fault was reported.
 fn add_job<S: DefinitionSource>(
     host: &HostRuntime,
     alloc: Global,
@@ -141,7 +141,7 @@ fn job_of(of: &Asked<'_>, def: Def) -> Job {
     }
 }
 
-// Tells how many jobs the clock never starts; of a file alone why.
+// Reports how many jobs the clock never starts. For a single file it says why.
 fn tell_never(host: &HostRuntime, files: &[Found], jobs: &[Job]) {
     let mut clockless: u64 = 0;
     for job in jobs {
@@ -155,7 +155,7 @@ fn tell_never(host: &HostRuntime, files: &[Found], jobs: &[Job]) {
     }
 }
 
-/// Tells that so many of the jobs have no clock, if it is one at least; behind the name of what has them, if there is one.
+/// Reports how many of the jobs have no schedule, if it is one at least. The name of what has them comes first, if there is one.
 pub fn tell_clockless(host: &HostRuntime, name: &str, clockless: u64, jobs: u64) {
     if clockless == 0 {
         return;
@@ -222,7 +222,7 @@ fn interval_of(job: &Job, second: u64) -> Option<u32> {
     }
 }
 
-// The next start is the one behind this second.
+// The next start is the one after this second.
 fn go_on(job: &mut Job, second: u64, zone: &Zone) {
     if job.by_interval == Some(second) {
         job.by_interval = interval_after(job.def.start_interval().unwrap_or(0), second);
@@ -232,7 +232,7 @@ fn go_on(job: &mut Job, second: u64, zone: &Zone) {
     }
 }
 
-// The place of the job that the clock wants first, of several the first; the place behind the jobs if it wants none.
+// The index of the job that the clock wants first, of several the first; the length of the slice if it wants none.
 fn soonest(jobs: &[Job]) -> usize {
     let mut found = jobs.len();
     let mut least = u64::MAX;

@@ -53,7 +53,7 @@ impl Verdicts {
         }
     }
 
-    /// The exit status of a check. Whether there are warnings that count as refusals is handed in.
+    /// The exit status of a check. The caller says whether there are warnings that count as refusals.
     pub(crate) fn check_status(self, is_warned: bool) -> u8
         ensures { result ≡ if self.has_unread then statuses.BAD_FILE else
             if self.has_refused || is_warned then statuses.REFUSED else 0 }

@@ -6,19 +6,19 @@ use Rattle.std.specs.List.{ends_with}
 use Rattle.files_and_process.specs.declared.own_process.program.Program.{Program}
 use Rattle.files_and_process.specs.declared.own_process.program.Program.TheVariants.{Jobd, Jobctl, Jobscope, LookOut}
 
--- the path is this name, or its last part is, which is the name behind a slash at the end
+-- the path is this name, or its last part is, which is the name after a slash at the end
 abbrev pub is_named : List ℕ → List ℕ → Bool
 is_named path name = pointwise nat_eq path name || ends_with nat_eq path (47 ∷ name)
 
--- the program that a path means: a launcher's look-out by this name without a folder; else by its last part, and jobd, if that is the name
--- of neither of the others
+-- The program that a path means: a launcher's helper by this name without a folder, else the program of its last part.
+-- It is jobd if that is the name of neither of the others.
 abbrev pub program_meant : List ℕ → Program
 program_meant path =
     if is_named path (codes "jobctl") then Jobctl else (
     if is_named path (codes "jobscope") then Jobscope else (
     if pointwise nat_eq path (codes "jobd-look-out") then LookOut else Jobd))
 
--- the program that the words mean with which it was started, the first of which is its name
+-- the program that its arguments mean, the first of which is its name
 abbrev pub program_of : List (List ℕ) → Program
 program_of [] = Jobd
 program_of (name ∷ words) = program_meant name

@@ -1,4 +1,5 @@
-//! Files and folders that are this process's own: for its user alone, or held by a lock that the system lets go with the process.
+//! Files and folders that are this process's own: for its user alone, or held by a lock that the system releases when
+//! the process exits.
 
 mod appended;
 mod folder;

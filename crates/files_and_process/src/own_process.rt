@@ -1,5 +1,5 @@
-//! What a process has to know of itself: the words that it was started with, whether its standard streams are open, whether it sees its children's
-//! ends, and which limits and ignored signals it was started with; and what it does by its name.
+//! What a process has to know of itself: its arguments, whether its standard streams are open, and whether it sees the
+//! exits of its children. Which limits and ignored signals it was started with, and what it does by its name.
 
 mod by_name;
 mod child;

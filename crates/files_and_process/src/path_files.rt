@@ -1,4 +1,4 @@
-//! The files that the paths of a command line stand for, and the reading of one within a bound.
+//! The files that the paths of a command line name, and how one is read within a bound.
 
 mod files;
 mod reading;

@@ -1,4 +1,4 @@
-//! A socket's file: bound, told from others, and removed.
+//! A socket's file: bound, distinguished from others, and removed.
 
 mod held;
 mod made;
@@ -18,8 +18,8 @@ use std::{fs, io};
 /// How many clients are turned away at most after a bind in place: the system lets no more wait at a socket.
 const WAITING: u32 = 4_096;
 
-/// Which file a socket is: the number of its device, and that of the file on it. As long as the socket's listener lives, no
-/// other file has the same.
+/// Which file a socket is: the number of its device, and that of the file on it. While the socket's listener is open,
+/// no other file has the same.
 #[derive(Clone, Copy)]
 pub struct SocketMark {
     device: u64,
@@ -28,15 +28,18 @@ pub struct SocketMark {
     alloc: Global,
 }
 
-/// Binds a listener at the path, for this user alone (mode 0600), and tells which file it is. A socket file on which nobody
-/// listens any more is replaced. `AddrInUse`: somebody listens at the path, or a file of another kind is there; it is left as
-/// it is. Any other error is that of the system's call, or says why the folder is not safe; then no file of ours is left.
+/// Binds a listener at the path, for this user alone (mode 0600), and says which file it is. A socket file on which
+/// nobody listens any more is replaced. `AddrInUse`: somebody listens at the path, or a file of another kind is there;
+/// it is left as it is. Any other error is that of the system's call, or says why the folder is not safe; then no file
+/// of ours is left.
 ///
-/// The folder is held open, and looks, modes and removals are made in it, wherever its path leads by then. If it is this user's or root's,
-/// and nobody else may write in it, the socket is bound in place: the system makes the file by the process's own mask, its mode is set in
-/// a second step, and clients that came in between are closed. In any other folder the socket is bound in a new one beside its place, for this
-/// user alone, gets its mode there, and comes to its place by a hard link, which fails if something is there. So nobody can put another file
-/// in its place before it has its mode. Where no such folder or link can be made, the bind is refused.
+/// The folder is held open. Checks, modes and removals are made in it, wherever its path leads by then. The socket is
+/// bound in place if the folder is this user's or root's, and nobody else may write in it. Then the system makes the
+/// file by the process's own mask, and its mode is set in a second step. Clients that came in between are closed.
+///
+/// In any other folder the socket is bound in a new one next to its place, for this user alone, and gets its mode
+/// there. It comes to its place by a hard link, which fails if something is there. So nobody can put another file in
+/// its place before it has its mode. Where no such folder or link can be made, the bind is refused.
 pub fn bind<R: Files<File = File> + Net>(
     rt: &R,
     alloc: Global,
@@ -56,8 +59,9 @@ pub fn bind<R: Files<File = File> + Net>(
     answer
 }
 
-/// Removes the socket's file if it is the one of the mark. Any other file at the path is left, and so is this one if its folder can't be
-/// opened. It is called while the listener lives, since the system may give the numbers of a mark anew after that.
+/// Removes the socket's file if it is the one of the mark. Any other file at the path is left, and so is this one if
+/// its folder can't be opened. Call it while the listener is open: after that the system may give the numbers of a mark
+/// to another file.
 pub fn remove<R: Files<File = File>>(rt: &R, path: &str, mark: SocketMark) {
     let (folder, name) = parts_of(path);
     if let Ok(within) = HeldFolder::open(rt, mark.alloc, folder, None) {
@@ -68,8 +72,8 @@ pub fn remove<R: Files<File = File>>(rt: &R, path: &str, mark: SocketMark) {
     }
 }
 
-/// Whether the file at the path is the one of the mark, as long as its listener lives. False: another is there, or none. An error is that of
-/// the system's look: then the file may be there.
+/// Whether the file at the path is the one of the mark, as long as its listener is open. False: another is there, or
+/// none. An error is that of the system's call: then the file may be there.
 pub fn is_at<R: Files>(rt: &R, path: &str, mark: SocketMark) -> io::Result<bool> {
     match mark_at(rt, mark.alloc, path) {
         Ok(Some(found)) => Ok(found.device == mark.device && found.inode == mark.inode),
@@ -206,7 +210,8 @@ fn make_private<R: Files>(rt: &R, path: &str, listener: &UnixListener) -> io::Re
     Ok(())
 }
 
-// Removes the socket at the place, if nobody listens behind the door, a path that leads there. `AddrInUse`: the file is another, or is in use.
+// Removes the socket at the place, if nobody listens at the door, a path that leads there. `AddrInUse`: the file is
+// another, or is in use.
 fn give_way<R: Files + Net>(rt: &R, alloc: Global, place: &str, door: &str) -> io::Result<()> {
     let mark = match mark_at(rt, alloc, place) {
         Ok(Some(mark)) => mark,

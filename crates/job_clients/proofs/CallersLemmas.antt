@@ -9,7 +9,7 @@ use Rattle.job_clients.specs.declared.caller.Gathered.{Gathered}
 use Rattle.job_clients.specs.declared.caller.Origin.{Origin}
 
 module _ {C : Type 0} where
-  -- what stands under each key, by what the slab has there
+  -- what is under each key, by what the slab has there
   pub sets_by : (key : ℕ) (slot : Option (Caller C)) (old new : Slab (Caller C)) → Updates old new key slot → Sets key (option_map coming_of slot) (coming_at old) (coming_at new)
   sets_by key slot old new updates = record {
     its = ap (option_map coming_of) updates.changed;

@@ -21,7 +21,7 @@ WaitsOrLost MayGoOn = ⊥
 WaitsOrLost Whole = ⊥
 WaitsOrLost (Lost loss) = ⊤
 
--- a piece comes behind what came before, if the request is then no longer than it may be; else the client is lost
+-- a piece comes after what came before, if the request is then no longer than it may be; else the client is lost
 abbrev pub Takes : List ℕ → Gathered → List ℕ → List ℕ → Type 0
 Takes piece Waits old new = ⊥
 Takes piece MayGoOn old new = (new ≡ old ++ piece) × IsShort new
@@ -35,7 +35,7 @@ Gives MayGoOn sends left bytes = Consumes sends left bytes
 Gives Whole sends left bytes = Consumes sends left bytes × IsAtEnd left
 Gives (Lost loss) sends left bytes = ⊤
 
--- More of a client's request came: some bytes behind those that came before. The client came to the same sockets still.
+-- More of a client's request came: some bytes after those that came before. The client came to the same sockets still.
 pub record Grows {C : Type 0} (bytes : List ℕ) (old new : Caller C) : Type 0 where
   pub request : new.exchange.request ≡ old.exchange.request ++ bytes
   pub within : IsShort old.exchange.request → IsShort new.exchange.request
@@ -98,7 +98,7 @@ coming_in callers = coming_at callers.held
 abbrev pub IsNobody : (ℕ → Option Coming) → Type 0
 IsNobody coming = (key : ℕ) → coming key ≡ None
 
--- what stands under the key is this now; under each other one it is as it was
+-- what is under the key is this now; under each other one it is as it was
 pub record Sets (key : ℕ) (slot : Option Coming) (old new : ℕ → Option Coming) : Type 0 where
   pub its : new key ≡ slot
   pub others : (other : ℕ) → other ≢ key → new other ≡ old other
@@ -113,7 +113,7 @@ pub record ComesIn (origin : Origin) (old new : ℕ → Option Coming) : Type 0 
 abbrev pub MayComeIn : Origin → (ℕ → Option Coming) → (ℕ → Option Coming) → Type 0
 MayComeIn origin old new = ComesIn origin old new ⊎ (new ≡ old)
 
--- Of the request of the client under the key some bytes came, behind those that came before, so that it is still no longer than a request may be.
+-- Of the request of the client under the key some bytes came, after those that came before, so that it is still no longer than a request may be.
 -- If there is no client, nothing comes.
 abbrev pub GrowsFrom : ℕ → Option Coming → (ℕ → Option Coming) → (ℕ → Option Coming) → Type 0
 GrowsFrom key None old new = Sets key None old new

@@ -6,7 +6,7 @@ use Rattle.job_clients.specs.declared.places.Heard.{Heard}
 use Rattle.job_clients.specs.declared.places.Place.{Place}
 use Rattle.job_clients.specs.declared.places.Place.TheVariants.{Free, Of, Nowhere, Next, Later}
 
--- Room for so many clients, 256 at most: a third of them, 64 at most and one at least, may be of one job.
+-- Room for `clients` clients, 256 at most: a third of them, 64 at most and one at least, may be of one job.
 abbrev pub room_by : ℕ → CallerRoom
 room_by clients = record {
   of_a_job = min (max (min clients 256 / 3) 1) 64;
@@ -24,11 +24,11 @@ how_many_jobs [] = 0
 how_many_jobs (bind ∷ others) =
     if list_any (λ one. one == bind) others then how_many_jobs others else suc (how_many_jobs others)
 
--- the job has as many clients as a job may have
+-- the job has the most clients that a job may have
 unfoldable pub is_at_bound : CallerRoom → List Heard → ℕ → Bool
 is_at_bound room callers bind = nat_le room.of_a_job (own callers bind)
 
--- all jobs together have as many as all may have
+-- all jobs together have the most that all may have
 unfoldable pub is_full : CallerRoom → List Heard → Bool
 is_full room callers = nat_le room.in_all (length callers)
 
@@ -76,7 +76,7 @@ by_first otherwise (Some key) = Of key
 -- Where the client can be, if this one may go for it:
 abbrev pub place_by : Bool → Bool → Bool → Bool → Option ℕ → Place
 place_by is_at_bound is_full is_below_share gives_way first =
-    -- at the bound of its job it takes the place of that one, and is closed if there is none
+    -- at the bound of its job it takes the place of that one, and has no place if there is none
     if is_at_bound then by_first Nowhere first
     -- at the bound of all jobs likewise, but it waits if there is none, and the others give way to it if its job is below its share
     else if is_full then by_first (if is_below_share then Next else Later) first
@@ -84,7 +84,7 @@ place_by is_at_bound is_full is_below_share gives_way first =
     else if gives_way then Later
     else Free
 
--- the place of a further client of the bind at this moment
+-- the place of a further client of the bind at this time
 abbrev pub IsPlace : CallerRoom → List Heard → List ℕ → ℕ → ℕ → Place → Type 0
 IsPlace room callers waiting bind up place =
     (first : Option ℕ)

@@ -10,7 +10,7 @@ use history_model::{JobNo, SECOND};
 use socket_demand::Exchange;
 use std::io::ErrorKind;
 
-/// What became of a client's request in a round.
+/// What became of a client's request in a pass of the event loop.
 #[derive(Clone, Copy)]
 pub enum Gathered {
     /// No more has come.
@@ -19,18 +19,18 @@ pub enum Gathered {
     MayGoOn,
     /// The client closed its half: the request is whole.
     Whole,
-    /// The client is gone, or is to be let go for this reason.
+    /// The client has left, or the launcher must disconnect it for this reason.
     Lost(Option<Loss>),
 }
 
-/// How many pieces are read in a round.
+/// How many pieces are read in a pass of the event loop.
 const PIECES: u32 = 16;
 
-/// A client of which nothing comes for so many milliseconds is let go.
+/// For how many milliseconds a client may send nothing before the launcher disconnects it.
 const LONGEST_SILENCE: u64 = 60 * SECOND;
 
-/// To whose sockets a client came: the job, and the bind that gave it these. The job's number alone does not tell: another job may
-/// have it since.
+/// To whose sockets a client came: the job, and the bind that gave it these. The job's number alone does not say:
+/// another job may have it since.
 #[derive(Clone, Copy)]
 pub struct Origin {
     pub job: JobNo,
@@ -56,8 +56,8 @@ pub struct Caller<C = Client> {
 }
 
 impl<C> Caller<C> {
-    /// The `up` at which it came, as one that comes now, by this bind, is to see it: one of its own job whose request is whole came no
-    /// earlier than that.
+    /// The `up` at which it counts as come, for a client that comes now by this bind. If it is of the same job and its
+    /// request is whole, it counts as come at this `up`.
     pub(crate) fn came_before(&self, bind: u64, up: u64) -> u64 {
         if self.turn.is_some() && self.origin.bind == bind {
             up
@@ -68,8 +68,8 @@ impl<C> Caller<C> {
 }
 
 impl<C: Sender> Caller<C> {
-    /// Takes what came of the request by this `up`, at most 65,536 bytes. Of one whose request is whole nothing more comes, and it may be
-    /// silent.
+    /// Takes what came of the request by this `up`, at most 65,536 bytes. Once a client's request is whole, nothing
+    /// more comes of it, and it may be silent.
     pub fn gather(&mut self, up: u64) -> Gathered
         ensures { Hears C.remaining result self.old self.new }
     {

@@ -1,4 +1,4 @@
-//! The clients of jobs' sockets whose request still comes, as many as there is room for.
+//! The clients of jobs' sockets whose request still comes, within the room that there is.
 
 ghost use Rattle.std.specs.Prelude.{◌≡◌, IfOk, None};
 ghost use Rattle.std.specs.Option.{option_map};
@@ -55,7 +55,7 @@ fn room_of(in_all: usize) -> CallerRoom
 }
 
 impl<C: Sender + Drop> Callers<C> {
-    /// Room for as many clients as may be heard, with none yet.
+    /// Room for all clients that may be heard, with none yet.
     pub fn new(alloc: Global) -> Result<Callers<C>, AllocError>
         ensures { IfOk result (λ callers. IsNobody (coming_in callers)) }
     {
@@ -76,7 +76,8 @@ impl<C: Sender + Drop> Callers<C> {
         })
     }
 
-    /// How many are heard at a time from now on, and a third of them, at most 64, of one job. Nobody goes by it: who is heard still is.
+    /// How many are heard at a time from now on, and a third of them, at most 64, of one job. This disconnects nobody:
+    /// who is heard still is.
     pub fn set_room(&mut self, in_all: usize)
         ensures room { self.new ≡ record self.old { room = room_by in_all } }
         ensures coming { coming_in self.new ≡ coming_in self.old }
@@ -133,8 +134,8 @@ impl<C: Sender + Drop> Callers<C> {
         rouse(&mut self.held, key);
     }
 
-    /// A pass over all sockets begins: those that had no place in the last one are those that wait. The share of a job is reckoned anew
-    /// from the jobs whose clients are heard or wait.
+    /// A pass over all sockets begins: those that had no place in the last one are those that wait. It counts the share
+    /// of a job from the jobs whose clients are heard or wait.
     pub fn begin_pass(&mut self)
         ensures { coming_in self.new ≡ coming_in self.old }
     {
@@ -150,7 +151,8 @@ impl<C: Sender + Drop> Callers<C> {
         self.room.share = share_of(self.room.in_all, jobs_among(&self.binds));
     }
 
-    /// Where a client can be that comes at this `up`, by this bind. None whose request is whole goes for another one of its own job.
+    /// Where a client can be that comes at this `up`, by this bind. A client whose request is whole is not disconnected
+    /// for another one of its own job.
     pub fn place(&mut self, bind: u64, up: u64) -> Place
         ensures { coming_in self.new ≡ coming_in self.old }
     {
@@ -187,7 +189,8 @@ impl<C: Sender + Drop> Callers<C> {
         }
     }
 
-    /// The request of the client of the key is whole: from this `up` on it waits for a place, behind those that wait already.
+    /// The request of the client of the key is whole: from this `up` on it waits for a place, after those that wait
+    /// already.
     pub fn line_up(&mut self, key: usize, up: u64)
         ensures { coming_in self.new ≡ coming_in self.old }
     {
@@ -209,7 +212,7 @@ impl<C: Sender + Drop> Callers<C> {
         first
     }
 
-    /// Takes a client in, for which there is a place. After an `Err` it is let go, for this reason.
+    /// Takes in a client for which there is a place. After an `Err` the client is disconnected, for this reason.
     pub fn welcome(
         &mut self,
         registry: &Registry,

@@ -1,5 +1,6 @@
-//! The clients of jobs' sockets whose request still comes: their bytes, as many as there is room for, which of them goes for a further
-//! one, and why one was let go. Whoever serves them says when a request is whole.
+//! The clients of jobs' sockets whose request still comes. It holds their bytes, within the room that there is. It says
+//! which of them is disconnected for a further one, and why one was disconnected. Whoever serves them says when a
+//! request is whole.
 #![tactic(auto)]
 
 mod caller;

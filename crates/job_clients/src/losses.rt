@@ -1,5 +1,5 @@
-//! The clients of jobs' sockets that were let go, and why: each reason is told once, until a client of its job comes through a minute
-//! later or more.
+//! The clients of jobs' sockets that were disconnected, and why. The launcher logs each reason once, until a client of
+//! its job comes through a minute later or more.
 
 use crate::caller::Origin;
 use history_model::{JobNo, Refusal, Text};
@@ -8,7 +8,7 @@ use std::alloc::{AllocError, Global};
 use std::collections::{BTreeMap, VecDeque};
 use std::io::{Error, ErrorKind};
 
-/// Why a client was let go.
+/// Why a client was disconnected.
 #[derive(Clone, Copy)]
 pub enum Loss {
     /// The request is longer than a request may be.
@@ -29,7 +29,7 @@ pub enum Loss {
 }
 
 impl Loss {
-    /// Of a client that could not be read. One that only went away is not told.
+    /// Of a client that could not be read. `None`: it only went away, and this is not logged.
     pub fn of_read(error: Error) -> Option<Loss> {
         match error.kind() {
             ErrorKind::BrokenPipe | ErrorKind::ConnectionReset | ErrorKind::ConnectionAborted => {
@@ -39,7 +39,7 @@ impl Loss {
         }
     }
 
-    /// Of a connection that the launcher refused. One of a job that is leaving is not told.
+    /// Of a connection that the launcher refused. `None` for a job that is leaving: this is not logged.
     pub fn of_refusal(refusal: Refusal) -> Option<Loss> {
         match refusal {
             Refusal::TooManyConnections => Some(Loss::QueueFull),
@@ -66,13 +66,14 @@ impl Loss {
     }
 }
 
-/// How many lines wait to be told. Where there is no room for one, the next loss of its kind is told.
+/// How many lines wait to be logged. Where there is no room for one, the next loss of its kind is logged.
 const ROOM: usize = 64;
 
-/// For how many milliseconds a reason that was told is told no second time, whoever comes through meanwhile.
+/// For how many milliseconds a logged reason is not logged again, whoever comes through meanwhile.
 const QUIET: u64 = 60_000;
 
-/// The reasons that were told of a job's clients, by the bind that gave it its sockets, and the `up` of the first of them.
+/// The reasons that were logged of a job's clients, by the bind that gave it its sockets, and the `up` of the first of
+/// them.
 #[derive(Drop)]
 struct Told {
     bind: u64,
@@ -80,7 +81,7 @@ struct Told {
     reasons: Vec<String>,
 }
 
-/// What is to be told, and what was told of each job.
+/// What waits to be logged, and what was logged of each job.
 #[derive(Drop)]
 pub struct Losses {
     alloc: Global,
@@ -102,7 +103,8 @@ impl Losses {
         self.waiting.pop_front()
     }
 
-    /// A client was let go at this `up` that came to these sockets, of the job of this label. Want of memory drops the line.
+    /// A client that came to these sockets, of the job of this label, was disconnected at this `up`. Want of memory
+    /// drops the line.
     pub fn note(&mut self, origin: Origin, label: &str, loss: Loss, up: u64) {
         let Ok(reason) = loss.words(self.alloc) else {
             return;
@@ -156,7 +158,8 @@ impl Losses {
         }
     }
 
-    /// A client of the job came through at this `up`: each loss is told again, if the first that was told is a minute old.
+    /// A client of the job came through at this `up`: each loss is logged again, if the first that was logged is a
+    /// minute old.
     pub fn came_through(&mut self, job: JobNo, up: u64) {
         if self.told.is_empty() {
             return;

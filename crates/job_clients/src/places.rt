@@ -1,10 +1,11 @@
-//! Where a further client of a job's socket can be, and which of the clients whose request still comes goes for it.
+//! Where a further client of a job's socket can be. Which of the clients whose request still comes is disconnected for
+//! it.
 
 ghost use Rattle.std.specs.Prelude.{◌≡◌, ◌≤◌, ◌⊎◌, max, ◌/◌};
 ghost use Rattle.std.specs.Option.{IfSome, MatchOption};
 ghost use Rattle.job_clients.specs.Places.{IsFirstOld, IsPlace, by_first, gives_way, how_many_jobs, is_at_bound, is_below_share, is_full, is_rival, others_wait, place_by};
 
-/// After how many milliseconds a client may have to go for a further one.
+/// After how many milliseconds a client may be disconnected for a further one.
 const OLD: u64 = 5_000;
 
 /// A client whose request still comes: its key, the bind that gave the job the socket to which it came, and the `up` at which it
@@ -28,9 +29,10 @@ pub struct CallerRoom {
 #[derive(Clone, Copy)]
 pub enum Place {
     Free,
-    /// In the place of the client of this key, which is let go.
+    /// In the place of the client of this key, which is disconnected.
     Of(usize),
-    /// Nowhere, since its job has as many as a job may have. Whoever takes clients in leaves it in the system's queue.
+    /// Nowhere, since its job has all the clients that a job may have. Whoever takes clients in leaves it in the
+    /// system's queue.
     Nowhere,
     /// In the system's queue, until there is a place. Its job has fewer than its share, so the others give way.
     Next,
@@ -38,13 +40,18 @@ pub enum Place {
     Later,
 }
 
-/// The place of a further client that comes at this `up`, by this bind. `waiting` are the binds for which there was no place, though
-/// their jobs had fewer than their share.
+/// The place of a further client that comes at this `up`, by this bind. `waiting` are the binds for which there was no
+/// place, though their jobs had fewer than their share.
 ///
-/// A place that is free is taken from nobody. It is for whoever comes, but if clients of other jobs wait only for a job that has fewer
-/// than its share. If its job has as many as a job may have, it takes the place of the first of these that came 5 seconds ago or more,
-/// and has none if there is none. If all jobs have as many as all may have, it takes the place of the first of all that came 5 seconds
-/// ago or more, or of the first of its own job's, if that has its share and others wait; if there is none, it waits.
+/// A client takes a free place from nobody. It is for whoever comes. But if clients of other jobs wait, it is only for
+/// a job that has fewer than its share.
+///
+/// If its job has all the clients that a job may have, it takes the place of the first of these that came 5 seconds ago
+/// or more. It has no place if no such client is there.
+///
+/// If all jobs together have all that they may have, it takes the place of the first of all that came 5 seconds ago or
+/// more. If its own job has its share and others wait, it takes the place of the first of its own job's. If no such
+/// client is there, it waits.
 pub fn place_for(callers: &[Heard], waiting: &[u64], bind: u64, room: CallerRoom, up: u64) -> Place
     ensures { IsPlace room callers.now waiting.now bind up result }
 {
@@ -144,7 +151,7 @@ fn earlier(first: Option<Heard>, one: Heard) -> Heard
     }
 }
 
-/// How many jobs these are, by their binds, each of which may stand there more than once.
+/// How many jobs these are, by their binds, each of which may be there more than once.
 #[tactic(auto, using(crate::proofs::Jobs::no_job))]
 pub fn jobs_among(binds: &[u64]) -> usize
     ensures { result ≡ how_many_jobs binds.now }
@@ -159,7 +166,7 @@ pub fn jobs_among(binds: &[u64]) -> usize
     jobs
 }
 
-/// How many places each of so many jobs can have, one at least.
+/// How many places each of `jobs` jobs can have, one at least.
 pub fn share_of(in_all: usize, jobs: usize) -> usize
     ensures { result ≡ max 1 (in_all / max 1 jobs) }
 {

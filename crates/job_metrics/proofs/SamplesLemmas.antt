@@ -1,4 +1,4 @@
--- What is written of one more is written behind what was written of those before.
+-- What is written of one more is written after what was written of those before.
 use Rattle.std.proofs.Common.{◌≡◌, ◌++◌, ◌∷◌, [], ◌∙◌, ◌+◌, ◌<◌, ap, sym, ℕ, List, take, length, get_or, subst, append-nil}
 use Rattle.std.proofs.lemmas.List.{take_more}
 use Rattle.std.specs.List.{flat_map}

@@ -38,7 +38,7 @@ family_help Refusals = codes "Starts since the load that the system refused."
 family_help LastEnd = codes "When the last run of the job ended."
 family_help NextStart = codes "When the job starts next by the clocks alone."
 
--- the two lines that tell what a family is
+-- the two lines that say what a family is
 abbrev pub head_text : Family → List ℕ
 head_text family =
     codes "# HELP " ++ family_name family ++ codes " " ++ family_help family
@@ -50,7 +50,7 @@ flag_value (Some true) = Some 1
 flag_value (Some false) = Some 0
 flag_value None = None
 
--- what a family tells of a job
+-- what a family says of a job
 abbrev pub job_value : Family → JobSample → Option ℕ
 job_value Running job = flag_value (Some job.is_running)
 job_value Starts job = Some job.starts
@@ -60,7 +60,7 @@ job_value LastEnd job = job.last_end
 job_value NextStart job = job.next_start
 job_value _ job = None
 
--- a character of a label, as it stands between quotes
+-- a character of a label, as it is between quotes
 abbrev pub label_char : ℕ → List ℕ
 label_char c = if c == 0x5C || c == 0x22 then 0x5C ∷ encode_utf8 (plain_char c) else encode_utf8 (plain_char c)
 
@@ -102,7 +102,7 @@ launcher_samples launcher =
     ++ launcher_text Told (Some launcher.told)
     ++ launcher_text LeftOut launcher.left_out
 
--- all samples: those of the launcher, then those of jobs, a family behind the other
+-- all samples: those of the launcher, then those of jobs, a family after the other
 abbrev pub metrics_text : LauncherSample → List JobSample → List ℕ
 metrics_text launcher jobs =
     launcher_samples launcher

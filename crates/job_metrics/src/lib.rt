@@ -1,4 +1,5 @@
-//! How a launcher and its jobs stand, as the text that Prometheus reads (its text-based format 0.0.4): for each family what it is, and a line a sample.
+//! The state of a launcher and its jobs, as the text that Prometheus reads (its text-based format 0.0.4). Each family has a text on what it is, and a
+//! line a sample.
 #![tactic(auto)]
 
 ghost use Rattle.std.specs.Prelude.{◌≡◌, ◌++◌, [], false, IfOk, IsOk, string_bytes, chars};
@@ -12,11 +13,11 @@ use std::alloc::{AllocError, Global};
 /// What a monitor asks of a launcher.
 #[derive(Clone, Copy)]
 pub struct LauncherSample {
-    /// Whether its process lives.
+    /// Whether its process is running.
     pub is_up: bool,
     /// Whether its journal is open. None if it writes none.
     pub journal_is_open: Option<bool>,
-    /// As of when this was told, in seconds of Unix time.
+    /// As of when this was written, in seconds of Unix time.
     pub told: u64,
     /// How many definitions its boot left out. None if that is not known.
     pub left_out: Option<u64>,
@@ -26,21 +27,21 @@ pub struct LauncherSample {
 #[derive(Clone, Copy)]
 pub struct JobSample<'a> {
     pub label: &'a str,
-    /// Whether a run of it lives.
+    /// Whether a run of it is running.
     pub is_running: bool,
     /// How many starts were ordered since its load, refused ones too.
     pub starts: u64,
-    /// How many of its runs did not end with code 0.
+    /// How many of its runs did not exit with code 0.
     pub failures: u64,
     /// How many of its starts the system refused.
     pub refusals: u64,
     /// When its last run ended, in seconds of Unix time. None if none has.
     pub last_end: Option<u64>,
-    /// When it starts next by the clocks alone. None if it does not.
+    /// When time alone starts it next. None if it does not.
     pub next_start: Option<u64>,
 }
 
-/// What the samples of one name tell.
+/// What the samples of one name say.
 #[derive(Clone, Copy)]
 pub enum Family {
     Up,
@@ -108,7 +109,7 @@ fn family_help(family: Family) -> &'static str
     }
 }
 
-// What a family tells of a job. None if it has nothing to tell.
+// What a family says of a job. None if it has nothing to say.
 fn job_value(family: Family, job: &JobSample<'_>) -> Option<u64>
     ensures { result ≡ job_value family job.now }
 {

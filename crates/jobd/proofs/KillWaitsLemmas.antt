@@ -74,7 +74,7 @@ passed-more up s behind found passed nearest own label some late = go (is_before
     go true before false is = no-waiter up s (λ other. is_before behind other && is_before other found) label nearest.nearest
         (both (is_before behind label) (is_before label found) before (after found label late is))
 
--- no job has a child behind those that were passed
+-- no job has a child after those that were passed
 pub passed-all : (up : ℕ) (s : State) (behind : List ℕ) → Passed up behind s → list_any (is_before behind) (with_child s.jobs) ≡ false → NoneWaits up s
 passed-all up s behind passed none label some = go (is_before behind label) refl
   where
@@ -82,9 +82,9 @@ passed-all up s behind passed none label some = go (is_before behind label) refl
     go false before = passed label some before
     go true before = no-waiter up s (is_before behind) label none before
 
--- ---- by its moments
+-- ---- by its times
 
--- the job with a child waits exactly if the moment of its KILL is to come
+-- the job with a child waits exactly if the time of its KILL is to come
 pub waits-by : (up : ℕ) (past : Option History) (moments : Moments) (run : ℕ) → HasMoments past (Some moments) → run_in past ≡ Some run →
     is_waiting up past ≡ (has_come moments.kill (2 ^ 64 - 1) && not (has_come moments.kill up))
 waits-by up None moments run has child_has = absurd has
@@ -96,7 +96,7 @@ waits-by up (Some past) moments run has child_has =
     stands None is = cc
     stands (Some c) is = refl
 
--- a job without moments is not loaded
+-- a job without times is not loaded
 pub waits-none : (up : ℕ) (past : Option History) → HasMoments past None → is_waiting up past ≡ false
 waits-none up None has = refl
 waits-none up (Some past) has = absurd has

@@ -1,5 +1,5 @@
--- Which jobs wait for their KILL (launchd.plist(5): ExitTimeOut; launchctl(1): kickstart -k), so that a sleep of the machine may not be
--- handed in yet: the time that it took would be taken from them.
+-- Which jobs wait for their KILL (launchd.plist(5): ExitTimeOut; launchctl(1): kickstart -k). While one waits, no sleep
+-- of the machine may be counted: the time that it took would be taken from them.
 use Rattle.std.specs.Prelude.{◌≡◌, ◌⊎◌, ◌+◌, ◌-◌, ◌^◌, ◌<◌, ◌≤◌, min, ℕ, Bool, true, false, not, ◌&&◌, if◌then◌else◌, List, [], Option, Some, None, is_some}
 use Rattle.history_model.specs.declared.Reading.{Reading}
 use Rattle.history_model.specs.declared.TheConstants.{MAX_JOBS}
@@ -12,7 +12,7 @@ use Rattle.loaded_jobs.specs.Nearest.{IsNearest, with_child}
 use Rattle.loaded_jobs.specs.StandsFor.{KeepsState}
 use Rattle.loaded_jobs.specs.Tables.{Table}
 
--- the job with this past has a child that is to get KILL if nothing but readings happens, and not yet at this moment of `up`
+-- the job with this past has a child that gets KILL if nothing but clock readings happens, and not yet at this `up`
 abbrev pub waits_for_kill : ℕ → History → Bool
 waits_for_kill up past = is_some (child past) && (may_kill_when (2 ^ 64 - 1) past && not (may_kill_when up past))
 
@@ -29,7 +29,7 @@ SomeWaits up s = (label : List ℕ) × (is_waiting up (past_of s label) ≡ true
 abbrev pub NoneWaits : ℕ → State → Type 0
 NoneWaits up s = (label : List ℕ) → is_before [] label ≡ true → is_waiting up (past_of s label) ≡ false
 
--- so many jobs have a child, each of them behind the one before, and this is the label of the last
+-- `n` jobs have a child, each of them after the one before, and this is the label of the last
 pub data Chain (jobs : List Job) : ℕ → List ℕ → Type 0 where
   nobody : Chain jobs 0 []
   behind : {n : ℕ} {last next : List ℕ} → Chain jobs n last → IsNearest last (with_child jobs) next → Chain jobs (n + 1) next
@@ -41,12 +41,12 @@ AreAwaited true up s = SomeWaits up s ⊎ ((last : List ℕ) × Chain s.jobs (MA
 
 -- ---- sleeps of the machine
 
--- the reading of a clock that stands still in sleeps, with so many milliseconds of them
+-- what a clock that counts sleeps shows, by one that stops in them: `slept` milliseconds more of `up`
 abbrev pub with_sleep : ℕ → Reading → Reading
 with_sleep slept awake = record awake { up = min (awake.up + slept) (2 ^ 64 - 1) }
 
--- Of the sleep so far, of which so much was handed in before, this much is handed in: nothing more while a job waits for its KILL at that moment of
--- `up`; all of it, if none does.
+-- How much of the sleep so far is counted, if this much of it was counted before. Nothing more is counted while a job
+-- waits for its KILL at that `up`. All of it is counted, if none does.
 abbrev pub IsHanded : ℕ → Table → ℕ → ℕ → ℕ → Type 0
 IsHanded up table before slept handed = ((slept ≤ before) × (handed ≡ before))
     ⊎ ((before < slept) × (waits : Bool) × ((s : State) → KeepsState table s → AreAwaited waits up s)

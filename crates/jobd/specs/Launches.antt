@@ -1,4 +1,4 @@
--- What the rounds of a live loop do to a launcher.
+-- What the passes of a live loop do to a launcher.
 use Rattle.std.specs.Prelude.{◌≡◌, ◌≢◌, ◌⊎◌, ◌-◌, ◌≤◌, ℕ, Bool, true, false, ◌||◌, List, [], ◌∷◌, length, Option, Some, None, is_some, Result, Ok, Err}
 use Rattle.history_model.specs.declared.Ended.{Ended}
 use Rattle.history_model.specs.declared.Obs.{Obs}
@@ -36,27 +36,27 @@ use Rattle.jobd.specs.declared.round_launcher.RoundLauncher.{RoundLauncher}
 abbrev pub lent : {T E W : Type 0} → E → RoundLauncher T E W → RoundLauncher T E W
 lent edge round = record round { host = record round.host { edge = edge } }
 
--- it was called for nothing, or for a reading alone
+-- it was called for nothing, or for a clock reading alone
 abbrev pub MayRead : Option (List ToldCall) → Option (List ToldCall) → Type 0
 MayRead old new = (new ≡ old) ⊎ ((answer : Result Reading EdgeFault) × TellsOne old (Clock, read_answer answer) new)
 
--- The outside was asked something, for a reading at most, and nothing was handed in; or the closing of the journal was reported.
+-- The outside was asked something, for a clock reading at most, and nothing was delivered; or the closing of the journal was reported.
 abbrev pub AsksEdge : {T E W : Type 0} → (E → Option (List ToldCall)) → RoundLauncher T E W → RoundLauncher T E W → Type 0
 AsksEdge {E = E} calls old new = ((edge : E) × MayRead (calls old.host.edge) (calls edge) × (new ≡ lent edge old))
     ⊎ ((edge : E) × (calls edge ≡ calls old.host.edge)
     × (new ≡ record old { host = record old.host { edge = edge; journal = reported old.host.journal } }))
 
--- The edge took a client that waited at the sockets of the job; nothing was handed in, and nothing is told.
+-- The edge took a client that waited at the sockets of the job; nothing was delivered, and nothing is recorded.
 abbrev pub TakesClient : {T E W : Type 0} → (E → Option (List ToldCall)) → (ℕ → E → E → Type 0) → ℕ → RoundLauncher T E W → RoundLauncher T E W → Type 0
 TakesClient {E = E} calls Accepts job old new =
     (edge : E) × (calls edge ≡ calls old.host.edge) × Accepts job old.host.edge edge × (new ≡ lent edge old)
 
--- what a look gives, if the system did not refuse it
+-- what a path check gives, if the system did not refuse it
 abbrev pub seen_by : Result Obs EdgeFault → Option Obs
 seen_by (Ok obs) = Some obs
 seen_by (Err fault) = None
 
--- whether the edge holds the connection of a client that was handed in, as it was found then
+-- whether the edge holds the connection of a client that was delivered, as it was found then
 abbrev pub is_held : HandedIn → Bool
 is_held handed.Dropped = false
 is_held handed.Heard = true
@@ -67,13 +67,13 @@ abbrev pub IsLabelOf : Table → ℕ → List ℕ → Type 0
 IsLabelOf table job label =
     length (label_of table.names job) ≤ 255 → label ≡ label_of table.names job
 
--- the path that comes next behind the text, of those that the loaded jobs list
+-- the path that comes next after the text, of those that the loaded jobs list
 abbrev pub ListsNext : {T E W : Type 0} → RoundLauncher T E W → List ℕ → Option (List ℕ) → Type 0
 ListsNext round text next =
     (s : State) → KeepsState round.host.table s → IsNearestOf text (listed_paths s.jobs) next
 
--- What the clocks show, by this answer of one that stands still in sleeps and this much sleep so far: the answer with the sleep that is handed in; or, if
--- they can't be read, what they showed before.
+-- What the clocks show, by this answer of one that stops in sleeps and this much sleep so far. It is the answer with
+-- the sleep that is counted; or, if they can't be read, what they showed before.
 abbrev pub Shows : {T E W : Type 0} → Result Reading EdgeFault → ℕ → RoundLauncher T E W → ℕ → Reading → Type 0
 Shows (Ok awake) slept old handed shown =
     IsHanded (with_sleep old.slept awake).up old.host.table old.slept (slept - old.before) handed
@@ -90,7 +90,7 @@ module _ {T E W : Type 0} (calls : E → Option (List ToldCall)) (stores : T →
     pub writable : WritesWhat refusal event
     pub loaded : new.has_loaded ≡ is_accepted_load event refusal
 
-  -- The reading of the round was handed in, once; whether it was refused is noted.
+  -- The clock reading of the pass was delivered, once; whether it was refused is noted.
   pub record HeardReading (old new : RoundLauncher T E W) : Type 0 where
     pub refusal : Option Refusal
     pub words : List ℕ
@@ -100,12 +100,12 @@ module _ {T E W : Type 0} (calls : E → Option (List ToldCall)) (stores : T →
     pub loaded : new.has_loaded ≡ old.has_loaded
     pub refused : new.is_refused ≡ is_some refusal
 
-  -- it is handed in, unless it is the launcher's own already
+  -- it is delivered, unless it is the launcher's own already
   abbrev pub Reads : RoundLauncher T E W → RoundLauncher T E W → Type 0
   Reads old new = ((old.host.table.reading ≡ old.at) × (new ≡ old))
       ⊎ ((old.host.table.reading ≢ old.at) × HeardReading old new)
 
-  -- What happened was handed in, once, after the reading of the round.
+  -- What happened was delivered, once, after the clock reading of the pass.
   pub record Gives (event : Option Incoming) (refusal : Option Refusal) (words : List ℕ)
       (old new : RoundLauncher T E W) : Type 0 where
     pub mid : RoundLauncher T E W
@@ -116,21 +116,21 @@ module _ {T E W : Type 0} (calls : E → Option (List ToldCall)) (stores : T →
     pub loaded : new.has_loaded ≡ mid.has_loaded
     pub refused : new.is_refused ≡ mid.is_refused
 
-  -- it was handed in, and some words were the answer
+  -- it was delivered, and some text was the answer
   pub record Tells (event : Option Incoming) (refusal : Option Refusal)
       (old new : RoundLauncher T E W) : Type 0 where
     pub words : List ℕ
     pub gives : Gives event refusal words old new
 
-  -- ---- the beginning of a round
+  -- ---- the beginning of a pass
 
-  -- the reading of the round before is handed in, if the launcher had no memory for it
+  -- the clock reading of the pass before is delivered, if the launcher had no memory for it
   abbrev pub ReadsIf : Bool → RoundLauncher T E W → RoundLauncher T E W → Type 0
   ReadsIf true old new = Reads old new
   ReadsIf false old new = new ≡ old
 
-  -- The clocks are read once. The round is at what they show, if a launcher may hear it after the reading that it has; else it is at the reading of
-  -- the one before.
+  -- The clocks are read once. The pass has what they show, if a launcher may hear it after the clock reading that it
+  -- has. Else it has the clock reading of the one before.
   pub record ReadsClock (old new : RoundLauncher T E W) : Type 0 where
     pub answer : Result Reading EdgeFault
     pub slept : ℕ
@@ -141,7 +141,7 @@ module _ {T E W : Type 0} (calls : E → Option (List ToldCall)) (stores : T →
     pub shows : Shows answer slept old handed shown
     pub read : new ≡ record (lent edge old) { at = last_read old.at (Tick shown); slept = handed }
 
-  -- a reading is handed in by itself exactly if it may change something
+  -- a clock reading is delivered by itself exactly if it may change something
   abbrev pub HeardIf : Bool → RoundLauncher T E W → RoundLauncher T E W → Type 0
   HeardIf true old new = HeardReading old new
   HeardIf false old new = new ≡ old
@@ -152,7 +152,7 @@ module _ {T E W : Type 0} (calls : E → Option (List ToldCall)) (stores : T →
         is_news ≡ may_change s.jobs old.host.table.reading old.at
     pub handed : HeardIf is_news old new
 
-  -- A round begins: first comes a reading for which the launcher had no memory, then a new one.
+  -- A pass begins: first comes a clock reading for which the launcher had no memory, then a new one.
   pub record Begins (old new : RoundLauncher T E W) : Type 0 where
     pub first : RoundLauncher T E W
     pub missed : ReadsIf old.is_refused (record old { is_active = false }) first
@@ -162,7 +162,7 @@ module _ {T E W : Type 0} (calls : E → Option (List ToldCall)) (stores : T →
 
   -- ---- children
 
-  -- an end is handed in, as it was answered, and so is a refusal to wait
+  -- an end is delivered, as it was answered, and so is a refusal to wait
   abbrev pub TellsEnd : List ℕ → ℕ → Result (Option Ended) EdgeFault →
       RoundLauncher T E W → RoundLauncher T E W → Type 0
   TellsEnd label run (Ok None) old new = new ≡ old
@@ -171,7 +171,7 @@ module _ {T E W : Type 0} (calls : E → Option (List ToldCall)) (stores : T →
   TellsEnd label run (Err fault) old new = (refusal : Option Refusal)
       × Tells (event_if_label label (journaled.OfJob label (happens.WaitRefused run))) refusal old new
 
-  -- The child of this run of the job is polled once, and what was answered is handed in under the job's label.
+  -- The child of this run of the job is polled once, and what was answered is delivered under the job's label.
   pub record PollsRun (job run : ℕ) (old new : RoundLauncher T E W) : Type 0 where
     pub answer : Result (Option Ended) EdgeFault
     pub edge : E
@@ -180,7 +180,7 @@ module _ {T E W : Type 0} (calls : E → Option (List ToldCall)) (stores : T →
     pub its : IsLabelOf old.host.table job label
     pub handed : TellsEnd label run answer (lent edge old) new
 
-  -- The edge tells whose child is over, and which run it was. That one is polled.
+  -- The edge says whose child is over, and which run it was. That one is polled.
   abbrev pub PollsFrom : (ℕ → Option (ℕ × ℕ) → E → E → Type 0) → ℕ → Option ℕ →
       RoundLauncher T E W → RoundLauncher T E W → Type 0
   PollsFrom Finds first None old new =
@@ -190,8 +190,8 @@ module _ {T E W : Type 0} (calls : E → Option (List ToldCall)) (stores : T →
 
   -- ---- paths
 
-  -- What the looks at paths ask, and what they hand in: that path with that sight, for which no memory is wanted. A look of the edge is a
-  -- look at that path.
+  -- What the path checks ask, and what they deliver: that path with that observation, for which no memory is wanted. A
+  -- check by the edge is a check of that path.
   abbrev pub DoesPath : (List ℕ → Result Obs EdgeFault → E → E → Type 0) → PathCall →
       RoundLauncher T E W → RoundLauncher T E W → Type 0
   DoesPath Looks BeginsLooks old new = (edge : E) × (calls edge ≡ calls old.host.edge) × (new ≡ lent edge old)
@@ -208,8 +208,8 @@ module _ {T E W : Type 0} (calls : E → Option (List ToldCall)) (stores : T →
 
   -- ---- clients
 
-  -- What became of a client under this number: the edge did not hold it, and nothing was handed in; or the job heard that it came; or the
-  -- launcher refused it, and it was closed under this number.
+  -- What became of a client under this number. The edge did not hold it, and nothing was delivered. Or the job heard
+  -- that it came. Or the launcher refused it, and it was closed under this number.
   abbrev pub TellsCame : List ℕ → ℕ → ℕ → HandedIn →
       RoundLauncher T E W → RoundLauncher T E W → Type 0
   TellsCame label job conn handed.Dropped old new = new ≡ old
@@ -230,7 +230,7 @@ module _ {T E W : Type 0} (calls : E → Option (List ToldCall)) (stores : T →
     pub its : IsLabelOf old.host.table job label
     pub handed : TellsCame label job conn answer (lent edge old) new
 
-  -- a control client's line was handed in, and this is its reply; a load that was accepted is noted, and then the outside hears of the reply
+  -- a control client's line was delivered, and this is its reply; a load that was accepted is noted, and then the outside hears of the reply
   pub record AnswersLine (line : List ℕ) (reply : Reply) (old new : RoundLauncher T E W) : Type 0 where
     pub mid : RoundLauncher T E W
     pub gives : Gives (asked_by line) reply.refusal reply.text old mid

@@ -1,4 +1,4 @@
--- The text of the file on how a launcher stands.
+-- The text of the status file.
 use Rattle.std.specs.Prelude.{◌≡◌, ℕ, ◌++◌, List}
 use Rattle.std.specs.List.{flat_map, AllByRecursion}
 use Rattle.history_model.specs.Machine.{State}
@@ -6,7 +6,7 @@ use Rattle.loaded_jobs.specs.StandsFor.{KeepsState}
 use Rattle.loaded_jobs.specs.Tables.{Table}
 use Rattle.status_file.specs.Jobs.{IsOf, JobLine, text_of}
 
--- A front, which is the launcher's, and then lines of jobs. Of each machine that the table keeps, each of them tells all the reasons and the moments
+-- A front, which is the launcher's, and then lines of jobs. Of each machine that the table keeps, each of them says all the reasons and the times
 -- of its own job, and no others.
 abbrev pub IsStatusText : Table → List ℕ → Type 0
 IsStatusText table text =

@@ -1,4 +1,5 @@
-//! Whether the journal is still at its path: one that is renamed or removed is written on where it is, and that is told.
+//! Whether the journal is still at its path. The launcher writes on to one that is renamed or removed, where that is,
+//! and reports it.
 
 use child_edge::{Notice, NoticeKind, System};
 use history_model::{SECOND, Text};
@@ -9,7 +10,7 @@ use std::io::ErrorKind;
 use std::os::unix::fs::MetadataExt;
 use std::{fs, mem};
 
-/// It is looked at once in so many milliseconds at most.
+/// How many milliseconds lie at least between two checks of it.
 const PAUSE: u64 = SECOND;
 
 /// Which file one is: the number of its device, and that of the file on it.
@@ -82,7 +83,7 @@ impl<R: System> JournalWatch<R> {
         }
     }
 
-    /// Looks, once a second at most.
+    /// Checks, once a second at most.
     pub(crate) fn look(&mut self, up: u64) {
         let Some(own) = self.own else {
             return;
@@ -94,7 +95,7 @@ impl<R: System> JournalWatch<R> {
         let is_there = match fs::metadata(&self.rt, self.path.as_str()) {
             Ok(data) => own.is(&data),
             Err(error) if error.kind() == ErrorKind::NotFound => false,
-            // The system does not tell it, as without a descriptor.
+            // The system does not say it, as without a descriptor.
             Err(_) => return,
         };
         if is_there {
@@ -125,7 +126,7 @@ impl<R: System> JournalWatch<R> {
         self.is_told = true;
     }
 
-    /// What is to be told of it.
+    /// What has to be logged of it.
     pub(crate) fn next_notice(&mut self) -> Option<Notice> {
         self.untold.take()
     }

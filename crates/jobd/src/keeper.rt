@@ -1,4 +1,4 @@
-//! What is kept for the file on how the launcher stands, and the text of that file.
+//! What is kept for the status file, and the text of that file.
 
 ghost use Rattle.std.specs.Prelude.{◌≡◌, true};
 ghost use Rattle.jobd.specs.Standings.{IsStatusText};
@@ -15,10 +15,10 @@ use std::alloc::Global;
 /// Why a journal is closed, as far as it is known here.
 const CLOSED: &str = "a write was refused, or a line found no memory";
 
-/// What is told of a store that refused something.
+/// What the status file says of a store that refused something.
 const REFUSED: &str = "a setting was not stored";
 
-// How the journal stands. It lives as long as what it is told beside.
+// The state of the journal. Its lifetime is that of the status that it becomes a part of.
 fn journal_of<'a>(has_journal: bool, is_closed: bool) -> JournalStatus<'a> {
     if !has_journal {
         JournalStatus::None
@@ -34,7 +34,7 @@ fn refused_by<'a>(has_refused: bool) -> Option<&'a str> {
     if has_refused { Some(REFUSED) } else { None }
 }
 
-/// What is kept beside the table for the file: what was heard of runs, and what is told of the launcher.
+/// What is kept besides the table for the status file: what was heard of runs, and what the file says of the launcher.
 #[derive(Drop)]
 pub struct Keeper {
     alloc: Global,
@@ -91,7 +91,7 @@ impl Keeper {
         }
     }
 
-    /// Writes the text of the file anew. False: it found no memory.
+    /// Writes the text of the file again. False: it found no memory.
     pub(crate) fn write(&mut self, table: &JobTable, at: Reading) -> bool
         ensures { result ≡ true → IsStatusText table.now self.new.text.bytes.items }
     {

@@ -1,4 +1,5 @@
-//! What a reading counts of a sleep of the machine: nothing more while a job waits for its KILL, since a run that has time to end slept too.
+//! What a clock reading counts of a sleep of the machine. It counts nothing more while a job waits for its KILL, since
+//! a run that has time to exit slept too.
 
 ghost use Rattle.std.specs.Prelude.{◌≡◌, ◌-◌, ◌^◌, ℕ, not, ◌&&◌, Option, Some};
 ghost use Rattle.history_model.specs.Items.{History};
@@ -12,8 +13,9 @@ ghost use Rattle.jobd.specs.KillWaits.{AreAwaited, IsHanded, is_waiting, with_sl
 use history_model::{MAX_JOBS, Reading};
 use job_table::{JobTable, Moments};
 
-/// Whether some job has a child that gets KILL if nothing but readings happens, and not yet at this moment, in milliseconds of `up`. A
-/// job whose `ExitTimeOut` is 0 does not wait, nor does one that was given KILL. It takes no memory, and asks each child's job once.
+/// Whether some job has a child that gets KILL if nothing happens but clock readings, and only later than this `up`, in
+/// milliseconds. A job whose `ExitTimeOut` is 0 does not wait, nor does one that was given KILL. It takes no memory,
+/// and asks each child's job once.
 pub fn is_kill_awaited(table: &JobTable, up: u64) -> bool
     ensures { (s : State) → KeepsState table.now s → AreAwaited result up s }
 {
@@ -30,7 +32,7 @@ pub fn is_kill_awaited(table: &JobTable, up: u64) -> bool
     true
 }
 
-// Whether the job with a child that has these moments waits.
+// Whether the job with a child that has these times waits.
 fn waits(moments: Option<Moments>, up: u64) -> bool
     ensures { (past : Option History) (run : ℕ) → HasMoments past moments → run_in past ≡ Some run →
         is_waiting up past ≡ result }
@@ -41,7 +43,7 @@ fn waits(moments: Option<Moments>, up: u64) -> bool
     }
 }
 
-// Whether the moment is after this one.
+// Whether the time is after this one.
 fn is_to_come(moment: Option<u64>, up: u64) -> bool
     ensures { result ≡ (has_come moment (2 ^ 64 - 1) && not (has_come moment up)) }
 {
@@ -51,7 +53,7 @@ fn is_to_come(moment: Option<u64>, up: u64) -> bool
     }
 }
 
-/// The reading of a clock that stands still in sleeps, with so many milliseconds of them.
+/// What a clock that counts sleeps shows, by what one that stops in them shows: `slept` milliseconds more of `up`.
 pub(crate) fn counting(awake: Reading, slept: u64) -> Reading
     ensures { result ≡ with_sleep slept awake }
 {
@@ -61,8 +63,8 @@ pub(crate) fn counting(awake: Reading, slept: u64) -> Reading
     }
 }
 
-/// How many milliseconds of sleep the reading counts that without further ones stands at this `up`, if the one before counted so many and
-/// the machine slept for so long by now.
+/// How many milliseconds of sleep the new clock reading counts. `up` is its `up` without further ones. The one before
+/// counted `before`, and the machine slept for `slept` by now.
 pub(crate) fn counted(table: &JobTable, up: u64, before: u64, slept: u64) -> u64
     ensures { IsHanded up table.now before slept result }
 {

@@ -1,12 +1,13 @@
-//! The program `jobd` by its words: the launcher, the replay of a journal, and the list of the stored overrides. What the launcher is
-//! made of is had from here too: the host of its turns, its inputs, the loop of its rounds, and the replay. What a round finds is handed to
-//! the turns by `RoundLauncher`.
+//! The program `jobd` by its arguments: the launcher, the replay of a journal, and the list of the stored settings. The
+//! parts of the launcher come from here too: the host of its turns, its inputs, the live loop, and the replay.
+//! `RoundLauncher` delivers to the turns what a pass of the loop finds.
 #![tactic(auto)]
 
 mod journal_watch;
 mod keeper;
 mod kill_waits;
 mod loaded_definition;
+mod memory_want;
 mod news;
 mod own_process;
 mod places_file;
@@ -38,14 +39,14 @@ use std::sync::Wait;
 /// A live loop over the real system, whose settings last in a `T`, and whose journal is a `W`.
 pub type Live<R, T, W> = live_loop::Live<RoundLauncher<T, OsEdge<R>, W>>;
 
-/// Does what the words ask for, the program's own name being the first, and gives the exit status. Both `host` and `waits` are
-/// the runtime of `main`: only what takes it as `waits` may wait.
+/// Does what the arguments ask for, the program's own name being the first, and gives the exit status. Both `host` and
+/// `waits` are the runtime of `main`: only what takes it as `waits` may wait.
 ///
-/// `replay`: the statuses of `replay::status_of`. `overrides`: 0, 1 for want of memory, 3 if the output is refused, 5 if
-/// the store can't be read. `serve`: 0 once a shutdown was accepted and no job is left; 1 for want of memory at the start,
-/// 5 the store, 6 the control socket, 7 the zone, 8 the journal, 9 the clock or waiting. Any of them: 64 for words that are
-/// no command. Each fault but want of memory is told on standard error, those of `replay` by the status alone. A call for
-/// help prints it, with 0.
+/// `replay`: the statuses of `replay::status_of`. `overrides`: 0, 1 for want of memory, 3 if the output is refused, 5
+/// if the store can't be read. `serve`: 0 once a shutdown was accepted and no job is left; 1 for want of memory at the
+/// start. Further statuses of `serve`: 5 the store, 6 the control socket, 7 the zone, 8 the journal, 9 the clock or
+/// waiting, 10 the spool. Any of them: 64 for invalid arguments. It prints each fault on standard error, but for want
+/// of memory. The faults of `replay` show in the status alone. A call for help prints it, with 0.
 pub fn jobd<L: Wait>(host: &HostRuntime, waits: &L, alloc: Global, words: &[String]) -> u8 {
     match read_daemon_words(alloc, words) {
         Ok(DaemonCommand::Replay) => replay_input(host),

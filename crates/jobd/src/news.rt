@@ -1,5 +1,5 @@
-//! Which readings of the clocks may change something. The others are not handed to the launcher, so that the journal of one
-//! in which nothing happens does not grow.
+//! Which clock readings may change something. The others are not delivered to the launcher, so that its journal does
+//! not grow while nothing happens.
 
 ghost use Rattle.std.specs.Prelude.{◌≡◌, List};
 ghost use Rattle.std.specs.List.{list_any};
@@ -13,8 +13,9 @@ ghost use Rattle.history_model.specs.News.{is_moment_reached as has_come, is_any
 use history_model::{MAX_UP, MAX_WALL, Reading};
 use job_table::JobTable;
 
-/// Whether the reading may change something since the table's last one: a job's next moment is reached, or some job has
-/// calendar entries and a civil minute is crossed, or the wall clock was set back. It takes no memory.
+/// Whether the clock reading may change something since the table's last one. It may if a job's next time is reached,
+/// or if the wall clock was set back. It may too if some job has calendar entries and a civil minute is crossed. It
+/// takes no memory.
 pub fn is_news(table: &JobTable, at: Reading) -> bool
     ensures { (s : State) → KeepsState table.now s →
         result ≡ may_change s.jobs table.now.reading at }
@@ -27,7 +28,7 @@ pub fn is_news(table: &JobTable, at: Reading) -> bool
     is_due | (has_calendars & is_minute | is_back)
 }
 
-// The least of all jobs' moments stands for them all.
+// The least of all jobs' times is reached exactly if one of them is.
 fn is_reached(moment: Option<u64>, up: u64) -> bool
     ensures { (jobs : List Job) → IsNextUp jobs moment →
         result ≡ list_any (λ job. has_come up (next_moment job.past)) jobs }
@@ -44,7 +45,8 @@ fn is_minute_crossed(before: u64, wall: u64) -> bool
     before / 60 < wall / 60
 }
 
-/// The reading, or the one before it if a launcher would refuse it after that: its `up` is less, or one of them is past a limit.
+/// The new clock reading, or the one before it if a launcher would refuse the new one: its `up` is less, or one of its
+/// clocks is past a limit.
 pub(crate) fn later_of(before: Reading, at: Reading) -> Reading
     ensures { result ≡ last_read before (Tick at) }
 {

@@ -1,5 +1,5 @@
-//! The file beside the control socket that says where the launcher's other files are: written once it serves, again where it was removed, and removed
-//! at the end.
+//! The file next to the control socket that says where the launcher's other files are. It is written once the launcher
+//! serves, again where it was removed, and removed at the end.
 
 use crate::own_process::{OwnProcess, own_process};
 use crate::whole_file::put_whole;
@@ -15,7 +15,7 @@ use std::{env, fs, io, mem};
 /// What names the folder of definitions.
 const JOBS: &str = "JOBD_JOBS";
 
-/// It is looked for once in so many milliseconds at most.
+/// How many milliseconds lie at least between two checks for it.
 const PAUSE: u64 = SECOND;
 
 /// The file, and what it says.
@@ -29,15 +29,16 @@ pub struct PlacesFile<R: System> {
     line: Vec<u8>,
     // The group that may read it.
     group: Option<u32>,
-    // It was looked for at this `up` last.
+    // The `up` at which it was looked for last.
     looked: Option<u64>,
     is_begun: bool,
-    // That it can't be written was told, or waits to be.
+    // That it can't be written was logged, or waits to be.
     is_refused: bool,
     untold: Option<Notice>,
 }
 
-/// That of the launcher with this plan, and with this status file if it keeps one. None: it can't be made, which is told.
+/// That of the launcher with this plan, and with this status file if it keeps one. None: it can't be made, which is
+/// logged.
 pub(crate) fn places_file<R: System + Env>(
     rt: &R,
     alloc: Global,
@@ -47,7 +48,10 @@ pub(crate) fn places_file<R: System + Env>(
 ) -> Option<PlacesFile<R>> {
     let found = match own_process(rt) {
         Some(own) => made(rt, alloc, plan, status_file, own, group),
-        None => Err(io::Error::new(ErrorKind::NotFound, "this process is not known")),
+        None => Err(io::Error::new(
+            ErrorKind::NotFound,
+            "/proc/self/stat does not say which process this is",
+        )),
     };
     match found {
         Ok(file) => Some(file),
@@ -137,7 +141,7 @@ impl<R: System> PlacesFile<R> {
         }
     }
 
-    /// Writes it again if it is gone, once a second at most.
+    /// Writes it again if it was removed, once a second at most.
     pub(crate) fn keep(&mut self, up: u64) {
         let looked = self.looked.unwrap_or(up);
         if self.looked.is_some() && up < looked.saturating_add(PAUSE) {
@@ -149,7 +153,7 @@ impl<R: System> PlacesFile<R> {
         }
     }
 
-    // What the system does not tell, as without a descriptor, is no reason to write it.
+    // If the system does not say it, as without a descriptor, the file is not written.
     fn is_gone(&self) -> bool {
         match fs::metadata(&self.rt, self.path.as_str()) {
             Ok(_) => false,
@@ -157,7 +161,7 @@ impl<R: System> PlacesFile<R> {
         }
     }
 
-    // What the system refuses is told once, until it is written again.
+    // What the system refuses is logged once, until it is written again.
     fn put(&mut self) {
         let (path, beside) = (self.path.as_str(), self.beside.as_str());
         let line = self.line.as_slice();
@@ -186,7 +190,7 @@ impl<R: System> PlacesFile<R> {
         }
     }
 
-    /// What is to be told of it.
+    /// What has to be logged of it.
     pub(crate) fn next_notice(&mut self) -> Option<Notice> {
         self.untold.take()
     }

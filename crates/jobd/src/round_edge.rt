@@ -1,5 +1,5 @@
-//! What the rounds of a live loop ask of an edge beside what a launcher's turns ask of it. The launcher of a loop is over any such edge,
-//! so that only the few lines below are proved for all that the edge of the system holds.
+//! What the passes of a live loop ask of an edge, besides what a launcher's turns ask of it. The launcher of a loop is
+//! over any such edge, so that only the few lines below are proved for all that the edge of the system holds.
 
 ghost use Rattle.std.specs.Prelude.{◌≡◌, ◌≤◌, ℕ, Bool, List, Option, Some, OnSome, true};
 
@@ -10,14 +10,15 @@ use history_model::{JobNo, Reading, Refusal};
 use live_loop::{Caller, Origin};
 use mio::{Registry, Token};
 
-/// An edge whose `up` stands still while the machine sleeps, and that tells how long it slept.
+/// An edge whose `up` stops while the machine sleeps, and that says how long it slept.
 pub trait SleepEdge: ClockEdge {
-    /// Milliseconds that the machine slept since a moment that stays the same. It is no call of the edge.
+    /// Milliseconds that the machine slept since a time that stays the same. It is not a call of the edge.
     fn slept(&mut self) -> u64
         ensures told { Self.told self.new ≡ Self.told self.old }
         ensures success { Self.failures self.new ≡ Self.failures self.old };
 
-    /// This is the launcher's reading of the round: its `up` counts the sleep that the launcher counts. It is no call of the edge.
+    /// This is the launcher's clock reading in this pass of the loop: its `up` counts the sleep that the launcher
+    /// counts. It is not a call of the edge.
     fn note_time(&mut self, at: Reading)
         ensures told { Self.told self.new ≡ Self.told self.old }
         ensures success { Self.failures self.new ≡ Self.failures self.old };
@@ -31,13 +32,13 @@ impl<R: System> SleepEdge for OsEdge<R> {
     fn note_time(&mut self, _at: Reading) {}
 }
 
-/// An edge as rounds ask it. Each call is that of `OsEdge`. None of them is a call that an edge tells: by them no child is started or signalled,
-/// no connection is closed and no socket given up.
+/// An edge as the passes of a loop ask it. Each call is that of `OsEdge`. None of them is a call that an edge records:
+/// by them it starts or signals no child, closes no connection and gives up no socket.
 pub trait RoundEdge: ChildEdge + SleepEdge + PathEdge + SocketEdge {
     /// To the question whose child is over, from this job on, this answer may lead from the one to the other: a job, and its run.
     ghost Finds: { ℕ → Option (ℕ × ℕ) → Self → Self → Type 0 };
 
-    /// That this text was handed to the file on how the launcher stands may lead from the one to the other.
+    /// That this text was given to the status file may lead from the one to the other.
     ghost Hands: { List ℕ → Self → Self → Type 0 };
 
     /// That a client was taken which waited at the sockets of this job may have led from the one to the other.
@@ -59,7 +60,7 @@ pub trait RoundEdge: ChildEdge + SleepEdge + PathEdge + SocketEdge {
     /// The least job, this one or above it, that has sockets, with the bind that gave it these.
     fn listener_from(&self, job: JobNo) -> Option<Origin>;
 
-    /// As many clients there is room for now, beside the sockets of jobs.
+    /// How many clients there is room for now, besides the sockets of jobs.
     fn room(&self) -> usize;
 
     /// Whether a further client of the job whose request is whole has to wait for a place.
@@ -74,7 +75,8 @@ pub trait RoundEdge: ChildEdge + SleepEdge + PathEdge + SocketEdge {
         ensures accepts { OnSome result (Self.Accepts job self.old self.new) }
         ensures told { Self.told self.new ≡ Self.told self.old };
 
-    /// Holds the connection of a client whose request came whole, under a number that it has had for no other. False: it is let go.
+    /// Holds the connection of a client whose request came whole, under a number that it has had for no other. False:
+    /// the client is disconnected.
     fn take(&mut self, conn: u64, caller: Caller) -> bool
         ensures holds { Self.Holds conn caller.origin.job caller.exchange.request result self.old self.new }
         ensures told { Self.told self.new ≡ Self.told self.old };
@@ -83,15 +85,15 @@ pub trait RoundEdge: ChildEdge + SleepEdge + PathEdge + SocketEdge {
     fn forward(&mut self) -> bool
         ensures told { Self.told self.new ≡ Self.told self.old };
 
-    /// Lets each connection go that is held.
+    /// Drops each connection that is held.
     fn let_all_go(&mut self)
         ensures told { Self.told self.new ≡ Self.told self.old };
 
-    /// The oldest of what is to be told and was not.
+    /// The oldest notice that has to be logged and was not.
     fn next_notice(&mut self) -> Option<Notice>
         ensures told { Self.told self.new ≡ Self.told self.old };
 
-    /// Why the last start was refused, in the words of the edge; none if it went well.
+    /// Why the last start was refused, as the edge puts it; none if it went well.
     fn start_refusal(&self) -> Option<&str>;
 
     /// A client was answered: with this refusal, or well. `load` is its line, if that is a load and was accepted.
@@ -102,11 +104,11 @@ pub trait RoundEdge: ChildEdge + SleepEdge + PathEdge + SocketEdge {
     fn note_closing(&mut self)
         ensures told { Self.told self.new ≡ Self.told self.old };
 
-    /// What keeps the file on how the launcher stands, if it is to be written at this reading. It is given back by `hand`.
-    fn lend_keeper(&mut self, at: Reading, has_changed: bool) -> Option<Keeper>
+    /// What keeps the status file, if it must be written at this clock reading, for which the launcher had no memory if `is_short`. `hand` gives it back.
+    fn lend_keeper(&mut self, at: Reading, is_short: bool, has_changed: bool) -> Option<Keeper>
         ensures told { Self.told self.new ≡ Self.told self.old };
 
-    /// Gives it back. If its text is whole, it is handed to the file.
+    /// Gives it back. If its text is whole, the file gets it.
     fn hand(&mut self, keeper: Keeper, is_whole: bool, at: Reading)
         ensures hands { is_whole ≡ true → Self.Hands keeper.text.bytes.items self.old self.new }
         ensures told { Self.told self.new ≡ Self.told self.old };
@@ -121,7 +123,7 @@ impl<R: System> RoundEdge for OsEdge<R> {
     // It keeps no file.
     ghost Hands = { λ text old new. Unit {0} };
 
-    // No child is let go by the question. Which one is over is the system's word.
+    // The question removes no child. The system says which one is over.
     ghost Finds = { λ first found old new. IsFrom first found × (new ≡ old) };
 
     // What the system's files hold no contract can say.
@@ -131,7 +133,7 @@ impl<R: System> RoundEdge for OsEdge<R> {
 
     ghost rises = { λ first job run old new finds. finds.0 };
 
-    // A job below this one is no answer to the question.
+    // A job below this one does not answer the question.
     fn over_from(&mut self, job: JobNo) -> Option<(JobNo, u64)> {
         match OsEdge::over_from(self, job) {
             Some((over, run)) if job <= over => Some((over, run)),
@@ -197,7 +199,7 @@ impl<R: System> RoundEdge for OsEdge<R> {
 
     fn note_closing(&mut self) {}
 
-    fn lend_keeper(&mut self, _at: Reading, _has_changed: bool) -> Option<Keeper> {
+    fn lend_keeper(&mut self, _at: Reading, _is_short: bool, _has_changed: bool) -> Option<Keeper> {
         None
     }
 

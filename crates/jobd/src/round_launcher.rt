@@ -1,4 +1,4 @@
-//! What a round of the live loop finds, handed to the launcher one by one.
+//! What a pass of the live loop finds, delivered to the launcher one by one.
 
 ghost use Rattle.std.specs.Prelude.{◌≡◌, ℕ, List, true, false};
 ghost use Rattle.launcher.specs.Inputs.{input_event, wants_memory};
@@ -18,28 +18,30 @@ use outside::SettingStore;
 use std::alloc::Global;
 use std::io::Write;
 
-/// A launcher at the reading of the present round. That reading is handed to it before any other input of the round, and
-/// else only if it may change something. Its `up` counts the time in which the machine slept too: each sleep from the first reading on at
-/// which no job waits for its KILL, so that none loses the time that it has to end.
+/// A launcher at the clock reading of the present pass of the loop. The launcher gets that clock reading before any
+/// other input of the pass, and else only if it may change something. Its `up` counts the time in which the machine
+/// slept too. Each sleep counts from the first clock reading on at which no job waits for its KILL, so that none loses
+/// the time that it has to exit.
 #[derive(Drop)]
 pub struct RoundLauncher<T: SettingStore, E: ChildEdge + SocketEdge, W: Write> {
     pub host: Host<T, E, W>,
     at: Reading,
-    // What the edge told of sleeps at the beginning; and how many milliseconds of sleep behind that the readings count.
+    // How long the machine had slept at the beginning, by the edge; and how many milliseconds of later sleep count.
     before: u64,
     slept: u64,
-    // The launcher had no memory for the last reading that was handed in.
+    // The launcher had no memory for the clock reading that it was given last.
     is_refused: bool,
-    // Something happened in this round that is an input.
+    // Something happened in this pass that is an input.
     is_active: bool,
-    // A load was accepted since the paths were looked at.
+    // A load was accepted since the paths were checked.
     has_loaded: bool,
 }
 
 impl<T: SettingStore, E: ChildEdge + SocketEdge, W: Write> RoundLauncher<T, E, W> {
     ghost use Rattle.jobd.specs.Launches.{Heard, HeardReading, Reads, ReadsIf, ReadsClock, HandsNews, Shows, Gives, Tells, Begins, PollsRun, AnswersLine};
 
-    /// The launcher at its own last reading, from which on sleeps count; `before` is what its edge told of sleeps then.
+    /// The launcher at its own latest clock reading, from which on sleeps count; `before` is what its edge said of
+    /// sleeps then.
     pub fn new(host: Host<T, E, W>, before: u64) -> RoundLauncher<T, E, W>
         ensures host { result.host ≡ host }
         ensures at { result.at ≡ host.table.reading }
@@ -58,9 +60,9 @@ impl<T: SettingStore, E: ChildEdge + SocketEdge, W: Write> RoundLauncher<T, E, W
         }
     }
 
-    /// Begins a round at a new reading, which is handed in if it may change something. If the clock can't be read, or a launcher would
-    /// refuse the reading after the one that it has, the round is at the reading of the one before. A reading for which the launcher had
-    /// no memory is handed in first.
+    /// Begins a pass of the loop at a new clock reading, and delivers it if it may change something. The pass has the
+    /// clock reading of the one before if the clock can't be read, or if a launcher would refuse what it shows now. If
+    /// the launcher had no memory for the clock reading before, that is delivered first.
     pub fn begin(&mut self, alloc: Global)
     where
         E: SleepEdge,
@@ -72,7 +74,7 @@ impl<T: SettingStore, E: ChildEdge + SocketEdge, W: Write> RoundLauncher<T, E, W
         self.hand_in_news(alloc);
     }
 
-    // Hands in the reading of the round before, if the launcher had no memory for it.
+    // Delivers the clock reading of the pass before, if the launcher had no memory for it.
     fn hand_in_missed(&mut self, alloc: Global)
         ensures { ReadsIf E.told T.told T.holds T.stamped self.old.is_refused self.old self.new }
     {
@@ -81,7 +83,7 @@ impl<T: SettingStore, E: ChildEdge + SocketEdge, W: Write> RoundLauncher<T, E, W
         }
     }
 
-    // Takes a reading, if a launcher may hear it after the one that it has.
+    // Reads the clock, if a launcher may accept what it shows after the clock reading that it has.
     fn read(&mut self)
     where
         E: SleepEdge,
@@ -95,8 +97,8 @@ impl<T: SettingStore, E: ChildEdge + SocketEdge, W: Write> RoundLauncher<T, E, W
         self.host.edge().note_time(at);
     }
 
-    // What a clock shows that counts sleeps, by the answer of one that stands still in them; or what it showed before. Further sleeps are counted
-    // if no job waits for its KILL.
+    // What a clock shows that counts sleeps, by the answer of one that stops in them; or what it showed before. Further
+    // sleeps are counted if no job waits for its KILL.
     fn shown(&mut self, answer: Result<Reading, EdgeFault>, slept: u64) -> Reading
         ensures shows { Shows answer slept self.old self.new.slept result }
         ensures same { self.new ≡ record self.old { slept = self.new.slept } }
@@ -110,7 +112,7 @@ impl<T: SettingStore, E: ChildEdge + SocketEdge, W: Write> RoundLauncher<T, E, W
         counting(awake, self.slept)
     }
 
-    // Hands in the reading of the round, if it may change something.
+    // Delivers the clock reading of the pass, if it may change something.
     fn hand_in_news(&mut self, alloc: Global)
         ensures { HandsNews E.told T.told T.holds T.stamped self.old self.new }
     {
@@ -119,7 +121,7 @@ impl<T: SettingStore, E: ChildEdge + SocketEdge, W: Write> RoundLauncher<T, E, W
         }
     }
 
-    // Hands in the reading of the round, unless it is the launcher's own already.
+    // Delivers the clock reading of the pass, unless it is the launcher's own already.
     fn hand_in_time(&mut self, alloc: Global)
         ensures { Reads E.told T.told T.holds T.stamped self.old self.new }
     {
@@ -151,8 +153,8 @@ impl<T: SettingStore, E: ChildEdge + SocketEdge, W: Write> RoundLauncher<T, E, W
         self.host.turn(alloc, input)
     }
 
-    /// Hands in what happened, after the reading of the round. A refused wait is told each round, so it is no reason to wait
-    /// less.
+    /// Delivers what happened, after the clock reading of the pass. A refused wait comes in each pass, so it does not
+    /// shorten the next pause.
     pub fn give(&mut self, alloc: Global, input: Input<'_>) -> Reply
         ensures memory { is_memory result.refusal ≡ true → wants_memory input.entry ≡ true }
         ensures gives { Gives E.told T.told T.holds T.stamped (input_event input.entry) result.refusal result.text self.old self.new }
@@ -163,7 +165,7 @@ impl<T: SettingStore, E: ChildEdge + SocketEdge, W: Write> RoundLauncher<T, E, W
         self.turn(alloc, input)
     }
 
-    /// Hands in a control client's line, and notes a load that was accepted.
+    /// Delivers a control client's line, and notes a load that was accepted.
     pub fn answer_line(&mut self, alloc: Global, line: &[u8]) -> Reply
         ensures { AnswersLine E.told T.told T.holds T.stamped line.now result self.old self.new }
     {
@@ -181,7 +183,7 @@ impl<T: SettingStore, E: ChildEdge + SocketEdge, W: Write> RoundLauncher<T, E, W
         }
     }
 
-    // Hands in what happened, and gives why it was refused.
+    // Delivers what happened, and gives why it was refused.
     fn tell(&mut self, alloc: Global, input: Input<'_>) -> Option<Refusal>
         ensures memory { is_memory result ≡ true → wants_memory input.entry ≡ true }
         ensures tells { Tells E.told T.told T.holds T.stamped (input_event input.entry) result self.old self.new }
@@ -192,8 +194,8 @@ impl<T: SettingStore, E: ChildEdge + SocketEdge, W: Write> RoundLauncher<T, E, W
         refusal
     }
 
-    // Hands in how the run of the job ended, or that the wait for it was refused. The table can't lend the label while the child is
-    // polled.
+    // Delivers how the run of the job exited, or that the wait for it was refused. The table can't lend the label while
+    // the child is polled.
     fn poll(&mut self, alloc: Global, room: &mut LabelRoom, job: JobNo, run: u64)
         ensures { PollsRun E.told T.told T.holds T.stamped job run self.old self.new }
     {
@@ -215,14 +217,14 @@ impl<T: SettingStore, E: RoundEdge, W: Write> RoundLauncher<T, E, W> {
     ghost use Rattle.jobd.specs.Launches.{lent};
     ghost use Rattle.jobd.specs.Standings.{IsStatusText};
 
-    /// Has the file on how the launcher stands written, if it is kept and is to be written in this round. True: its text was handed to it, that of
-    /// the table as it is now.
+    /// Has the status file written, if it is kept and must be written in this pass. True: the file got its text, that
+    /// of the table as it is now.
     pub fn write_status(&mut self) -> bool
         ensures asks { (edge : E) × (E.told edge ≡ E.told self.old.host.edge) × (self.new ≡ lent edge self.old) }
         ensures handed { result ≡ true → (text : List ℕ) × (edge : E) × IsStatusText self.old.host.table text × E.Hands text edge self.new.host.edge }
     {
-        let (at, is_active) = (self.at, self.is_active);
-        match self.host.edge().lend_keeper(at, is_active) {
+        let (at, is_short, is_active) = (self.at, self.is_refused, self.is_active);
+        match self.host.edge().lend_keeper(at, is_short, is_active) {
             Some(keeper) => self.write_by(keeper, at),
             None => false,
         }
@@ -394,11 +396,10 @@ impl<T: SettingStore, E: RoundEdge, W: Write> LoopHost for RoundLauncher<T, E, W
         }
     }
 
-    // It is the last that each round asks before it tells what there is to tell.
+    // Each pass asks this last, before it logs what there is to log. After a text that the file got the next pass comes at once.
     fn forward(&mut self) -> bool {
         let may_go_on = self.host.edge().forward();
-        self.write_status();
-        may_go_on
+        may_go_on | self.write_status()
     }
 
     fn let_all_go(&mut self) {

@@ -1,5 +1,6 @@
-//! `jobd serve`: what the launcher stands on is opened step by step, and then it serves. What opens holds the edge and the store as
-//! type parameters, so that only `serve_by` is proved for all that the edge of the system holds, and only `startup` for the store's files.
+//! `jobd serve`: the launcher opens what it needs step by step, and then it serves. What opens holds the edge and the
+//! store as type parameters. So only `serve_by` is proved for all that the edge of the system holds, and only `startup`
+//! for the store's files.
 
 use crate::journal_watch::journal_watch;
 use crate::keeper::Keeper;
@@ -9,10 +10,11 @@ use crate::round_edge::RoundEdge;
 use crate::round_launcher::RoundLauncher;
 use crate::standing_file::StandingFile;
 use crate::status_edge::StatusEdge;
-use child_edge::room_for;
+use child_edge::{OsEdge, room_for};
 use control_socket::ControlSocket;
 use ctl_protocol::{Header, Settings, ZoneText, header_line};
 use exit_status::{CLOCK_OR_WAITING, NO_MEMORY, STORE};
+use files_and_process::run_names::LauncherId;
 use files_and_process::socket_file;
 use history_model::{Reading, Setting, Text};
 use launchctl_words::ZoneWords;
@@ -30,16 +32,16 @@ use std::rt::Env;
 use std::sync::Wait;
 use std::{env, str};
 
-/// What names the file on how the launcher stands.
+/// The variable that names the status file.
 const STATUS_FILE: &str = "JOBD_STATUS_FILE";
 
 /// What names the group that may read it.
 const STATUS_GROUP: &str = "JOBD_STATUS_GROUP";
 
-/// Serves until a shutdown was accepted and no job is left: 0. A fault is told, and its status given: in this order the zone
-/// 7, how the process was started and the clock 9, the control socket 6, the journal 8, the store 5, the spool 10, waiting 9; 1
-/// for want of memory. A journal is emptied only after the spool. The files of the control socket and of locks are removed in
-/// each case, and what else was made is left.
+/// Serves until a shutdown was accepted and no job is left: 0. It reports a fault, and gives its status. In this order:
+/// the zone 7, how the process was started and the clock 9, the control socket 6, the journal 8. Then the store 5, the
+/// spool 10, waiting 9; 1 for want of memory. A journal is emptied only after the spool. The files of the control
+/// socket and of locks are removed in each case, and what else was made is left.
 pub(crate) fn serve_at<L: Wait>(
     host: &HostRuntime,
     waits: &L,
@@ -70,7 +72,11 @@ fn serve_by<L: Wait>(
         Err(status) => return status,
     };
     match system_of(host, alloc, plan) {
-        Ok((edge, reading)) => serve_kept(host, host, waits, plan, zone, edge, reading),
+        Ok((edge, reading)) => {
+            let mut edge = edge;
+            name_runs(host, &mut edge);
+            serve_kept(host, host, waits, plan, zone, edge, reading)
+        }
         Err(status) => {
             drop(zone);
             status
@@ -78,7 +84,17 @@ fn serve_by<L: Wait>(
     }
 }
 
-// Serves by the edge, and keeps the file on how the launcher stands if there is to be one.
+// Each run gets the name that this process gives it, if the system says which process this is.
+fn name_runs(host: &HostRuntime, edge: &mut OsEdge<HostRuntime>) {
+    if let Some(own) = own_process(host) {
+        edge.name_runs(LauncherId {
+            pid: own.pid,
+            began: own.began,
+        });
+    }
+}
+
+// Serves by the edge, and keeps the status file if there must be one.
 fn serve_kept<L: Wait, R: System + Env + Print, E: RoundEdge + Drop>(
     host: &HostRuntime,
     rt: &R,
@@ -92,12 +108,12 @@ fn serve_kept<L: Wait, R: System + Env + Print, E: RoundEdge + Drop>(
     let (zone, kept) = kept_for(rt, host.alloc(), plan, zone, reading, group);
     let places = told_places(rt, host.alloc(), plan, kept.is_some(), group);
     let journal = journal_watch(rt, host.alloc(), plan);
-    let edge = StatusEdge::new(edge, kept, places, journal);
+    let edge = StatusEdge::new(host.alloc(), edge, kept, places, journal);
     serve_over(host, rt, waits, plan, zone, edge, reading)
 }
 
-// What keeps the file on how the launcher stands, if the environment names one: its lock is held from now on. That it can't be kept is told,
-// and the launcher goes on without.
+// What keeps the status file, if the environment names one: its lock is held from now on. If it can't be kept, the
+// launcher reports that, and goes on without.
 fn kept_for<R: System + Env>(
     rt: &R,
     alloc: Global,
@@ -126,7 +142,7 @@ fn kept_for<R: System + Env>(
     (zone, kept)
 }
 
-// The file that tells the launcher's places. It names the file on how the launcher stands if that is kept.
+// The file that says the launcher's places. It names the status file if that is kept.
 fn told_places<R: System + Env>(
     rt: &R,
     alloc: Global,
@@ -149,7 +165,7 @@ fn told_places<R: System + Env>(
     }
 }
 
-// The group that may read the file, by its number. Another word is told, and names none.
+// The group that may read the file, by its number. Another value is reported, and names none.
 fn group_of<R: System + Env>(rt: &R, plan: &Plan) -> Option<u32> {
     let Ok(word) = env::var(rt, STATUS_GROUP) else {
         return None;
@@ -231,7 +247,8 @@ fn headed(alloc: Global, zone: ZoneText, reading: Reading) -> (ZoneText, Option<
     (zone, text)
 }
 
-// Opens what comes before the spool, and serves. The store's files are opened by the runtime itself, which is handed in as `host` too.
+// Opens what comes before the spool, and serves. The store's files are opened by the runtime itself, which is passed as
+// `host` too.
 fn serve_over<L: Wait, R: System + Print, E: RoundEdge + Drop>(
     host: &HostRuntime,
     rt: &R,
@@ -290,7 +307,7 @@ struct Serving<'a, L, R, E> {
 }
 
 impl<L, R: System, E: Drop> Serving<'_, L, R, E> {
-    // Lets all go that was opened before the store.
+    // Drops all that was opened before the store.
     fn refused(self, status: u8) -> u8 {
         let Serving {
             rt,
@@ -333,7 +350,7 @@ impl<L: Wait, R: System + Print, E: RoundEdge + Drop> StoreUser for Serving<'_, 
 }
 
 impl<L: Wait, R: System + Print, E: RoundEdge + Drop> Serving<'_, L, R, E> {
-    // Puts the launcher together, and serves. Err: nothing was served, and what was opened is let go.
+    // Puts the launcher together, and serves. Err: nothing was served, and what was opened is dropped.
     fn serve_from<T: SettingStore + Drop>(
         self,
         store: T,
@@ -377,7 +394,7 @@ impl<L: Wait, R: System + Print, E: RoundEdge + Drop> Serving<'_, L, R, E> {
     }
 }
 
-// The journal, emptied. A header that is too long for it is told.
+// The journal, emptied. A header that is too long for it is reported.
 fn writer_of<R: System>(
     rt: &R,
     alloc: Global,

@@ -3,17 +3,18 @@
 use libc::types::timespec;
 use std::time::Duration;
 
-/// Linux's clock that goes on while the machine is suspended; CLOCK_MONOTONIC, by which an edge reads, stands still then (clock_gettime(2)).
+/// Linux's clock that goes on while the machine is suspended. CLOCK_MONOTONIC, by which an edge reads, stops then
+/// (clock_gettime(2)).
 const CLOCK_BOOTTIME: i32 = 7;
 
-/// Seconds by which the one clock may be behind the other, as in a time namespace: years.
+/// Seconds by which CLOCK_BOOTTIME may be less than CLOCK_MONOTONIC, as in a time namespace: years.
 const AHEAD: u64 = 1 << 32;
 
-/// Microseconds that may lie between the readings of the two clocks, and are no sleep.
+/// Microseconds that may pass from one clock's reading to the other's, and don't count as sleep.
 const BETWEEN: u64 = 500;
 
-/// Milliseconds that the machine slept since a moment that stays the same while it runs. If a clock can't be read, it tells no sleep. It takes
-/// no memory.
+/// Milliseconds that the machine slept since a time that stays the same while it runs. If a clock can't be read, it
+/// gives no sleep. It takes no memory.
 pub(crate) fn slept() -> u64 {
     let whole = shown_by(CLOCK_BOOTTIME);
     let awake = shown_by(libc::CLOCK_MONOTONIC);

@@ -1,13 +1,19 @@
-//! The file on how the launcher stands: held by a lock beside it, and put in place whole.
+//! The status file: held by a lock next to it, written next to it in pieces, one in each pass of the event loop, and put in place whole.
 
-use crate::whole_file::put_whole;
+use crate::whole_file::{new_file, shared};
 use child_edge::{Notice, NoticeKind, System};
 use files_and_process::own_files::{LockFile, check_folder};
 use history_model::{Reading, SECOND, Text};
 use std::alloc::Global;
-use std::{io, mem};
+use std::fs::File;
+use std::io::Write;
+use std::time::SystemTime;
+use std::{fs, io, mem};
 
-/// The file, with its lock, which is held as long as this lives.
+/// How many bytes of the text are written in one pass of the event loop, at most.
+const PIECE: usize = 65_536;
+
+/// The file, with its lock, which is held until this is dropped.
 #[derive(Drop)]
 pub struct StandingFile<R: System> {
     rt: R,
@@ -19,10 +25,16 @@ pub struct StandingFile<R: System> {
     // The group that may read it.
     group: Option<u32>,
     lock: LockFile,
+    // Whether a text was handed in that is not in place yet, the file that has some of it, and how much.
+    is_going: bool,
+    file: Option<File>,
+    written: usize,
+    // When that text was made.
+    began: Option<SystemTime>,
     // Something happened since it was written, and it was tried last at this `up`.
     has_changed: bool,
     tried: Option<u64>,
-    // That it can't be written was told, or waits to be.
+    // That it can't be written was logged, or waits to be.
     is_refused: bool,
     untold: Option<Notice>,
 }
@@ -67,6 +79,10 @@ impl<R: System> StandingFile<R> {
             user,
             group,
             lock,
+            is_going: false,
+            file: None,
+            written: 0,
+            began: None,
             has_changed: true,
             tried: None,
             is_refused: false,
@@ -74,31 +90,39 @@ impl<R: System> StandingFile<R> {
         })
     }
 
-    /// Whether it is to be written at this reading: something changed, and it was not tried within a second.
+    /// Whether it must be written at this clock reading: something changed, it was not tried within a second, and no text is on its way.
     pub(crate) fn is_due(&mut self, at: Reading, has_changed: bool) -> bool {
         self.has_changed = self.has_changed || has_changed;
         let is_soon = match self.tried {
             Some(tried) => at.up < tried.saturating_add(SECOND),
             None => false,
         };
-        self.has_changed && !is_soon
+        self.has_changed && !is_soon && !self.is_going
     }
 
-    /// What it tells is another since it was written.
+    /// What it says has changed since it was written.
     pub(crate) fn note_change(&mut self) {
         self.has_changed = true;
     }
 
-    /// Puts the text in the place of the file. What the system refuses is told once, until it is written again.
-    pub(crate) fn put(&mut self, text: &[u8], at: Reading) {
+    /// Writes the first piece of a text of this clock reading. `go_on` and `end` write the others, of the same text.
+    pub(crate) fn begin(&mut self, text: &[u8], at: Reading) {
         self.tried = Some(at.up);
-        match self.replace(text) {
-            Ok(()) => {
-                self.has_changed = false;
-                self.is_refused = false;
-            }
-            Err(error) => self.tell(error),
-        }
+        self.began = SystemTime::now(&self.rt).ok();
+        self.has_changed = false;
+        self.is_going = true;
+        self.write(text, PIECE);
+    }
+
+    /// Writes the next piece of the text that was begun, if there is more, and puts it in the place of the file after the last one. True: there is more of it.
+    pub(crate) fn go_on(&mut self, text: &[u8]) -> bool {
+        self.write(text, PIECE);
+        self.is_going
+    }
+
+    /// Writes all that is left of the text that was begun, and puts it in the place of the file.
+    pub(crate) fn end(&mut self, text: &[u8]) {
+        self.write(text, usize::MAX);
     }
 
     /// There was no memory for the text: it is tried again a second later.
@@ -106,21 +130,67 @@ impl<R: System> StandingFile<R> {
         self.tried = Some(at.up);
     }
 
-    fn replace(&mut self, text: &[u8]) -> io::Result<()> {
-        check_folder(&self.rt, folder_of(self.path.as_str()), self.user)?;
-        match self.put_for(text, self.group) {
-            Err(error) if is_of_group(&error, self.group) => {
-                self.group = None;
-                self.tell(error);
-                self.put_for(text, None)
+    // What the system refuses is logged once, until it is written again. It is tried again a second later.
+    fn write(&mut self, text: &[u8], most: usize) {
+        if !self.is_going {
+            return;
+        }
+        match self.put_next(text, most) {
+            Ok(is_left) => {
+                self.is_going = is_left;
+                self.is_refused = self.is_refused && is_left;
             }
-            answer => answer,
+            Err(error) => {
+                let _gone = fs::remove_file(&self.rt, self.beside.as_str());
+                self.is_going = false;
+                self.has_changed = true;
+                self.tell(error);
+            }
         }
     }
 
-    fn put_for(&self, text: &[u8], group: Option<u32>) -> io::Result<()> {
-        let (path, beside) = (self.path.as_str(), self.beside.as_str());
-        put_whole(&self.rt, path, beside, text, group)
+    // Whether there is more. After a refusal, and after the last piece, the next one is the first of a text.
+    fn put_next(&mut self, text: &[u8], most: usize) -> io::Result<bool> {
+        let from = mem::replace(&mut self.written, 0);
+        let kept = self.file.take();
+        check_folder(&self.rt, folder_of(self.path.as_str()), self.user)?;
+        let mut file = match kept {
+            Some(file) => file,
+            None => new_file(&self.rt, self.beside.as_str())?,
+        };
+        let rest = text.get(from..).unwrap_or(&[]);
+        let piece = rest.get(..most).unwrap_or(rest);
+        file.write_all(piece)?;
+        if piece.len() < rest.len() {
+            self.written = from.saturating_add(piece.len());
+            self.file = Some(file);
+            return Ok(true);
+        }
+        self.date(&file)?;
+        self.share(&file)?;
+        drop(file);
+        fs::rename(&self.rt, self.beside.as_str(), self.path.as_str())?;
+        Ok(false)
+    }
+
+    // The file is as old as its text, and not as its last piece: what happened before its modification time is in it.
+    fn date(&self, file: &File) -> io::Result<()> {
+        match self.began {
+            Some(began) => file.set_modified(began),
+            None => Ok(()),
+        }
+    }
+
+    // Lets the group read it. That this user may not is logged, and the group is left out from then on.
+    fn share(&mut self, file: &File) -> io::Result<()> {
+        match shared(&self.rt, file, self.beside.as_str(), self.group) {
+            Err(error) if is_of_group(&error, self.group) => {
+                self.group = None;
+                self.tell(error);
+                Ok(())
+            }
+            answer => answer,
+        }
     }
 
     fn tell(&mut self, error: io::Error) {
@@ -138,7 +208,7 @@ impl<R: System> StandingFile<R> {
         }
     }
 
-    /// What is to be told of it.
+    /// What has to be logged of it.
     pub(crate) fn next_notice(&mut self) -> Option<Notice> {
         self.untold.take()
     }

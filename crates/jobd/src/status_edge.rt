@@ -1,10 +1,11 @@
-//! An edge over another one, by which the file on how the launcher stands is kept: each call is that of the other edge, and what becomes of runs is
-//! noted.
+//! An edge over another one, which keeps the status file. Each call is that of the other edge, and what becomes of runs
+//! is noted.
 
 ghost use Rattle.std.specs.Prelude.{◌≡◌, ◌≤◌, ℕ, List, Option, Some};
 
 use crate::journal_watch::JournalWatch;
 use crate::keeper::Keeper;
+use crate::memory_want::MemoryWant;
 use crate::places_file::PlacesFile;
 use crate::round_edge::{RoundEdge, SleepEdge};
 use crate::standing_file::StandingFile;
@@ -15,22 +16,26 @@ use history_model::definition::Def;
 use history_model::{Ended, JobNo, Obs, Reading, Refusal};
 use live_loop::{Caller, Origin};
 use mio::{Registry, Token};
+use std::alloc::Global;
 use std::mem;
 
 /// The edge, and what keeps the file, if one is kept.
 #[derive(Drop)]
 pub struct StatusEdge<E: RoundEdge, R: System> {
     edge: E,
+    want: MemoryWant,
     file: Option<StandingFile<R>>,
     places: Option<PlacesFile<R>>,
     journal: Option<JournalWatch<R>>,
-    // It is out while the text is written.
+    // It is out while the text is made. Its text stays until all of it is in the file.
     keeper: Option<Keeper>,
 }
 
 impl<E: RoundEdge, R: System> StatusEdge<E, R> {
-    /// The edge, with the file and what keeps it, or with none; with the file that tells the launcher's places, and the watch on its journal.
+    /// The edge, with the file and what keeps it, or with none. It has the file that says the launcher's places, and
+    /// the watch on its journal.
     pub(crate) fn new(
+        alloc: Global,
         edge: E,
         kept: Option<(StandingFile<R>, Keeper)>,
         places: Option<PlacesFile<R>>,
@@ -42,6 +47,7 @@ impl<E: RoundEdge, R: System> StatusEdge<E, R> {
         };
         StatusEdge {
             edge,
+            want: MemoryWant::new(alloc),
             file,
             places,
             journal,
@@ -156,7 +162,7 @@ impl<E: RoundEdge, R: System> SleepEdge for StatusEdge<E, R> {
         self.edge.slept()
     }
 
-    // From now on it is the reading of what is noted.
+    // From now on this clock reading is that of what is noted.
     fn note_time(&mut self, at: Reading) {
         self.edge.note_time(at);
         if let Some(keeper) = &mut self.keeper {
@@ -181,7 +187,7 @@ impl<E: RoundEdge, R: System> RoundEdge for StatusEdge<E, R> {
         self.edge.over_from(job)
     }
 
-    // Each round begins with it: the first one finds all opened that the launcher stands on.
+    // Each pass of the loop begins with it. In the first one all is open that the launcher needs.
     fn register(&mut self, registry: &Registry, token: Token) -> bool {
         if let Some(places) = &mut self.places {
             places.begin();
@@ -216,13 +222,24 @@ impl<E: RoundEdge, R: System> RoundEdge for StatusEdge<E, R> {
         self.edge.take(conn, caller)
     }
 
+    // With the next piece of a text that goes out.
     fn forward(&mut self) -> bool {
-        self.edge.forward()
+        let may_go_on = self.edge.forward();
+        let mut is_left = false;
+        if let Some(file) = &mut self.file {
+            if let Some(keeper) = &self.keeper {
+                is_left = file.go_on(keeper.text.as_slice());
+            }
+        }
+        may_go_on | is_left
     }
 
     fn let_all_go(&mut self) {
         self.edge.let_all_go();
-        if let Some(file) = &self.file {
+        if let Some(file) = &mut self.file {
+            if let Some(keeper) = &self.keeper {
+                file.end(keeper.text.as_slice());
+            }
             file.let_go();
         }
         if let Some(places) = &self.places {
@@ -231,6 +248,9 @@ impl<E: RoundEdge, R: System> RoundEdge for StatusEdge<E, R> {
     }
 
     fn next_notice(&mut self) -> Option<Notice> {
+        if let Some(notice) = self.want.next_notice() {
+            return Some(notice);
+        }
         if let Some(file) = &mut self.file {
             if let Some(notice) = file.next_notice() {
                 return Some(notice);
@@ -275,7 +295,8 @@ impl<E: RoundEdge, R: System> RoundEdge for StatusEdge<E, R> {
         }
     }
 
-    fn lend_keeper(&mut self, at: Reading, has_changed: bool) -> Option<Keeper> {
+    fn lend_keeper(&mut self, at: Reading, is_short: bool, has_changed: bool) -> Option<Keeper> {
+        self.want.note(is_short);
         if let Some(places) = &mut self.places {
             places.keep(at.up);
         }
@@ -293,13 +314,11 @@ impl<E: RoundEdge, R: System> RoundEdge for StatusEdge<E, R> {
     fn hand(&mut self, keeper: Keeper, is_whole: bool, at: Reading) {
         if let Some(file) = &mut self.file {
             if is_whole {
-                file.put(keeper.text.as_slice(), at);
+                file.begin(keeper.text.as_slice(), at);
             } else {
                 file.put_off(at);
             }
         }
-        let mut keeper = keeper;
-        keeper.text.clear();
         drop(mem::replace(&mut self.keeper, Some(keeper)));
     }
 }

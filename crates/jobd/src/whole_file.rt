@@ -6,7 +6,8 @@ use std::io::Write;
 use std::os::unix::fs::{OpenOptionsExt, PermissionsExt, lchown};
 use std::{fs, io};
 
-/// Writes the text beside the path, and puts it there, in the place of what is there. The group, if one is named by its number, may read it.
+/// Writes the text next to the path, and puts it there, in the place of what is there. The group, if one is named by
+/// its number, may read it.
 pub(crate) fn put_whole<R: System>(
     rt: &R,
     path: &str,
@@ -14,11 +15,7 @@ pub(crate) fn put_whole<R: System>(
     text: &[u8],
     group: Option<u32>,
 ) -> io::Result<()> {
-    // A launcher that was killed may have left it.
-    let _gone = fs::remove_file(rt, beside);
-    let mut options = OpenOptions::new();
-    options.write(true).create_new(true).mode(0o600);
-    let mut file = options.open(rt, beside)?;
+    let mut file = new_file(rt, beside)?;
     let written = match file.write_all(text) {
         Ok(()) => shared(rt, &file, beside, group),
         Err(error) => Err(error),
@@ -34,8 +31,22 @@ pub(crate) fn put_whole<R: System>(
     put
 }
 
-// The group first: the mode is never that of another group.
-fn shared<R: System>(rt: &R, file: &File, beside: &str, group: Option<u32>) -> io::Result<()> {
+/// A new file, for this user alone. What is at the path is removed.
+pub(crate) fn new_file<R: System>(rt: &R, beside: &str) -> io::Result<File> {
+    // A launcher that was killed may have left it.
+    let _gone = fs::remove_file(rt, beside);
+    let mut options = OpenOptions::new();
+    options.write(true).create_new(true).mode(0o600);
+    options.open(rt, beside)
+}
+
+/// Lets the group read the file. The group first: the mode is never that of another group.
+pub(crate) fn shared<R: System>(
+    rt: &R,
+    file: &File,
+    beside: &str,
+    group: Option<u32>,
+) -> io::Result<()> {
     match group {
         Some(group) => {
             lchown(rt, beside, None, Some(group))?;

@@ -1,10 +1,11 @@
-//! What is said of words that are no command.
+//! What is said of invalid arguments.
 
 use exit_status::{NO_MEMORY, STREAMS, USAGE};
 use launchctl_words::explain_daemon;
 use std::alloc::Global;
 
-/// Says why the words are no command, on standard error with 64. The help that they ask for goes to standard output with 0.
+/// Says why the arguments are invalid, on standard error with 64. The help that they ask for goes to standard output
+/// with 0.
 pub(crate) fn explain<R: Eprint + Print>(rt: &R, alloc: Global, words: &[String]) -> u8 {
     match explain_daemon(alloc, words) {
         Ok(explanation) => {

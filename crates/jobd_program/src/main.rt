@@ -1,4 +1,4 @@
-//! The programs `jobd`, `jobctl`, `jobscope` and a launcher's look-out in one file: it acts by the name that it was started under.
+//! The programs `jobd`, `jobctl`, `jobscope` and a launcher's helper process in one file: it acts by the name under which it was started.
 #![tactic(auto)]
 
 mod stack;

@@ -1,4 +1,4 @@
--- What is written of one more is written behind what was written of those before.
+-- What is written of one more is written after what was written of those before.
 use Rattle.std.proofs.Common.{◌≡◌, ◌++◌, ◌∷◌, [], ◌∙◌, ◌+◌, ◌<◌, ◌≤◌, ap, sym, refl, ℕ, List, take, length, get_or, subst, append-nil, append_assoc}
 use Rattle.std.proofs.lemmas.List.{take_more, take_all}
 use Rattle.std.specs.List.{flat_map}
@@ -26,7 +26,7 @@ members_more (f ∷ fs) field text one (first, others, so, rest, whole) is = (
   ap (λ t. t ++ one) whole ∙ append_assoc first others one,
 )
 
--- a member more behind those of the fields up to a place
+-- a member more after those of the fields up to a place
 pub told_more : (at : ℕ) (fields : List Field) (other : Field) (a b c : Ink) → at < length fields → TellsMembers (take at fields) a b
     → TellsMember (get_or fields at other).0.now (get_or fields at other).1 b c → TellsMembers (take (at + 1) fields) a c
 told_more at fields other a b c there (text, members, before) (one, is, added) =

@@ -1,4 +1,4 @@
--- An object of JSON (RFC 8259) as it stands within a line.
+-- An object of JSON (RFC 8259) as it is within a line.
 use Rattle.std.specs.Prelude.{◌≡◌, ℕ, Bool, true, false, List, [], ◌∷◌, ◌++◌, ◌||◌, ◌==◌, ◌+◌, ◌/◌, ◌%◌, if◌then◌else◌, nat_lt, codes, chars, encode_utf8}
 use Rattle.std.specs.Borrow.{Bor}
 use Rattle.std.specs.Fmt.{decimal}
@@ -20,7 +20,7 @@ escape c =
     codes "\\u" ++ (encode_utf8 (hex_digit (c / 4096)) ++ (encode_utf8 (hex_digit (c / 256))
     ++ (encode_utf8 (hex_digit (c / 16)) ++ encode_utf8 (hex_digit c))))
 
--- a character of a text: one that is hidden by its number, a quote and a backslash behind a backslash, any other as it is
+-- a character of a text: a hidden one is its number, a quote and a backslash follow a backslash, any other is as it is
 abbrev pub text_char : ℕ → List ℕ
 text_char c =
     if is_hidden c then escape c
@@ -39,7 +39,7 @@ flag_text false = codes "false"
 abbrev pub front_of : List ℕ → List ℕ → List ℕ
 front_of key text = codes ",\"" ++ (key ++ (codes "\":" ++ text))
 
--- a key with what stands there. Of a moment the key has some text, and the key with `_seconds` its second.
+-- a key with its value. For a time the key has some text, and the key with `_seconds` its second.
 abbrev pub IsMember : List ℕ → Value → List ℕ → Type 0
 IsMember key Absent text = text ≡ []
 IsMember key (Flag flag) text = text ≡ front_of key (flag_text flag)
@@ -50,7 +50,7 @@ IsMember key (Moment second) text =
     (shown : List ℕ) × (text ≡ front_of key (codes "\"") ++ (shown ++ (codes "\""
     ++ (codes ",\"" ++ (key ++ (codes "_seconds" ++ (codes "\":" ++ decimal second)))))))
 
--- it stands behind what was written before
+-- it follows what was written before
 abbrev pub TellsMember : List ℕ → Value → Ink → Ink → Type 0
 TellsMember key value old new = (text : List ℕ) × IsMember key value text × Adds text old new
 
@@ -70,7 +70,7 @@ IsObject key name fields text =
     (members : List ℕ) × AreMembers fields members
     × (text ≡ (codes "{\"" ++ (key ++ codes "\":")) ++ (quoted name ++ (members ++ codes "}")))
 
--- it stands behind what was written before
+-- it follows what was written before
 abbrev pub TellsObject : List ℕ → List ℕ → List Field → Ink → Ink → Type 0
 TellsObject key name fields old new = (text : List ℕ) × IsObject key name fields text × Adds text old new
 
@@ -79,11 +79,11 @@ abbrev pub TellsLine : List ℕ → List ℕ → List Field → Ink → Ink → 
 TellsLine key name fields old new =
     (text : List ℕ) × IsObject key name fields text × Adds (text ++ codes "\n") old new
 
--- a character of JSON: one that is hidden stands within a text, by its number
+-- a character of JSON: a hidden one is within a text, by its number
 abbrev pub json_char : ℕ → List ℕ
 json_char c = if is_hidden c then escape c else encode_utf8 c
 
--- a text of a list behind the first
+-- a text of a list after the first
 abbrev pub more_text : Bor (List ℕ) → List ℕ
 more_text text = codes "," ++ quoted text.now
 

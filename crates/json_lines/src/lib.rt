@@ -1,5 +1,5 @@
-//! Objects of JSON (RFC 8259), each within a line: what `jobscope` writes for programs. Texts of others stand in them whole, but no control
-//! character and no mark of direction stands there as it is.
+//! Objects of JSON (RFC 8259), each within a line: what `jobscope` writes for programs. They hold the texts of others whole, but escape
+//! each control character and each bidirectional control character.
 #![tactic(auto)]
 
 ghost use Rattle.std.specs.Prelude.{◌++◌, chars, codes, encode_utf8};
@@ -12,7 +12,7 @@ use history_model::MAX_WALL;
 use plain_text::is_hidden;
 use run_times::{Ink, Page, Piece, time_text};
 
-/// What stands at a key.
+/// The value at a key.
 #[derive(Clone, Copy)]
 pub enum Value<'a> {
     /// There is none: the key is left out.
@@ -20,13 +20,14 @@ pub enum Value<'a> {
     Flag(bool),
     Number(u64),
     Text(&'a str),
-    /// A second of Unix time. The key has it as RFC 3339 writes it in the page's zone, and the key with `_seconds` behind it as a number.
+    /// A second of Unix time. The key has it as RFC 3339 writes it in the page's zone, and the key followed by `_seconds` has it as a
+    /// number.
     Moment(u64),
     /// A value that is JSON already.
     Json(&'a str),
 }
 
-/// A key, and what stands there.
+/// A key, and its value.
 #[derive(Clone, Copy)]
 pub struct Field<'a>(pub &'static str, pub Value<'a>);
 
@@ -62,7 +63,7 @@ fn put_members(page: &mut Page<'_>, fields: &[Field<'_>])
     }
 }
 
-// A comma, the key, and what stands there; nothing, if nothing does.
+// A comma, the key, and its value; nothing, if it has none.
 fn put_member(page: &mut Page<'_>, key: &'static str, value: Value<'_>)
     ensures { TellsMember key.now value.entry page.old.ink page.new.ink }
 {

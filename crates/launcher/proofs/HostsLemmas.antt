@@ -51,7 +51,7 @@ pub as_replied : (event : Option Incoming) (refusal found : Option Refusal) (wor
 as_replied event refusal found words told old new before after same_refusal same_words heard =
     subst (λ (r : Option Refusal). Hears event r words old new before after) (sym same_refusal) (subst (λ (w : List ℕ). Hears event found w old new before after) (sym same_words) heard)
 
--- a line that is no event
+-- a line that is not an event
 pub unheard : (event : Option Incoming) (refusal : Option Refusal) (words : List ℕ) (old : Standing) (before : List Setting → Type 0) →
     refusal ≡ Some BadRequest → event ≡ None → Hears event refusal words old old before before
 unheard event refusal words old before is none =
@@ -108,16 +108,16 @@ flushed event refusal words old table calls stores m n before after other heard 
         stored = turn.stored;
       }
 
--- ---- the machine's words and settings
+-- ---- the machine's texts and settings
 
--- an event whose acceptance has no words
+-- an event whose acceptance has no text
 pub wordless : (s : State) (e : Event) → ((t : State) → text_after e t ≡ []) → (outcome s e).refusal ≡ None → (outcome s e).text ≡ []
 wordless s e quiet none = go (refusal_in s e) none where
   go : (o : Option Refusal) → (outcome_by o s e).refusal ≡ None → (outcome_by o s e).text ≡ []
   go None is = quiet _
   go (Some refusal) is = cc
 
--- want of memory is told as such
+-- want of memory is answered as such
 pub is_want : {A : Type 0} (answer : Result A Refusal) → is_memory (refused_with answer) ≡ true → answer ≡ Err NoMemory
 is_want (Ok a) is = cc
 is_want (Err NoMemory) is = refl

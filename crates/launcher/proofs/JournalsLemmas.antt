@@ -82,7 +82,7 @@ grows_append a b c s t first second = record {
   cause = both_causes a.phase b.phase c.phase a b c s t first.has_writer first.grew second.grew first.cause second.cause;
 }
 
--- what is handed on adds nothing
+-- what is passed on adds nothing
 pub grows_flushed : (a b c : JournalState) (s : List ℕ) → Grows a b s → Grows b c [] → Grows a c s
 grows_flushed a b c s first second = subst (Grows a c) (append-nil s) (grows_append a b c s [] first second)
 

@@ -50,7 +50,7 @@ loaded load outside refusal words old new before after untouched silent turned s
       stored = λ holds. settled after refusal s (load_event outside load) other (stored s keeps holds);
     })
 
--- the words of what was made
+-- the text of what was made
 pub load_words : (answer : Result (List ℕ) Refusal) (words : List ℕ) (P : State → Type 0) (text : State → List ℕ) → IfOk answer (λ x. (s : State) → P s → text s ≡ x) → IfOk answer (λ x. words ≡ x) → refused_with answer ≡ None →
     (s : State) → P s → text s ≡ words
 load_words (Ok x) words P text says is none s holds = says s holds ∙ sym is

@@ -30,7 +30,7 @@ use Rattle.launcher.specs.Writable.{IsWritableHeader}
 use Rattle.child_edge.specs.Calls.{ToldCall}
 use Rattle.launcher.specs.LoadTurns.{standing}
 
--- a reading that is refused nowhere is within its limit
+-- a clock reading that is refused nowhere is within its limit
 within : (at : Reading) (overrides : List Setting) → opening_refusal at overrides ≡ None → at.up ≤ MAX_UP
 within at overrides admitted = go (list_all (λ setting. is_label setting.label) overrides) (nat_lt at.up at.up) (nat_lt MAX_UP at.up) (nat_lt MAX_WALL at.wall) refl admitted where
   go : (b low high late : Bool) → nat_lt MAX_UP at.up ≡ high → refused_if (not b) BadRequest (refused_if (low || high || late) ClockRefused None) ≡ None → at.up ≤ MAX_UP
@@ -72,7 +72,7 @@ pub stores_fault : (header : Header) (fault : StoreFault) → IsFaultOf header (
 stores_fault header answers.NoMemory = tt
 stores_fault header answers.Refused = tt
 
--- the header's own settings are no part of its fault
+-- the header's own settings are not part of its fault
 pub same_fault : (header : Header) (settings : List Setting) (fault : HostFault) → IsFaultOf (with_overrides header settings) fault → IsFaultOf header fault
 same_fault header settings faults.NoMemory is = tt
 same_fault header settings faults.Store is = tt

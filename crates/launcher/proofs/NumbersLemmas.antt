@@ -37,7 +37,7 @@ more-named n names [] other all = tt
 more-named n names (row ∷ rows) other all =
     (ap (λ b. cond b (Some n.described) (definition_of_number names row.number)) other.0 ∙ all.0, more-named n names rows other.2 all.1)
 
--- if each number stands once, it stands for its row's definition
+-- if each number is there once, it stands for its row's definition
 pub rows-named : (rows : List Row) → IsOnce (row_names rows) → AreNamed (row_names rows) rows
 rows-named [] once = tt
 rows-named (row ∷ rows) once = (

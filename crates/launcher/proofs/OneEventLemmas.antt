@@ -196,7 +196,7 @@ refusing refusal = Err refusal
 same-refusal : (a b : Refusal) → refusing a ≡ refusing b → a ≡ b
 same-refusal a b is = let both : Some a ≡ Some b = ap refused_with is in cc
 
--- want of memory is told of no step
+-- for want of memory nothing was called
 pub not-called : (e : Event) (refusal : Refusal) (old new : Table) (told : Option (List ToldCall)) → new.rows ≡ old.rows → Takes e old (Err refusal) new → refusing refusal ≡ refusing NoMemory → IsUncalled old new told told
 not-called e refusal old new told rows takes is =
     record { same = subst (λ r. Takes e old (Err r) new) (same-refusal refusal NoMemory is) takes; rows = rows; tells = tells_nothing told }
@@ -216,7 +216,7 @@ wants (journaled.OfJob job item) table result want is = absurd (subst NeedsNoMem
 pub wanted : (e : journal.Event) (table : Table) (refusal : Refusal) → WantsMemory e table (Err refusal) → refusing refusal ≡ refusing NoMemory → takes_none e ≡ false
 wanted e table refusal want is = wants e table (Err refusal) want (ap Err (same-refusal refusal NoMemory is))
 
--- what is handed on of an answer, which needs no memory
+-- what is passed on of an answer, which needs no memory
 pub answer-on : (e : Event) (old new : Table) (lent : Result Step Refusal) (result : Result (Unit {0}) Refusal) (before after : List Unheard) (told told' : Option (List ToldCall)) →
     refused_with result ≡ refused_with lent → IsAnswer e old lent → IfOk lent AreKnown → IsNextTable e old new × Visits lent old new × Numbers lent old new →
     Carried (orders_lent lent) before after told told' → Happens e (refused_with result) old new before after told told'
@@ -236,7 +236,7 @@ good table s keeps orderly = record { range = orderly.range; rests = resting s.r
 pub turning : (table : Table) (s : State) (names : List Name) (waits : List JobOrder) (pending : List Unheard) → IsWaiting table s names waits pending → IsTurning s waits
 turning table s names waits pending is = record { good = good table s is.keeps is.orderly; order = is.orderly.order; fresh = is.fresh; heavy = is.heavy }
 
--- an answer leaves the reading, and no label comes
+-- an answer leaves the clock reading, and no label comes
 pub orderly-next : (s : State) (label : Label) (x : Item) → IsOrderly s → IsOrderly (step s (OfJob label x))
 orderly-next s label x is = record {
   range = go (refusal_in s (OfJob label x));
@@ -266,7 +266,7 @@ still-named : (result : Result (Unit {0}) Refusal) (old new : Table) → OnErr r
 still-named (Ok done) old new same numbered loaded = (loaded refl).named
 still-named (Err refusal) old new same numbered loaded = subst (AreNamed new.names) same numbered.named
 
--- the answer goes to its job, and then those that it ordered wait behind the others
+-- the answer goes to its job, and then those that it ordered wait after the others
 pub handled : (result : Result (Unit {0}) Refusal) (old new : Table) (before after : List Unheard) (told told' : Option (List ToldCall)) (written written' : JournalState) (pending : Unheard) (said : Label) →
     said ≡ label_of new.names pending.job → IsNumbered old → IsNumbered new → IsUtf8 said → Happens (answer_event old.names pending) (refused_with result) old new before after told told' →
     OnErr result (new.rows ≡ old.rows) → Grows written written' (event_line (journaled_answer said pending.answer)) →

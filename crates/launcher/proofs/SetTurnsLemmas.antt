@@ -31,7 +31,7 @@ short_set label disabled false store = tt
 pub event_set : (ready_label label : Label) (said disabled gone unload store : Bool) → ready_label ≡ label → said ≡ (disabled || unload) → gone ≡ unload → set_of ready_label said gone store ≡ set_of label disabled unload store
 event_set ready_label label said disabled gone unload store same_label same_said same_gone = (λ i. set_of (same_label i) (same_said i) (same_gone i) store) ∙ set_same label disabled unload store
 
--- what is no label gets no setting
+-- what is not a label gets no setting
 pub bad_label : (s : State) (label : Label) (disabled unload store : Bool) → is_label label ≡ false → refusal_in s (set_of label disabled unload store) ≡ Some BadRequest
 bad_label s label disabled true store is = ap (λ b. refused_if (not b) BadRequest (or_else (refusal_at (past_of s label) (Asked Unload)) (refusal_stored true store))) is
 bad_label s label disabled false store is = ap (λ b. refused_if (not b) BadRequest (refusal_stored true store)) is
@@ -47,7 +47,7 @@ never_set s label disabled unload r old new a t k n same is noted keeps led = re
   stays = same-numbers old new same;
 }
 
--- the store was asked once, in the reading's second
+-- the store was asked once, in the clock reading's second
 pub set_calls : (s : State) (label : Label) (disabled unload said kept : Bool) (wall : ℕ) (t u : Option (List StoreCall)) → refusal_in s (set_of label disabled unload true) ≡ None → said ≡ (disabled || unload) →
     wall ≡ s.reading.wall → AreTold t (record { label = label; disabled = said; changed = wall; stored = kept } ∷ []) u →
     AsksStore (refusal_in s (set_of label disabled unload true)) (set_call label (disabled || unload) s.reading.wall kept) t u

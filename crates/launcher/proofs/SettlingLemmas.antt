@@ -39,7 +39,7 @@ same-length names [] (p ∷ ps) theirs = absurd theirs
 same-length names (w ∷ ws) [] theirs = absurd theirs
 same-length names (w ∷ ws) (p ∷ ps) theirs = ap (λ n. suc n) (same-length names ws ps theirs.2)
 
--- what holds of each, and of one more behind them
+-- what holds of each, and of one more after them
 all-more : {A : Type 0} (P : A → Type 0) (xs : List A) (x : A) → AllByRecursion P xs → P x → AllByRecursion P (xs ++ x ∷ [])
 all-more P [] x all more = (more, tt)
 all-more P (y ∷ ys) x all more = (all.0, all-more P ys x all.1 more)

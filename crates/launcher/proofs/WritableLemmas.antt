@@ -137,7 +137,7 @@ no_line_writable line is = subst (λ (o : Option Request). IsWritableIf (option_
 
 -- ---- all else by its type
 
--- under a name that is no label nothing is heard
+-- under a name that is not a label nothing is heard
 if_writable : (job : List ℕ) (e : Event) → (is_label job ≡ true → IsWritable e) → IsWritableIf (event_if_label job e)
 if_writable job e says = go (is_label job) refl where
   go : (b : Bool) → is_label job ≡ b → IsWritableIf (if b then Some (happened e) else None)

@@ -46,7 +46,7 @@ is_prompt requests.List = true
 is_prompt (requests.Print job) = true
 is_prompt requests.Shutdown = true
 
--- an event that no client asks for: a reading, a sight, or what happens to a job
+-- an event that no client asks for: a clock reading, an observation, or what happens to a job
 abbrev pub is_happening : journal.Event → Bool
 is_happening (journaled.Clock at) = true
 is_happening (journaled.Saw path obs) = true

@@ -25,7 +25,7 @@ use Rattle.outside.specs.Orders.{call_of, calls_in, answers_in, IsTellablePendin
 use Rattle.history_model.specs.Turns.{JobOrder, wanting}
 use Rattle.history_model.specs.AwaitedOrders.{AreFresh, weight, weigh_orders}
 
--- what a turn leaves behind outside the table: the calls that the edge tells, and the journal
+-- what a turn leaves besides the table: the calls that the edge recorded, and the journal
 pub record Trace : Type 0 where
   pub calls : Option (List ToldCall)
   pub journal : JournalState
@@ -156,13 +156,13 @@ pub record HappensTo (s : State) (e : Event) (reply : Option Refusal) (old new :
       AreNumbered names new × (labelled names begins.orders ≡ (outcome s e).orders)
       × (list_all (is_known names) begins.orders ≡ true)
 
--- so it is for each machine that the table stood for
+-- so it is for each machine that the table represented
 abbrev pub Happens : Event → Option Refusal → Table → Table → List Unheard → List Unheard →
     Option (List ToldCall) → Option (List ToldCall) → Type 0
 Happens e reply old new before after told told' =
     (s : State) → KeepsState old s → HappensTo s e reply old new before after told told'
 
--- one answer was made an event, and what it ordered waits behind the others
+-- one answer was made an event, and what it ordered waits after the others
 pub record Handled (s : State) (names : List Name) (job_order : JobOrder) (waits : List JobOrder)
     (pending : Unheard) (rest answers answers' : List Unheard) (new : Table)
     (before after : Trace) : Type 0 where
@@ -205,11 +205,11 @@ abbrev pub NamesLabel : Event → Type 0
 NamesLabel (Load (Ok given) writes_setting force bind store) = IsLabel given.label
 NamesLabel _ = Unit {0}
 
--- For each machine that the table stood for: the edge was called as a turn of it says, and if it
--- tells, it tells just these calls; the table then stands for the machine after it, and the answer
--- is the machine's to the input. The journal grew by the lines of these events, which are at most
--- three answers for each job that may be loaded, and the input; a line can say each answer and the
--- label of its job. The numbers in the calls are those of the jobs that are loaded.
+-- This holds for each machine that the table represented. The edge was called as a turn of the machine says, and if it
+-- records its calls, it recorded just these. The table then represents the machine after the turn, and the answer is
+-- the machine's to the input. The journal grew by the lines of these events. They are the input, and at most three
+-- answers for each job that may be loaded. A line can say each answer and the label of its job. The numbers in the
+-- calls are those of the jobs that are loaded.
 pub record TurnsOf (s : State) (input : Event) (line : List ℕ) (reply : Option Refusal)
     (new : Table) (before after : Trace) : Type 0 where
   pub names : List Name
@@ -233,8 +233,8 @@ Turns input line reply old new before after =
     (turn : TurnsOf s input line reply new before after)
     × (reply ≡ None → AreNumbered turn.names old) × KeepsNumbers old new
 
--- nothing happened: the table stands for what it stood for, with the same jobs under the same
--- numbers, and no call was made
+-- nothing happened: the table represents what it represented, with the same jobs under the same numbers, and no call
+-- was made
 pub record IsUncalled (old new : Table) (told told' : Option (List ToldCall)) : Type 0 where
   pub same : IsSameFor old new
   pub rows : new.rows ≡ old.rows

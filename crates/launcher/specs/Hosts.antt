@@ -30,7 +30,7 @@ use Rattle.launcher.specs.Inputs.{Incoming, asked, event_of}
 use Rattle.launcher.specs.Writable.{IsWritableHeader}
 use Rattle.launcher.specs.declared.host.Host.{Host}
 
--- the launcher as it stands, by what its outside and its store tell
+-- the state of the launcher, by what its outside and its store record
 abbrev pub stands : {T E W : Type 0} →
     (E → Option (List ToldCall)) → (T → Option (List StoreCall)) → Host T E W → Standing
 stands calls stores host =
@@ -65,11 +65,11 @@ IsOwn _ names job = Unit {0}
 
 -- ---- turns
 
--- A turn of what came, for the machine s: first the outside was asked, and then tells the calls
--- `mid`; the event with its answers, and then the answers to the orders, are a turn of the machine,
--- with these calls and these lines. The numbers in the calls are those of the jobs that were loaded
--- before it, and a job that stays loaded keeps its number. The reply, a refusal or words, is the
--- event's. If the store held the settings of the machine, it holds them afterwards.
+-- A turn of what came, for the machine s. First the outside was asked, and then it records the calls `mid`. The event
+-- with its answers, and then the answers to the orders, are a turn of the machine, with these calls and these lines.
+-- The numbers in the calls are those of the jobs that were loaded before it, and a job that stays loaded keeps its
+-- number. The reply, a refusal or a text, is the event's. If the store held the settings of the machine, it holds them
+-- afterwards.
 pub record HostTurnOf (s : State) (incoming : Incoming) (refusal : Option Refusal)
     (words : List ℕ) (old new : Standing) (before after : List Setting → Type 0) : Type 0 where
   pub outside : Outside
@@ -86,8 +86,8 @@ pub record HostTurnOf (s : State) (incoming : Incoming) (refusal : Option Refusa
   pub text : refusal ≡ None → (outcome s (machine_event (event_of outside incoming))).text ≡ words
   pub stored : before s.settings → after (step s (machine_event (event_of outside incoming))).settings
 
--- Nothing happened: the table stands for what it stood for, nothing was asked of the outside, no
--- line was written, and the store holds the settings of the machine as before.
+-- Nothing happened: the table represents what it represented, and nothing was asked of the outside. No line was
+-- written, and the store holds the settings of the machine as before.
 pub record IsSpared (old new : Standing) (before after : List Setting → Type 0) : Type 0 where
   pub untouched : IsUntouched old.table new.table
       (told_of old.calls old.stores) (told_of new.calls new.stores)
@@ -106,15 +106,15 @@ HearsBy false (Some incoming) refusal words old new before after =
     (s : State) → IsLed s → KeepsState old.table s →
     HostTurnOf s incoming refusal words old new before after
 
--- An event was heard, or what is none. Want of memory is no event either. Else there was a turn of
--- it, for each machine that the table stood for.
+-- An event was heard, or what is none. Want of memory is not an event either. Else there was a turn of
+-- it, for each machine that the table represented.
 abbrev pub Hears : Option Incoming → Option Refusal → List ℕ → Standing → Standing →
     (List Setting → Type 0) → (List Setting → Type 0) → Type 0
 Hears incoming refusal words old new before after =
     HearsBy (is_memory refusal) incoming refusal words old new before after
 
--- a launcher heard it: so it stands before and after, by what its outside tells, and by what its
--- store tells and holds
+-- a launcher heard it: its states before and after are these, by what its outside records, and by what its store
+-- records and holds
 abbrev pub HostHears : {T E W : Type 0} →
     (E → Option (List ToldCall)) → (T → Option (List StoreCall)) → (T → List Setting → Type 0) →
     Option Incoming → Option Refusal → List ℕ → Host T E W → Host T E W → Type 0
@@ -138,16 +138,16 @@ abbrev pub HostStamps : {T E W : Type 0} → (T → List Stamp → Type 0) → O
 HostStamps stamped incoming refusal old new = (s : State) → KeepsState old.table s →
     HoldsAfter stamped (stamps_after (label_asked incoming) refusal s.reading.wall) old.store new.store
 
--- ---- the first moment
+-- ---- the start
 
 -- the header with these settings in place of its own
 abbrev pub with_overrides : Header → List Setting → Header
 with_overrides header settings =
     record { reading = header.reading; zone = header.zone; overrides = settings }
 
--- A new launcher: it stands for the machine that the header opens with the settings that the store
--- gave, has asked the outside nothing, and its journal has that header's line, or a front of it. A
--- line can tell that header. If the store held any settings, it holds those of this machine.
+-- A new launcher. It stands for the machine that the header opens with the settings that the store gave, and has asked
+-- the outside nothing. Its journal has that header's line, or a front of it. A line can say that header. If the store
+-- held any settings, it holds those of this machine.
 pub record IsNew (header : Header) (calls : Option (List ToldCall)) (stores : Option (List StoreCall))
     (journal : JournalState) (new : Standing) (before after : List Setting → Type 0) : Type 0 where
   pub settings : List Setting

@@ -22,7 +22,7 @@ abbrev pub event_of : Outside → Incoming → journal.Event
 event_of outside (asked request) = event_with outside request
 event_of outside (happened event) = event
 
--- what happens to the job of this label; under a name that is no label nothing does
+-- what happens to the job of this label; under a name that is not a label nothing does
 abbrev pub event_if_label : List ℕ → journal.Event → Option Incoming
 event_if_label name event = if is_label name then Some (happened event) else None
 
@@ -30,7 +30,7 @@ event_if_label name event = if is_label name then Some (happened event) else Non
 abbrev pub asked_by : List ℕ → Option Incoming
 asked_by line = option_map asked (request_at line)
 
--- what an input is, before the outside was asked; a line that is no request is nothing
+-- what an input is, before the outside was asked; a line that is not a request is nothing
 abbrev pub input_event : Input → Option Incoming
 input_event (inputs.Line line) = asked_by line.now
 input_event (inputs.Clock at) = Some (happened (journaled.Clock at))
@@ -42,13 +42,13 @@ input_event (inputs.Ended job run how) =
 input_event (inputs.WaitRefused job run) =
     event_if_label job.now (journaled.OfJob job.now (happens.WaitRefused run))
 
--- the event takes no memory: a sight, and what happens to a job
+-- the event takes no memory: an observation, and what happens to a job
 abbrev pub takes_none : journal.Event → Bool
 takes_none (journaled.Saw path obs) = true
 takes_none (journaled.OfJob job item) = true
 takes_none _ = false
 
--- only a line and a reading of the clocks want memory
+-- only a line and a clock reading want memory
 abbrev pub wants_memory : Input → Bool
 wants_memory (inputs.Line line) = true
 wants_memory (inputs.Clock at) = true

@@ -28,7 +28,7 @@ poured_cause None = None
 poured_cause (Some writer) = writer.cause
 
 -- whether there is a writer, the bytes that it holds if they are known, what was refused to the
--- journal, if anything was, and how the journal stands
+-- journal, if anything was, and the state of the journal
 pub record JournalState : Type 0 where
   pub has_writer : Bool
   pub bytes : Option (List ℕ)
@@ -51,7 +51,7 @@ abbrev pub held : {W : Type 0} → (W → Option (List ℕ)) → Option W → Op
 held contents None = None
 held contents (Some writer) = contents writer
 
--- lines are still written, by how the journal stands and whether there is a writer
+-- lines are still written, by the state of the journal and whether there is a writer
 abbrev writes_in : Phase → Bool → Bool
 writes_in Open has_writer = has_writer
 writes_in Closed has_writer = false
@@ -74,8 +74,8 @@ GrowsIn Reported Open old new text = ⊥
 GrowsIn Reported Closed old new text = ⊥
 GrowsIn Reported Reported old new text = new ≡ old
 
--- A journal that was open is closed only if it has a writer, nothing was refused to it before, and
--- now a write or a flush was, or memory for a line. Else what was refused to it is as it was.
+-- A journal that was open is closed only if it has a writer and nothing was refused to it before. It is closed when a
+-- write or a flush is refused, or memory for a line. Else what was refused to it is as it was.
 abbrev pub CausedIn : Phase → Phase → JournalState → JournalState → Type 0
 CausedIn Open Open old new = new.cause ≡ old.cause
 CausedIn Open Closed old new =
@@ -90,7 +90,7 @@ pub record Grows (old new : JournalState) (text : List ℕ) : Type 0 where
   pub grew : GrowsIn old.phase new.phase old new text
   pub cause : CausedIn old.phase new.phase old new
 
--- how it stands after its closing was reported
+-- its state after its closing was reported
 abbrev reported_phase : Phase → Phase
 reported_phase Open = Open
 reported_phase Closed = Reported

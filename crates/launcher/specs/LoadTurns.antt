@@ -33,7 +33,7 @@ abbrev pub is_memory : Option Refusal → Bool
 is_memory (Some NoMemory) = true
 is_memory _ = false
 
--- the settings of the machine after the event; want of memory is no event
+-- the settings of the machine after the event; want of memory is not an event
 abbrev pub settings_after : Option Refusal → State → Event → List Setting
 settings_after reply s e = if is_memory reply then s.settings else (step s e).settings
 
@@ -46,8 +46,8 @@ stamps_after (Some label) (Some refusal) second stamps = stamps
 
 -- ---- what was asked
 
--- neither the edge nor the store was asked, and the table stands for the states that it stood for,
--- with the same jobs under the same numbers
+-- neither the edge nor the store was asked, and the table represents the states that it represented, with the same jobs
+-- under the same numbers
 pub record IsUntouched (old new : Table) (before after : Told) : Type 0 where
   pub same : IsSameFor old new
   pub rows : new.rows ≡ old.rows
@@ -80,15 +80,15 @@ AsksStore None call stored stored' = AreTold stored (call ∷ []) stored'
 
 -- ---- whole turns
 
--- What contracts see of a launcher: its table, the calls that its outside tells, what its store
--- tells that it was asked, and the journal.
+-- What contracts see of a launcher: its table, the calls that its outside records, those that its store
+-- records, and the journal.
 pub record Standing : Type 0 where
   pub table : Table
   pub calls : Option (List ToldCall)
   pub stores : Option (List StoreCall)
   pub journal : JournalState
 
--- as it stands with these
+-- its state with these
 abbrev pub standing :
     Table → Option (List ToldCall) → Option (List StoreCall) → JournalState → Standing
 standing table calls stores journal =
@@ -108,10 +108,10 @@ abbrev pub label_written : LoadRequest → Option Label
 label_written request =
     if request.writes_setting then label_read (def_of request.def) else None
 
--- The turn of a load: first it asked the outside, in the reading's second, for the job with the
--- number that it then has; the load with these answers, and the answers to what it orders, are a
--- turn of the machine, whose first line tells these answers. The numbers in its calls are those of
--- the jobs that were loaded before it, and of the new one; a job that stays loaded keeps its number.
+-- The turn of a load. First it asked the outside, in the clock reading's second, for the job with the number that it
+-- then has. The load with these answers, and the answers to what it orders, are a turn of the machine. The first line
+-- of that turn says these answers. The numbers in its calls are those of the jobs that were loaded before it, and of
+-- the new one; a job that stays loaded keeps its number.
 pub record LoadTurnOf (s : State) (load : LoadRequest) (outside : Outside)
     (reply : Option Refusal) (before after : Standing) : Type 0 where
   pub job : ℕ
@@ -126,9 +126,9 @@ pub record LoadTurnOf (s : State) (load : LoadRequest) (outside : Outside)
   pub numbers : reply ≡ None → AreNumbered turn.names before.table
   pub stays : KeepsNumbers before.table after.table
 
--- The turn of a setting: first the store was asked; the setting with its answer, and the answers to
--- what it orders, are a turn of the machine, whose first line tells this answer. The numbers in its
--- calls are those of the jobs that were loaded before it; a job that stays loaded keeps its number.
+-- The turn of a setting. First the store was asked. The setting with its answer, and the answers to what it orders, are
+-- a turn of the machine, whose first line says this answer. The numbers in its calls are those of the jobs that were
+-- loaded before it; a job that stays loaded keeps its number.
 pub record SetTurnOf (s : State) (label : Label) (disabled unload kept : Bool)
     (reply : Option Refusal) (before after : Standing) : Type 0 where
   pub asks : AsksStore (refusal_in s (set_of label disabled unload true))

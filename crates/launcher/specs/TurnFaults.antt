@@ -14,11 +14,11 @@ use Rattle.launcher.specs.declared.host.HostFault.{HostFault}
 use Rattle.launcher.specs.declared.host.HostFault.TheVariants as faults
 use Rattle.launcher.specs.Hosts.{with_overrides}
 
--- the header tells no machine: its zone is none, or its reading is past a limit
+-- the header opens no machine: its zone is none, or its clock reading is past a limit
 abbrev pub IsBadHeader : Header → Type 0
 IsBadHeader header = IsNoZone header.zone ⊎ (is_clock_refused header.reading header.reading ≡ true)
 
--- Header is answered only if the header tells no machine
+-- Header is answered only if the header opens no machine
 abbrev pub IsFaultOf : Header → HostFault → Type 0
 IsFaultOf header faults.NoMemory = Unit {0}
 IsFaultOf header faults.Store = Unit {0}
@@ -34,16 +34,15 @@ abbrev pub fault_of_store : StoreFault → HostFault
 fault_of_store answers.NoMemory = faults.NoMemory
 fault_of_store answers.Refused = faults.Store
 
--- one of the settings is of a name that is no label, or their names are not each before all that
+-- one of the settings is of a name that is not a label, or their names are not each before all that
 -- follow, in byte order
 abbrev pub AreBadSettings : List Setting → Type 0
 AreBadSettings settings =
     (list_all (λ (setting : Setting). is_label setting.label) settings ≡ false)
     ⊎ (AreInOrder (map (λ (setting : Setting). setting.label) settings) → ⊥)
 
--- Of a header with the settings that the store gave: Store is answered only if these are not of
--- labels in byte order, Header only if the header tells no machine. Memory may be refused at any
--- time.
+-- Of a header with the settings that the store gave. Store is answered only if these are not of labels in byte order.
+-- Header is answered only if the header opens no machine. Memory may be refused at any time.
 abbrev pub IsFaultWith : Header → HostFault → Type 0
 IsFaultWith header faults.NoMemory = Unit {0}
 IsFaultWith header faults.Store = AreBadSettings header.overrides

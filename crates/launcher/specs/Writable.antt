@@ -52,7 +52,7 @@ IsWritableInput (inputs.WaitRefused job run) = IsWritableIf (input_event (inputs
 
 -- ---- headers
 
--- what tells the zone is such a text or number, and what is in a zone file is bytes
+-- what names the zone is such a text or number, and what is in a zone file is bytes
 pub record IsFitZone (zone : ZoneText) : Type 0 where
   pub bytes : is_zone zone ≡ true
   pub fit : IsFit (zone_member zone).1

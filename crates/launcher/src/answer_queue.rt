@@ -15,7 +15,8 @@ use std::marker::Model;
 /// How many answers one turn has at most: of each job one spawn, one KILL and one TERM.
 const MOST_ANSWERS: usize = 3 * MAX_JOBS;
 
-/// The answers of a turn, oldest first, with room for as many as a turn has. A line can say each. To a contract, their list.
+/// The answers of a turn, oldest first, with room for all that a turn can have. A line can say each. To a contract,
+/// their list.
 #[derive(Drop)]
 pub struct AnswerQueue {
     answers: Vec<Unheard>,
@@ -62,7 +63,8 @@ impl AnswerQueue {
         self.answers[place]
     }
 
-    /// Puts an answer behind the others, if there is room for it. Takes no memory. The caller's condition: a line can say it.
+    /// Puts an answer after the others, if there is room for it. Takes no memory. The caller's condition: a line can
+    /// say it.
     pub(crate) fn keep(&mut self, answer: Unheard)
         requires { IsTellablePending answer }
         ensures { length self.old < 3 * MAX_JOBS → self.new ≡ self.old ++ answer ∷ [] }

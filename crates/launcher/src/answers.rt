@@ -19,7 +19,8 @@ use std::alloc::Global;
 use std::io::Write;
 
 impl<T: SettingStore, E: ChildEdge + SocketEdge, W: Write> Host<T, E, W> {
-    /// Tells the table one answer by its job's number, which takes no memory, carries out what it orders, and writes its line.
+    /// Gives the table one answer by its job's number, which takes no memory, carries out what it orders, and writes
+    /// its line.
     fn handle(&mut self, alloc: Global, pending: Unheard)
         ensures handled { (s : State) (names : List Name) (job_order : JobOrder)
             (waits : List JobOrder) (rest : List Answered) →
@@ -41,8 +42,9 @@ impl<T: SettingStore, E: ChildEdge + SocketEdge, W: Write> Host<T, E, W> {
         self.journal.note(alloc, &told);
     }
 
-    /// Tells the table each answer of the queue, carries out what it orders, puts those answers behind the others, and writes the
-    /// line of each, until none remains. Only the lines take memory; want of it closes the journal and changes nothing else.
+    /// Gives the table each answer of the queue, carries out what the table orders, and puts the answers to that after
+    /// the others. It writes the line of each answer, until none remains. Only the lines take memory; want of it closes
+    /// the journal and changes nothing else.
     pub(crate) fn settle(&mut self, alloc: Global)
         ensures settled { (s : State) (names : List Name) (waits : List JobOrder) →
             IsWaiting self.old.table s names waits self.old.answers

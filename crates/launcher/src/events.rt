@@ -1,4 +1,4 @@
-//! Tells the table what happens, and carries out what it orders.
+//! Gives the table what happens, and carries out what it orders.
 
 ghost use Rattle.std.specs.Prelude.{◌≡◌, Err, IfOk, OnErr, false};
 ghost use Rattle.history_model.specs.declared.Refusal.TheVariants.{NoMemory};
@@ -21,8 +21,8 @@ use job_table::{JobTable, Taken};
 use outside::Unheard;
 use std::alloc::Global;
 
-/// Tells the table what happens, and carries out what it orders; a question orders nothing. The answer is the event's text. After
-/// NoMemory nothing was carried out.
+/// Gives the table what happens, and carries out what it orders; a question orders nothing. The answer is the event's
+/// text. After NoMemory nothing was carried out.
 pub(crate) fn hear<E: ChildEdge + SocketEdge>(
     table: &mut JobTable,
     edge: &mut E,
@@ -53,7 +53,7 @@ pub(crate) fn hear<E: ChildEdge + SocketEdge>(
     }
 }
 
-/// Tells the table an answer by its job's number, and carries out what it orders.
+/// Gives the table an answer by its job's number, and carries out what it orders.
 pub(crate) fn hear_answer<E: ChildEdge + SocketEdge>(
     table: &mut JobTable,
     edge: &mut E,

@@ -27,7 +27,7 @@ pub enum HostFault {
     NoMemory,
     /// The store did not give its settings, or they are not of labels, each before all that follow in byte order.
     Store,
-    /// The header's zone is none, or its reading is past a limit.
+    /// The header's zone is none, or its clock reading is past a limit.
     Header,
 }
 
@@ -39,16 +39,17 @@ pub struct Host<T: SettingStore, E: ChildEdge + SocketEdge, W: Write> {
     pub(crate) edge: E,
     pub(crate) journal: Journal<W>,
     pub(crate) answers: AnswerQueue,
-    // What reading a client's line takes. It is out of the launcher while the event is acted on that borrows of it.
+    // What reading a client's line takes. It is out of the launcher while the event that borrows of it is executed.
     pub(crate) room: LineRoom,
     // The input of the last turn was a load that was accepted.
     pub(crate) has_loaded: bool,
 }
 
 impl<T: SettingStore + Drop, E: ChildEdge + SocketEdge + Drop, W: Write + Drop> Host<T, E, W> {
-    /// A launcher with no job: of the header's reading and zone, with the store's settings in place of the header's. The journal,
-    /// if there is one, begins with the line of that header, which a replay reads as this header; a refused write of it closes the
-    /// journal and is no fault. All room that turns need is reserved. Refused as `HostFault` says; what was handed in is then dropped.
+    /// A launcher with no job. It has the header's clock reading and zone, and the store's settings in place of the
+    /// header's. The journal, if there is one, begins with the line of that header, which a replay reads as this
+    /// header. A refused write of it closes the journal and is not a fault. All room that turns need is reserved.
+    /// Refused as `HostFault` says; the arguments are then dropped.
     pub fn new(
         alloc: Global,
         header: Header,

@@ -1,4 +1,4 @@
-//! What a launcher is made of, as the header of its journal tells it.
+//! What a launcher is made of, as the header of its journal describes it.
 
 ghost use Rattle.std.specs.Prelude.{◌≡◌, IfErr, IfOk, is_some};
 ghost use Rattle.ctl_protocol.specs.HeaderLines.{header_line};
@@ -21,7 +21,7 @@ use std::alloc::{AllocError, Global};
 use std::io::Write;
 use table_opening::{OpeningFault, table_of};
 
-/// What a launcher has beside its store and the outside.
+/// What a launcher has besides its store and the outside.
 #[derive(Drop)]
 pub(crate) struct Inside<W: Write> {
     pub(crate) table: JobTable,
@@ -70,7 +70,8 @@ fn reserved(alloc: Global) -> Result<(AnswerQueue, LineRoom), AllocError> {
     Ok((answers, room))
 }
 
-/// The launcher inside, as the header tells it. Its journal begins with the header's line. Refused as `HostFault` says.
+/// The launcher inside, as the header describes it. Its journal begins with the header's line. Refused as `HostFault`
+/// says.
 pub(crate) fn make_inside<W: Write + Drop>(
     alloc: Global,
     header: Header,

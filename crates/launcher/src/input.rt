@@ -9,13 +9,13 @@ pub enum Input<'a> {
     Line(&'a [u8]),
     /// The clocks were read.
     Clock(Reading),
-    /// A look at a path.
+    /// An observation of a path.
     Saw(&'a str, Obs),
     /// A connection came to one of the job's sockets, under this number.
     Came(&'a str, u64),
     /// A waiting connection was given up.
     Left(&'a str, u64),
-    /// This run of the job ended so.
+    /// This run of the job exited so.
     Ended(&'a str, u64, Ended),
     /// The system refused to wait for the child of this run.
     WaitRefused(&'a str, u64),

@@ -12,19 +12,19 @@ use std::alloc::{AllocError, Global};
 use std::io::Write;
 use std::marker::Model;
 
-/// How a journal stands.
+/// What state a journal is in.
 #[derive(Clone, Copy)]
 pub enum Phase {
     /// Each line so far was written.
     Open,
-    /// A write was refused, or a line found no memory, and nobody was shown it yet. Nothing more is written.
+    /// A write was refused, or a line found no memory, and this was not reported yet. Nothing more is written.
     Closed,
     /// As `Closed`, and it was reported.
     Reported,
 }
 
 /// The journal of a launcher, over its writer. To a contract it is whether there is a writer, the bytes that this holds
-/// if they are known, what was refused to it, and how it stands. It is open exactly if nothing was refused to it.
+/// if they are known, what was refused to it, and its state. It is open exactly if nothing was refused to it.
 #[derive(Drop)]
 pub struct Journal<W: Write> {
     writer: Option<JournalWriter<W>>,
@@ -73,8 +73,8 @@ impl<W: Write> Journal<W> {
         journal
     }
 
-    /// A journal that begins with the header's line. The writer hands it on at once: a launcher that is killed before its first event
-    /// leaves a journal that can be replayed.
+    /// A journal that begins with the header's line. The writer passes it on at once. So a launcher that is killed
+    /// before its first event leaves a journal that can be replayed.
     pub fn begin(alloc: Global, writer: W, header: &Header) -> Journal<W>
         ensures { Grows (fresh (W.contents writer) true) result (headers.header_line header.now) }
     {
@@ -140,7 +140,7 @@ impl<W: Write> Journal<W> {
         }
     }
 
-    /// Hands on what the writer still keeps back; this ends each turn. A writer that refuses closes the journal.
+    /// Passes on what the writer still keeps back; this ends each turn. A writer that refuses closes the journal.
     pub fn flush(&mut self)
         ensures { Grows self.old self.new [] }
     {

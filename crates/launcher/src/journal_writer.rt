@@ -19,8 +19,7 @@ pub enum Cause {
     Memory,
 }
 
-/// A writer, and what was refused of what it was to take. To a contract, the bytes that it holds if they are known, and
-/// the cause.
+/// A writer, and what was refused to it. To a contract, the bytes that it holds if they are known, and the cause.
 #[derive(Drop)]
 pub(crate) struct JournalWriter<W: Write> {
     writer: W,
@@ -46,7 +45,7 @@ impl<W: Write> JournalWriter<W> {
         }
     }
 
-    /// Writes all of a text, and tells whether it could.
+    /// Writes all of a text, and says whether it could.
     pub(crate) fn write(&mut self, text: &[u8]) -> bool
         ensures bytes { Takes result self.old.bytes self.new.bytes text.now }
         ensures cause { self.new.cause ≡ cause_after result Cause.Writer self.old.cause }
@@ -58,7 +57,7 @@ impl<W: Write> JournalWriter<W> {
         is_written
     }
 
-    /// Hands on what the writer still keeps back, and tells whether it could.
+    /// Passes on what the writer still keeps back, and says whether it could.
     pub(crate) fn flush(&mut self) -> bool
         ensures bytes { Keeps self.old.bytes self.new.bytes }
         ensures cause { self.new.cause ≡ cause_after result Cause.Writer self.old.cause }

@@ -1,5 +1,5 @@
-//! Facts that a proof needs, and that a type or the table says: texts are UTF-8, numbers have 64 bits, each number of a job stands for its
-//! definition. Nothing is done.
+//! Facts that a proof needs, and that a type or the table says: texts are UTF-8, numbers have 64 bits, each number of a
+//! job stands for its definition. Nothing is done.
 
 ghost use Rattle.std.specs.Prelude.{◌≡◌, ◌<◌, ◌≤◌, ◌^◌, IsUtf8, nat_lt, true};
 ghost use Rattle.std.specs.List.{list_all};
@@ -14,7 +14,8 @@ use ctl_protocol::{Request, ZoneText};
 use history_model::{Ended, TextRef};
 use job_table::JobTable;
 
-/// The numbers of the table's jobs stand for their definitions, and its reading is within its limit. Nothing is done.
+/// The numbers of the table's jobs stand for their definitions, and its clock reading is within its limit. Nothing is
+/// done.
 pub(crate) fn lend_table(table: &JobTable)
     ensures numbered { IsNumbered table.now }
     ensures range { table.now.reading.up ≤ MAX_UP }
@@ -118,7 +119,7 @@ fn lend_bytes(bytes: &[u8])
     let _ = bytes;
 }
 
-/// What tells a zone can be written.
+/// What names a zone can be written.
 #[tactic(auto, using(crate::proofs::HeaderLemmas::rule_fits, crate::proofs::HeaderLemmas::offset_fits, crate::proofs::HeaderLemmas::file_fits))]
 pub(crate) fn lend_zone(zone: &ZoneText)
     ensures { IsFitZone zone.now }

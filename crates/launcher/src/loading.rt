@@ -45,7 +45,7 @@ struct Answered {
     refusal: Option<Refusal>,
 }
 
-/// Lets a load go that was made ready.
+/// Drops a load that was made ready.
 fn discard(_ready: Ready) {}
 
 /// A load that was refused before the outside was asked.
@@ -133,13 +133,15 @@ impl<T: SettingStore, E: ChildEdge + SocketEdge, W: Write> Host<T, E, W> {
         Answered { outside, refusal }
     }
 
-    /// A turn that begins with a load, as `load` of launchctl(1). All memory is taken before the outside is asked, but for that of the journal's lines: want
-    /// of it closes the journal and changes nothing else. The journal gets the line of the load with what the outside answered,
-    /// also if it is refused, and then the line of each answer.
+    /// A turn that begins with a load, as `load` of launchctl(1). It takes all memory before it asks the outside, but
+    /// for that of the journal's lines. Want of memory for a line closes the journal and changes nothing else. The
+    /// journal gets the line of the load with what the outside answered, also of a refused load. Then it gets the line
+    /// of each answer.
     ///
-    /// Refusals, in this order: ShuttingDown, BadDefinition, Removing or AlreadyLoaded, TooManyJobs (1,024), Disabled; NoMemory;
-    /// SocketRefused, if the sockets were not bound, StoreRefused, if the setting was not stored: what was bound is then
-    /// given up. A refused load leaves the table standing for what it stood for. One that found no memory has no line.
+    /// Refusals, in this order: ShuttingDown, BadDefinition, Removing or AlreadyLoaded, TooManyJobs (1,024), Disabled;
+    /// NoMemory; SocketRefused, if the sockets were not bound; StoreRefused, if the setting was not stored. Sockets
+    /// that were bound are given up after StoreRefused. A refused load leaves the state that the table represents as it
+    /// was. A load that found no memory has no line.
     pub(crate) fn load(&mut self, alloc: Global, load: &LoadRequest<'_>) -> Loaded
         ensures memory { is_memory (refused_with result.reply) ≡ true →
             IsUntouched self.old.table self.new.table

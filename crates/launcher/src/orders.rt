@@ -11,8 +11,8 @@ use history_model::Refusal;
 use job_table::Step;
 use outside::carry;
 
-/// Carries out each order of the step, in order, each by its one call, and puts the answers behind those that wait. Takes no
-/// memory of its own.
+/// Carries out each order of the step, in order, each by its one call, and puts the answers after those that wait.
+/// Takes no memory of its own.
 pub(crate) fn carry_all<E: ChildEdge + SocketEdge>(
     edge: &mut E,
     step: &Step<'_>,

@@ -7,7 +7,7 @@ ghost use Rattle.launcher.specs.LoadTurns.{is_memory};
 use history_model::{Refusal, Reply, Text};
 use std::alloc::Global;
 
-/// Whether a reply tells of want of memory.
+/// Whether a reply says that memory ran out.
 pub(crate) fn is_want(refusal: Option<Refusal>) -> bool
     ensures { result ≡ is_memory refusal }
 {
@@ -17,7 +17,7 @@ pub(crate) fn is_want(refusal: Option<Refusal>) -> bool
     }
 }
 
-/// The reply that tells a refusal. It has no text: the writers of lines put in the refusal's own.
+/// The reply that says a refusal. It has no text: the writers of lines put in the refusal's own.
 pub(crate) fn refused(alloc: Global, refusal: Refusal) -> Reply
     ensures refusal { result.refusal ≡ Some refusal }
     ensures quiet { is_some result.refusal ≡ true → result.text ≡ [] }

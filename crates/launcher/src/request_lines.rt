@@ -54,7 +54,7 @@ pub(crate) fn note_set<W: Write>(
     journal.note(alloc, &request.with(Outside { bind: true, store }));
 }
 
-/// Whether a refusal tells of want of memory.
+/// Whether a refusal says that memory ran out.
 fn is_want(refusal: Refusal) -> bool
     ensures { result ≡ is_memory (Some refusal) }
 {
@@ -64,8 +64,8 @@ fn is_want(refusal: Refusal) -> bool
     }
 }
 
-/// Writes the line of a load that was refused before the outside was asked. One that found no memory is no event and gets no
-/// line.
+/// Writes the line of a load that was refused before the outside was asked. One that found no memory is not an event
+/// and gets no line.
 pub(crate) fn note_load_refused<W: Write>(
     journal: &mut Journal<W>,
     alloc: Global,
@@ -82,8 +82,8 @@ pub(crate) fn note_load_refused<W: Write>(
     note_load(journal, alloc, load, Outside::unasked());
 }
 
-/// Writes the line of a setting that was refused before the store was asked. One that found no memory is no event and gets no
-/// line.
+/// Writes the line of a setting that was refused before the store was asked. One that found no memory is not an event
+/// and gets no line.
 pub(crate) fn note_set_refused<W: Write>(
     journal: &mut Journal<W>,
     alloc: Global,

@@ -33,7 +33,7 @@ pub(crate) struct Changed {
     pub reply: Result<(), Refusal>,
 }
 
-/// Lets a setting go that was made ready.
+/// Drops a setting that was made ready.
 fn discard(_ready: NewSetting) {}
 
 impl<T: SettingStore, E: ChildEdge + SocketEdge, W: Write> Host<T, E, W> {
@@ -55,14 +55,15 @@ impl<T: SettingStore, E: ChildEdge + SocketEdge, W: Write> Host<T, E, W> {
         self.finish(alloc);
     }
 
-    /// A turn that begins with a setting of a label, as `enable` and `disable` of launchctl(1); with `unload` as `unload -w`, which
-    /// disables the label and removes its job. The store keeps the second of the last reading with it. All memory is taken
-    /// before the store is asked, but for that of the journal's lines: want of it closes the journal and changes nothing else.
-    /// The journal gets the line of the setting with what the store answered, also if it is refused, and then the line of each
-    /// answer.
+    /// A turn that begins with a setting of a label, as `enable` and `disable` of launchctl(1). With `unload` it is as
+    /// `unload -w`, which disables the label and removes its job. The store keeps the second of the last clock reading
+    /// with it. All memory is taken before the store is asked, but for that of the journal's lines: want of it closes
+    /// the journal and changes nothing else. The journal gets the line of the setting with what the store answered,
+    /// also if it is refused, and then the line of each answer.
     ///
-    /// Refusals: BadRequest (no label); with `unload` then NoSuchJob, Removing; NoMemory; StoreRefused, if the setting was not
-    /// stored. A refused setting leaves the table standing for what it stood for. One that found no memory has no line.
+    /// Refusals: BadRequest (no label); with `unload` then NoSuchJob, Removing; NoMemory; StoreRefused, if the setting
+    /// was not stored. A refused setting leaves the state that the table represents as it was. One that found no memory
+    /// has no line.
     pub(crate) fn set(
         &mut self,
         alloc: Global,

@@ -31,13 +31,13 @@ use std::alloc::Global;
 use std::io::Write;
 
 impl<T: SettingStore, E: ChildEdge + SocketEdge, W: Write> Host<T, E, W> {
-    /// One turn: the input is made an event, what it orders is carried out, and each answer of the outside is made the next
-    /// event, first in first out, until none remains. The journal gets the line of each event, and is flushed at the end. The
-    /// reply is that of the input; a refusal has no text.
+    /// One turn. The launcher makes the input an event and carries out what it orders. It makes each answer of the
+    /// outside the next event, first in first out, until none remains. The journal gets the line of each event, and is
+    /// flushed at the end. The reply is that of the input; a refusal has no text.
     ///
-    /// A line that is no request, or what happened under a name that is no label, is answered by BadRequest, and is no event.
-    /// NoMemory comes only to a line or a reading of the clocks, before anything was carried out; it is no event either, and the journal
-    /// is then as it was, not even flushed.
+    /// BadRequest answers a line that is not a request, and what happened under a name that is not a label. Neither is
+    /// an event. NoMemory comes only to a line or a clock reading, before anything was carried out. This too is not an
+    /// event, and the journal is then as it was, not even flushed.
     pub fn turn(&mut self, alloc: Global, input: Input<'_>) -> Reply
         ensures hears { HostHears E.told T.told T.holds (input_event input.entry)
             result.refusal result.text self.old self.new }
@@ -89,7 +89,7 @@ impl<T: SettingStore, E: ChildEdge + SocketEdge, W: Write> Host<T, E, W> {
         }
     }
 
-    /// What happens to the job of this label. A name that is no label is answered by BadRequest.
+    /// What happens to the job of this label. BadRequest answers a name that is not a label.
     fn happen_to(&mut self, alloc: Global, job: &str, item: JobItem) -> Reply
         ensures hears { HostHears E.told T.told T.holds
             (event_if_label job.now (journaled.OfJob job.now item))
@@ -139,9 +139,10 @@ impl<T: SettingStore, E: ChildEdge + SocketEdge, W: Write> Host<T, E, W> {
         told(alloc, answer)
     }
 
-    /// Makes what comes an event, carries out what it orders, each order by its one call of the edge, and makes each answer the next
-    /// event, first in first out, until none remains. The journal gets the line of each event. The answer is the event's text, or its
-    /// refusal, and then no call was made. After NoMemory it is no event: nothing was carried out, and no line was written.
+    /// Makes what comes an event, and carries out what it orders, each order by its one call of the edge. It makes each
+    /// answer the next event, first in first out, until none remains. The journal gets the line of each event. The
+    /// result is the event's text, or its refusal, and then no call was made. After NoMemory it is not an event:
+    /// nothing was carried out, and no line was written.
     pub(crate) fn take_in(&mut self, alloc: Global, what: &Event<'_>) -> Result<Text, Refusal>
         ensures turn { NamesLabel (machine_event what.now) → NamesStay what.now → UnlessMemory result
             (Turns (machine_event what.now) (event_line what.now)

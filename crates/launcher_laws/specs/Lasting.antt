@@ -7,7 +7,7 @@ use Rattle.loaded_jobs.specs.StandsFor.{KeepsState}
 use Rattle.job_table.specs.Taking.{machine_event}
 use Rattle.launcher_laws.specs.TurnRuns.{Snapshot, Turn, Part, AreParts, events_in, outcomes_in}
 
--- From the machine s the turns led to the last moment, by the events of their parts. The replies
+-- From the machine s the turns led to the last snapshot, by the events of their parts. The replies
 -- and the calls are the machine's, the table stands for the machine that the events lead to, and
 -- the store holds that machine's settings.
 pub record Lasts {T : Type 0} (holds : T → List Setting → Type 0) (s : State)

@@ -22,13 +22,13 @@ use Rattle.launcher.specs.Inputs.{Incoming, event_of}
 use Rattle.launcher.specs.Hosts.{Hears}
 use Rattle.launcher.specs.Writable.{IsWritable, WritesWhat}
 
--- how a launcher stands, and its store of settings
+-- the state of a launcher, and its store of settings
 pub record Snapshot (T : Type 0) : Type 0 where
   pub stands : Standing
   pub store : T
 
--- A turn: what came, before the outside was asked, or nothing that is heard; the reply, a refusal or
--- words; and the moments before and after it.
+-- A turn: what came, before the outside was asked, or nothing that is heard; the reply, a refusal or a text; and the
+-- snapshots before and after it.
 pub record Turn (T : Type 0) : Type 0 where
   pub incoming : Option Incoming
   pub refusal : Option Refusal
@@ -53,7 +53,7 @@ module _ {T : Type 0} (holds : T → List Setting → Type 0) where
       (holds turn.before.store) (holds turn.after.store)
       × WritesWhat turn.refusal turn.incoming
 
-  -- these turns, each heard, lead from the first moment to the last
+  -- these turns, each heard, lead from the first snapshot to the last
   abbrev pub AreTurns : Snapshot T → List (Turn T) → Snapshot T → Type 0
   AreTurns first [] last = IsBetween first last
   AreTurns first (turn ∷ turns) last =
@@ -61,7 +61,7 @@ module _ {T : Type 0} (holds : T → List Setting → Type 0) where
 
 -- ---- what they did
 
--- a line that is no request, and what found no memory, is no event
+-- a line that is not a request, and what found no memory, is not an event
 abbrev pub IsNoEvent : {T : Type 0} → Turn T → Type 0
 IsNoEvent turn =
     (is_memory turn.refusal ≡ true) ⊎ ((turn.incoming ≡ None) × (turn.refusal ≡ Some BadRequest))
@@ -70,11 +70,10 @@ IsNoEvent turn =
 abbrev pub answer_told : List Name → Unheard → journal.Event
 answer_told names pending = journaled_answer (label_of names pending.job) pending.answer
 
--- The events of a turn, as the journal has them, and their outcomes. The first event is the one
--- that came, with what the outside answered to it, and its outcome is the reply; the others are the
--- answers that the calls gave, in order. The orders in all outcomes are the calls that were made,
--- in order, each once, after what a load asks of its sockets. A line can say the event that came, and
--- of each answer the numbers and the label of its job.
+-- The events of a turn, as the journal has them, and their outcomes. The first event is the one that came, with what
+-- the outside answered to it, and its outcome is the reply. The others are the answers that the calls gave, in order.
+-- The orders in all outcomes are the calls that were made, in order, each once, after what a load asks of its sockets.
+-- A line can say the event that came, and of each answer the numbers and the label of its job.
 pub record AreOutcomesOf {T : Type 0} (turn : Turn T) (events : List journal.Event)
     (outs : List Outcome) : Type 0 where
   pub incoming : Incoming
@@ -103,7 +102,7 @@ pub record AreOutcomesOf {T : Type 0} (turn : Turn T) (events : List journal.Eve
 abbrev pub Part : Type 0
 Part = List journal.Event × List Outcome
 
--- what is no event adds nothing
+-- what is not an event adds nothing
 abbrev pub IsPartOf : {T : Type 0} → Turn T → Part → Type 0
 IsPartOf turn part =
     (IsNoEvent turn × (part.0 ≡ []) × (part.1 ≡ [])) ⊎ AreOutcomesOf turn part.0 part.1

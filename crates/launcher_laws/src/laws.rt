@@ -1,6 +1,6 @@
-//! What holds of a launcher after any list of turns. The functions do nothing: their contracts are the laws. A turn is what
-//! `launcher::Host::turn` promises of it, the first moment what `launcher::Host::new` does; between two turns the outside may be
-//! asked other things.
+//! What holds of a launcher after any list of turns. The functions do nothing: their contracts are the laws. A turn is
+//! what `launcher::Host::turn` promises of it, and the start is what `launcher::Host::new` promises. Between two turns
+//! the outside may be asked other things.
 
 ghost use Rattle.std.specs.Prelude.{◌≡◌, List, [], Option, Some, ℕ, reverse, true};
 ghost use Rattle.sqlite.specs.Held.{Held, state};
@@ -37,9 +37,9 @@ pub fn the_store_holds_what_the_machine_sets<T: SettingStore>(store: &T)
     let _ = store;
 }
 
-/// A launcher's store that is closed after any turns and opened again, over a disk that returns what was written, tells of each label the
-/// last setting that the launcher made, whatever was refused between and however often it was opened anew: `listed` is what `all`
-/// gives of it. It is not shut.
+/// A launcher's store is closed after any turns and opened again, over a disk that returns what was written. For each
+/// label it then has the last setting that the launcher made. Refused settings between, and earlier openings, do not
+/// matter. `listed` is what `all` gives of it. The condition: the launcher's store is not shut at its end.
 pub fn a_store_opened_again_has_the_last_settings<S: Alter, P: StorePlace<Connection<S>>, R: Alter>(
     store: &LastingSettings<S, P>,
     again: &OverrideStore<R>,

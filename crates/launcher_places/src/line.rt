@@ -8,7 +8,7 @@ use std::alloc::{AllocError, Global};
 /// What is written.
 #[derive(Clone, Copy)]
 pub struct PlacesTold<'a> {
-    /// The launcher's process, and the moment of its start in ticks since the boot, as field 22 of `/proc/PID/stat` has it.
+    /// The launcher's process, and the time of its start in ticks since the boot, as field 22 of `/proc/PID/stat` has it.
     pub pid: u32,
     pub began: u64,
     /// Paths from the root. None: it keeps no such file.
@@ -98,7 +98,7 @@ fn put_path(writer: &mut Writer, key: &str, path: Option<&str>) -> Result<(), Al
     if put { Ok(()) } else { Err(AllocError) }
 }
 
-/// What a line says, without its newline or with it. None: it is none of a launcher.
+/// What a line says, without its newline or with it. None: a launcher did not write it.
 pub fn places_in(alloc: Global, line: &[u8]) -> Result<Option<Places>, AllocError> {
     match json_value(alloc, line)? {
         Some(value) => {

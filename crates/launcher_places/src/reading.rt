@@ -9,16 +9,16 @@ use std::io::{Error, ErrorKind};
 use std::os::unix::fs::MetadataExt;
 use std::{fs, io};
 
-/// As many bytes the file may have.
+/// How many bytes the file may have.
 const LONGEST: usize = 4_096;
 
-/// Why it tells nothing.
+/// Why the places are not known.
 #[derive(Drop)]
 pub enum PlacesFault {
     NoMemory,
     /// The socket or the file can't be read, or is not one of the socket's owner.
     Read(Error),
-    /// It is none that a launcher writes.
+    /// It is not what a launcher writes.
     NotPlaces,
 }
 
@@ -28,7 +28,8 @@ pub fn owner_of<R: Files>(rt: &R, path: &str) -> io::Result<u32> {
     Ok(data.uid())
 }
 
-/// Refuses what is at the path, unless it is a plain file of this user, or of root. InvalidInput: it is none. Any other error is that of the system's call.
+/// Refuses what is at the path, unless it is a plain file of this user, or of root. InvalidInput: it is not one. Any other error is that of the
+/// system's call.
 pub fn check_own_file<R: Files>(rt: &R, path: &str, owner: u32) -> io::Result<()> {
     let data = fs::symlink_metadata(rt, path)?;
     if !data.is_file() {
@@ -40,7 +41,7 @@ pub fn check_own_file<R: Files>(rt: &R, path: &str, owner: u32) -> io::Result<()
     }
 }
 
-/// What the launcher at the socket wrote. None: there is no such file.
+/// What the launcher at the socket wrote. None: the file is missing.
 pub fn places_beside<R: Files<File = File> + AllocGlobal>(
     rt: &R,
     alloc: Global,

@@ -1,4 +1,4 @@
--- The children that a round asks about, by rising numbers.
+-- The children that a pass asks about, by rising numbers.
 use Rattle.std.proofs.Common.{◌≡◌, ◌⊎◌, inl, inr, ℕ, ◌+◌, ◌-◌, ◌^◌, ◌≤◌, ◌<◌, min, Option, Some, None, refl, sym, subst, arith}
 use Rattle.history_model.specs.declared.TheConstants.{MAX_JOBS}
 use Rattle.live_loop.specs.Children.{Polls, PollsAll, no_poll, one_more}

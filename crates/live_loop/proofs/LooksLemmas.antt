@@ -1,9 +1,9 @@
--- Walks whose ends are told by equations.
+-- Walks whose ends are given by equations.
 use Rattle.std.proofs.Common.{◌≡◌, ◌≤◌, ℕ, ◌+◌, Bool, List, [], Option, Some, true, false, subst, sym, refl}
 use Rattle.live_loop.specs.Looks.{PathCall, Awaits, Known, Walks, Looks, Questions, no_look, one_more, asked, no_question, ahead, awaits}
 use Rattle.live_loop.specs.Sightings.{walk_at, IsNextLook}
 
--- when the looks go on, by what the code tells of it
+-- when the path checks go on, by what the code says of it
 pub next_look : (w : Bool) (path : List ℕ) (up later next : ℕ) → (w ≡ false → next ≡ later) → (w ≡ true → (up ≤ next) × (next ≤ up + 2)) → IsNextLook (walk_at w path) up later next
 next_look true path up later next over on = on refl
 next_look false path up later next over on = over refl

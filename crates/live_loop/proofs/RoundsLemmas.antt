@@ -1,4 +1,4 @@
--- What is asked, and handed in, in one part and then in another.
+-- What is asked, and delivered, in one part and then in another.
 use Rattle.std.proofs.Common.{◌≡◌, ◌⊎◌, inl, inr, ℕ, ◌≤◌, ◌<◌, Bool, true, false, List, Option, refl, subst, sym, arith}
 use Rattle.std.specs.Prelude.{nat_le}
 use Rattle.std.proofs.lemmas.Bool.Decides.{nat_tests}
@@ -36,7 +36,7 @@ module _ {H : Type 0} {Asked : H → H → Type 0} {Taken : ℕ → H → H → 
   gathers_asks before nothing = before
   gathers_asks before (further more a) = asked (gathers_asks before more) a
 
-  -- where the desk is told by an equation
+  -- where the desk is given by an equation
   pub gathers_same : {desk desk' : Desk} {new : H} → Gathers Asked Taken Came first from desk new → desk' ≡ desk → Gathers Asked Taken Came first from desk' new
   gathers_same {new = new} before is = subst (λ d. Gathers Asked Taken Came first from d new) (sym is) before
 
@@ -45,7 +45,7 @@ module _ {H : Type 0} {Asked : H → H → Type 0} {Taken : ℕ → H → H → 
       MayGrow desk.coming coming' → conn' ≡ desk.conn → Asks Asked mid new → Gathers Asked Taken Came first from (desk_with conn' coming') new
   gathers_heard before grows is asks = gathers_asks (gathers_same (heard before grows) (desk_same is refl)) asks
 
--- it is before the moment, or it is not
+-- it is before the time, or it is not
 pub early_or_due : {up look : ℕ} {X Y : Type 0} → (up < look → X) → (look ≤ up → Y) → ((up < look) × X) ⊎ ((look ≤ up) × Y)
 early_or_due {up} {look} {X} {Y} early due = go (nat_le look up) refl where
   go : (b : Bool) → nat_le look up ≡ b → ((up < look) × X) ⊎ ((look ≤ up) × Y)

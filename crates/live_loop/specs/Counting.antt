@@ -1,10 +1,10 @@
--- The clients that were handed in, over any rounds.
+-- The clients that were delivered, over any passes.
 use Rattle.std.specs.Prelude.{◌≡◌, ◌+◌, ℕ, List, [], ◌∷◌, ◌++◌, Option, Some, None, ⊤}
 use Rattle.job_clients.specs.Callers.{Coming, IsShort}
 use Rattle.live_loop.specs.declared.loop_host.HandedIn.{HandedIn}
 use Rattle.live_loop.specs.Rounds.{AreRounds, Desk, Gathers, Launcher, Left, no_round, one_round, nobody, asked, taken, heard, went, came}
 
--- a client as it was handed in: under which number, of which job, with which request
+-- a client as it was delivered: under which number, of which job, with which request
 pub record Handed : Type 0 where
   pub conn : ℕ
   pub job : ℕ
@@ -24,7 +24,7 @@ abbrev pub handed_by : {H : Type 0} {it : Launcher H} {first last : Left H} → 
 handed_by no_round = []
 handed_by (one_round more round) = handed_by more ++ handed_in round.serves.gathers
 
--- they were handed in under one number after another, from the first to the one before the last
+-- they were delivered under one number after another, from the first to the one before the last
 pub data AreCounted (first : ℕ) : List Handed → ℕ → Type 0 where
   no_client : AreCounted first [] first
   one_client : {them : List Handed} {last : ℕ} (one : Handed) → AreCounted first them last → one.conn ≡ last → AreCounted first (them ++ one ∷ []) (last + 1)
@@ -42,7 +42,7 @@ IsShortSoFar (Some coming) = IsShort coming.request
 abbrev pub AllAreShort : (ℕ → Option Coming) → Type 0
 AllAreShort coming = (key : ℕ) → IsShortSoFar (coming key)
 
--- The clients that were handed in, from the one desk to the other.
+-- The clients that were delivered, from the one desk to the other.
 pub record Counts (first : Desk) (them : List Handed) (last : Desk) : Type 0 where
   pub numbers : AreCounted first.conn them last.conn
   pub requests : AllAreShort first.coming → AreShort them × AllAreShort last.coming

@@ -1,4 +1,5 @@
--- What a part of a round leaves as it was: with which job's child the next round begins, and what the looks remember.
+-- What a part of a pass leaves as it was: with which job's child the next pass begins, and what the path checks
+-- remember.
 use Rattle.std.specs.Prelude.{◌≡◌}
 use Rattle.job_clients.specs.Callers.{coming_in}
 use Rattle.live_loop.specs.declared.job_sockets.JobSockets.{JobSockets}
@@ -20,7 +21,7 @@ pub record IsKeptBy {H : Type 0} (old new : Live H) : Type 0 where
   pub sights : new.rooms.sights ≡ old.rooms.sights
   pub desk : desk_in new.rooms.sockets ≡ desk_in old.rooms.sockets
 
--- what a round leaves for the next
+-- what a pass leaves for the next
 abbrev pub left_in : {H : Type 0} → Live H → Left H
 left_in live = record {
   host = live.host;

@@ -1,21 +1,21 @@
--- The looks of a round at the paths that jobs list, and what is handed in of them.
+-- The path checks of a pass at the paths that jobs list, and what is delivered of them.
 use Rattle.std.specs.Prelude.{◌≡◌, ◌≢◌, ◌⊎◌, ℕ, ◌+◌, ◌<◌, Bool, true, false, List, [], length, Option, Some, None, bytes_eq}
 use Rattle.history_model.specs.declared.Obs.{Obs}
 
--- what is asked of a launcher, and handed in to it, of the paths that its jobs list
+-- what is asked of a launcher, and delivered to it, of the paths that its jobs list
 pub data PathCall : Type 0 where
-  BeginsLooks : PathCall  -- a round of looks begins
+  BeginsLooks : PathCall  -- a series of path checks begins
   HasLoaded : Bool → PathCall  -- whether a load was accepted since that was asked before
   AsksAt : List ℕ → Bool → PathCall  -- it was asked what is at the path; false: that is to be asked later
   Awaits : List ℕ → Bool → PathCall  -- it was asked whether it is known what is at the path
-  LookedAt : List ℕ → Option Obs → PathCall  -- what is at the path; None if the system refused to look
-  Sighted : List ℕ → Obs → PathCall  -- this sight of the path was handed in
+  LookedAt : List ℕ → Option Obs → PathCall  -- what is at the path; None if the system refused the check
+  Sighted : List ℕ → Obs → PathCall  -- this observation of the path was delivered
 
--- what was handed in last of each path, as far as it is remembered
+-- what was delivered last of each path, as far as it is remembered
 abbrev pub Known : Type 0
 Known = List ℕ → Option Obs
 
--- no sight was handed in yet
+-- no observation was delivered yet
 abbrev pub IsEmpty : Known → Type 0
 IsEmpty known = (path : List ℕ) → known path ≡ None
 
@@ -23,49 +23,49 @@ IsEmpty known = (path : List ℕ) → known path ≡ None
 abbrev pub IsKept : Known → Known → Type 0
 IsKept old new = (path : List ℕ) → new path ≡ old path
 
--- this sight of the path is known now, or none of it, for want of memory; of each other path what was known
+-- this observation of the path is known now, or none of it, for want of memory; of each other path what was known
 pub record IsNoted (path : List ℕ) (obs : Obs) (old new : Known) : Type 0 where
   pub here : (new path ≡ Some obs) ⊎ (new path ≡ None)
   pub others : (other : List ℕ) → bytes_eq path other ≡ false → new other ≡ old other
 
--- what is known after a load: nothing, so that each sight is handed in again
+-- what is known after a load: nothing, so that each observation is delivered again
 abbrev pub known_after : Bool → Known → Known
 known_after true known path = None
 known_after false known path = known path
 
 module _ {H : Type 0} (Did : PathCall → H → H → Type 0) where
-  -- A sight that is what was handed in last is not handed in; any other is, once.
+  -- An observation that is what was delivered last is not delivered; any other is, once.
   abbrev pub Takes : List ℕ → Obs → H → Known → H → Known → Type 0
   Takes path obs old known new known' =
       ((known path ≡ Some obs) × (new ≡ old) × IsKept known known')
       ⊎ ((known path ≢ Some obs) × Did (Sighted path obs) old new × IsNoted path obs known known')
 
-  -- a refused look is no event
+  -- a refused check is not an event
   abbrev pub TakesIf : List ℕ → Option Obs → H → Known → H → Known → Type 0
   TakesIf path None old known new known' = (new ≡ old) × IsKept known known'
   TakesIf path (Some obs) old known new known' = Takes path obs old known new known'
 
-  -- one look at the path, and what is handed in of it: a sight of that path, as it was seen there
+  -- one check of the path, and what is delivered of it: an observation of that path, as it was seen there
   pub record Looks (path : List ℕ) (old : H) (known : Known) (new : H) (known' : Known) : Type 0 where
     pub seen : Option Obs
     pub mid : H
     pub looked : Did (LookedAt path seen) old mid
     pub taken : TakesIf path seen mid known new known'
 
--- No listed path comes behind this one, or it is longer than paths are.
+-- No listed path comes after this one, or it is longer than paths are.
 abbrev pub IsLast : {H : Type 0} → (H → List ℕ → Option (List ℕ) → Type 0) → H → List ℕ → Type 0
 IsLast IsNext host path = IsNext host path None
     ⊎ ((next : List ℕ) × IsNext host path (Some next) × (1024 < length next))
 
 module _ {H : Type 0} (IsNext : H → List ℕ → Option (List ℕ) → Type 0) (Did : PathCall → H → H → Type 0) where
-  -- Nothing but questions about paths, by which nothing is handed in.
+  -- Nothing but questions about paths, by which nothing is delivered.
   pub data Questions (first : H) : H → Type 0 where
     no_question : Questions first first
     ahead : {mid new : H} {path : List ℕ} {answer : Bool} → Questions first mid → Did (AsksAt path answer) mid new → Questions first new
     awaits : {mid new : H} {path : List ℕ} {answer : Bool} → Questions first mid → Did (Awaits path answer) mid new → Questions first new
 
-  -- So many looks behind this path, the last of them at that one: each at the path that then comes next behind the one before, once it is known
-  -- what is there; and questions between them.
+  -- `n` checks after this path, the last of them at that one. Each is at the path that then comes next after the one
+  -- before, once it is known what is there. Questions may come between them.
   pub data Walks (first : H) (known : Known) (from : List ℕ) : ℕ → List ℕ → H → Known → Type 0 where
     no_look : Walks first known from 0 from first known
     asked : {n : ℕ} {path : List ℕ} {mid new : H} {after : Known} →
@@ -74,19 +74,20 @@ module _ {H : Type 0} (IsNext : H → List ℕ → Option (List ℕ) → Type 0)
         Walks first known from n path mid before → IsNext mid path (Some next) → Did (Awaits next true) mid seen →
         Looks Did next seen before new after → Walks first known from (n + 1) next new after
 
-  -- The looks go on behind this path, and then either on behind that one, or no listed path comes behind the last of them.
+  -- The checks go on after this path, and then either on after that one, or no listed path comes after the last of
+  -- them.
   pub record WalksOn (from : List ℕ) (old : H) (known : Known) (new : H) (known' : Known) (to : Option (List ℕ)) : Type 0 where
     pub looks : ℕ
     pub last : List ℕ
     pub walk : Walks old known from looks last new known'
     pub rest : (to ≡ Some last) ⊎ ((to ≡ None) × IsLast IsNext new last)
 
-  -- A round of looks that goes on does so behind its last path; else one begins before all paths.
+  -- A series of path checks that goes on does so after its last path; else one begins before all paths.
   abbrev pub Starts : Option (List ℕ) → H → List ℕ → H → Type 0
   Starts (Some path) old from started = (from ≡ path) × (started ≡ old)
   Starts None old from started = (from ≡ []) × Did BeginsLooks old started
 
-  -- Either way it is then asked whether a load was accepted meanwhile: after one each sight is handed in again.
+  -- Either way it is then asked whether a load was accepted meanwhile: after one each observation is delivered again.
   pub record Begins (at : Option (List ℕ)) (old : H) (known : Known) (from : List ℕ) (first : H) (begun : Known) : Type 0 where
     pub started : H
     pub starts : Starts at old from started
@@ -94,7 +95,7 @@ module _ {H : Type 0} (IsNext : H → List ℕ → Option (List ℕ) → Type 0)
     pub asks : Did (HasLoaded loaded) started first
     pub forgets : IsKept (known_after loaded known) begun
 
-  -- A round of looks begins or goes on: paths are asked about, and then looked at.
+  -- A series of path checks begins or goes on: paths are asked about, and then checked.
   pub record LooksOn (at : Option (List ℕ)) (old : H) (known : Known) (at' : Option (List ℕ)) (new : H) (known' : Known) : Type 0 where
     pub from : List ℕ
     pub first : H

@@ -1,4 +1,4 @@
--- A round of the live loop.
+-- A pass of the live loop.
 use Rattle.std.specs.Prelude.{◌≡◌, ◌⊎◌, ◌+◌, ◌<◌, ◌≤◌, ℕ, List, Option, Some, None}
 use Rattle.history_model.specs.declared.Reply.{Reply}
 use Rattle.job_clients.specs.Callers.{Coming, GrowsAt, IsNobody, MayComeIn, Sets}
@@ -9,7 +9,7 @@ use Rattle.live_loop.specs.Children.{PollsAll}
 use Rattle.live_loop.specs.Looks.{PathCall, IsKept, Known, LooksOn}
 use Rattle.live_loop.specs.Sightings.{later_after, IsNextLook}
 
--- The edge was asked, time and again, and nothing was handed in.
+-- The edge was asked, time and again, and nothing was delivered.
 pub data Asks {H : Type 0} (Asked : H → H → Type 0) (from : H) : H → Type 0 where
   nothing : Asks Asked from from
   further : {mid new : H} → Asks Asked from mid → Asked mid new → Asks Asked from new
@@ -27,7 +27,7 @@ IsNew desk = (desk.conn ≡ 1) × IsNobody desk.coming
 abbrev pub desk_with : ℕ → (ℕ → Option Coming) → Desk
 desk_with conn coming = record { conn = conn; coming = coming }
 
--- one of them may have been let go
+-- one of them may have been disconnected
 abbrev pub LetsGo : (ℕ → Option Coming) → (ℕ → Option Coming) → Type 0
 LetsGo old new = (new ≡ old) ⊎ ((key : ℕ) × Sets key None old new)
 
@@ -35,7 +35,7 @@ LetsGo old new = (new ≡ old) ⊎ ((key : ℕ) × Sets key None old new)
 abbrev pub MayGrow : (ℕ → Option Coming) → (ℕ → Option Coming) → Type 0
 MayGrow old new = (new ≡ old) ⊎ ((key : ℕ) × GrowsAt key old new)
 
--- A client that came to these sockets is among them, perhaps in the place of another; or it was let go.
+-- A client that came to these sockets is among them, perhaps in the place of another; or it was disconnected.
 pub record Welcomes (origin : Origin) (old new : ℕ → Option Coming) : Type 0 where
   pub mid : ℕ → Option Coming
   pub gone : LetsGo old mid
@@ -43,7 +43,7 @@ pub record Welcomes (origin : Origin) (old new : ℕ → Option Coming) : Type 0
 
 module _ {H : Type 0} (Asked : H → H → Type 0) (Taken : ℕ → H → H → Type 0) (Came : ℕ → ℕ → List ℕ → HandedIn → H → H → Type 0) where
   -- What becomes of the clients of jobs' sockets, step by step. The edge is asked. A client is taken at the sockets of a job, and is among the others
-  -- from then on as one that came to these sockets, or is let go. Some bytes of one's request come. One is let go. One is handed in: under the
+  -- from then on as one that came to these sockets, or is disconnected. Some bytes of one's request come. One is disconnected. One is delivered: under the
   -- next number, for the job to whose sockets it came, with all that came of its request; it is among the others no more.
   pub data Gathers (first : Desk) (from : H) : Desk → H → Type 0 where
     nobody : Gathers first from first from
@@ -75,8 +75,9 @@ module _ {H : Type 0} (Answered : List ℕ → Reply → H → H → Type 0) (As
     pub again : Serves Answered mid last
     pub asks : Asks Asked last new
 
--- what a round leaves for the next: the launcher, the job whose child is asked about first, the clients of jobs' sockets with the number of the
--- next, when paths are looked at, the path behind which a round of looks goes on, if one does, when the next one begins, and what was handed in last of them
+-- What a pass leaves for the next: the launcher, the job whose child is asked about first, and the clients of jobs'
+-- sockets with the number of the next. It leaves when paths are checked, and the path after which a series of path
+-- checks goes on, if one does. It leaves when the next series begins, and what was delivered last of the paths.
 pub record Left (H : Type 0) : Type 0 where
   pub host : H
   pub child : ℕ
@@ -86,7 +87,7 @@ pub record Left (H : Type 0) : Type 0 where
   pub later : ℕ
   pub known : Known
 
--- what is asked of a launcher, and handed in to it, as its trait says
+-- what is asked of a launcher, and delivered to it, as its trait says
 pub record Launcher (H : Type 0) : Type 1 where
   pub round_up : H → ℕ
   pub IsNext : H → List ℕ → Option (List ℕ) → Type 0
@@ -98,7 +99,7 @@ pub record Launcher (H : Type 0) : Type 1 where
   pub Taken : ℕ → H → H → Type 0
   pub Came : ℕ → ℕ → List ℕ → HandedIn → H → H → Type 0
 
--- before its moment nothing is looked at; from then on a round of looks begins, or the one that was begun goes on
+-- before its time nothing is checked; from then on a series of path checks begins, or the one that was begun goes on
 abbrev pub Sees : {H : Type 0} → Launcher H → H → Left H → H → Left H → Type 0
 Sees it polled old looked new =
     ((it.round_up polled < old.look) × (looked ≡ polled) × (new.look ≡ old.look) × (new.walk ≡ old.walk)
@@ -108,8 +109,9 @@ Sees it polled old looked new =
     × IsNextLook new.walk (it.round_up polled) new.later new.look
     × LooksOn it.IsNext it.Did old.walk polled old.known new.walk looked new.known)
 
--- A whole round: it waits; it begins at a reading; each run that is over is handed in; if it is time, a round of looks begins or goes on, and what
--- is new at the paths is handed in; clients are served. Nothing else is handed in, and in the end it only tells.
+-- A whole pass. It waits and begins at a clock reading. Each run that is over is delivered. If it is time, a series of
+-- path checks begins or goes on, and what is new at the paths is delivered. Then clients are served. Nothing else is
+-- delivered, and in the end it only logs.
 pub record IsRound {H : Type 0} (it : Launcher H) (old new : Left H) : Type 0 where
   pub waited : H
   pub waits : Asks it.Asked old.host waited
@@ -123,7 +125,7 @@ pub record IsRound {H : Type 0} (it : Launcher H) (old new : Left H) : Type 0 wh
   pub serves : ServesAll it.Answered it.Asked it.Taken it.Came old.desk new.desk looked served
   pub tells : Asks it.Asked served new.host
 
--- any rounds, one after another: each begins with what the one before left
+-- any passes, one after another: each begins with what the one before left
 pub data AreRounds {H : Type 0} (it : Launcher H) (first : Left H) : Left H → Type 0 where
   no_round : AreRounds it first first
   one_round : {mid new : Left H} → AreRounds it first mid → IsRound it mid new → AreRounds it first new

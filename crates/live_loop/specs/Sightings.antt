@@ -1,15 +1,15 @@
--- What the looks remember.
+-- What the path checks remember.
 use Rattle.std.specs.Prelude.{◌≡◌, ◌≤◌, ◌+◌, ◌-◌, ◌^◌, min, ℕ, List, Bool, true, false, Option, Some, None}
 use Rattle.std.specs.BTreeMap.{get_by_text}
 use Rattle.std.specs.String.{string_bytes}
 use Rattle.live_loop.specs.declared.paths.Sights.{Sights}
 use Rattle.live_loop.specs.Looks.{Known}
 
--- what was handed in last of each path
+-- what was delivered last of each path
 abbrev pub known_in : Sights → Known
 known_in sights path = get_by_text sights.seen path
 
--- the path of the last look
+-- the path of the last check
 abbrev pub path_in : Sights → List ℕ
 path_in sights = string_bytes sights.path
 
@@ -17,15 +17,15 @@ abbrev pub walk_at : Bool → List ℕ → Option (List ℕ)
 walk_at true path = Some path
 walk_at false path = None
 
--- the path behind which a round of looks goes on, if one does
+-- the path after which a series of path checks goes on, if one does
 abbrev pub walk_in : Sights → Option (List ℕ)
 walk_in sights = walk_at sights.is_walking (path_in sights)
 
--- the moment of `up` at which paths are asked about or looked at next
+-- the time of `up` at which paths are asked about or checked next
 abbrev pub next_in : Sights → ℕ
 next_in sights = sights.next
 
--- the moment of `up` of the next round of looks
+-- the time of `up` of the next series of path checks
 abbrev pub later_in : Sights → ℕ
 later_in sights = sights.later
 
@@ -33,17 +33,17 @@ later_in sights = sights.later
 abbrev pub room_in : Sights → List ℕ
 room_in sights = string_bytes sights.room
 
--- a round of looks that begins at this moment is followed by another a second later
+-- a series of path checks that begins at this time is followed by another a second later
 abbrev pub later_after : Option (List ℕ) → ℕ → ℕ → ℕ
 later_after (Some path) up later = later
 later_after None up later = min (up + 1000) (2 ^ 64 - 1)
 
--- A round of looks that goes on does so within two milliseconds; if none does, the next one begins a second after the last began.
+-- A series of path checks that goes on does so within two milliseconds; if none does, the next one begins a second after the last began.
 abbrev pub IsNextLook : Option (List ℕ) → ℕ → ℕ → ℕ → Type 0
 IsNextLook (Some path) up later next = (up ≤ next) × (next ≤ up + 2)
 IsNextLook None up later next = next ≡ later
 
--- what was handed in last of each path, and where the round of looks stands, are as before
+-- what was delivered last of each path, and where the series of path checks is, are as before
 pub record IsStill (old new : Sights) : Type 0 where
   pub seen : new.seen ≡ old.seen
   pub path : path_in new ≡ path_in old

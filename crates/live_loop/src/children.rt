@@ -1,4 +1,4 @@
-//! The children, each asked about once a round, as long as there is time.
+//! The children. Each is asked about once in a pass of the loop, as long as there is time.
 
 ghost use Rattle.std.specs.Prelude.{◌≡◌, ◌⊎◌, false};
 ghost use Rattle.live_loop.specs.Children.{PollsAll};
@@ -9,9 +9,9 @@ use control_socket::Limit;
 use history_model::{JobNo, MAX_JOBS};
 use std::alloc::Global;
 
-/// Polls each child that is over, by rising numbers of their jobs from this one on. An end is handed in, and so is a refusal to
-/// wait. Where there is no time left, the others are left for the next round. It answers with which number that begins: 0 unless
-/// some were left.
+/// Polls each child that is over, by rising numbers of their jobs from this one on. It delivers an exit, and also a
+/// refusal to wait. Where no time is left, the others are left for the next pass. It answers with which number that
+/// begins: 0 unless some were left.
 pub(crate) fn poll_children<H: LoopHost, L: Limit>(
     alloc: Global,
     host: &mut H,

@@ -17,7 +17,7 @@ use std::alloc::{AllocError, Global};
 /// Under this token clients that come wake the poll.
 const COMING: Token = Token(1);
 
-/// How many clients of a job are taken in a round.
+/// How many clients of a job are taken in a pass of the loop.
 const TAKEN: usize = 128;
 
 /// The clients whose request still comes, and the number of the next whole one. The numbers rise through all loads of all
@@ -27,17 +27,17 @@ pub(crate) struct JobSockets {
     pub(crate) callers: Callers,
     pub(crate) losses: Losses,
     conn: u64,
-    // As many clients there was room for when the sockets were tried last.
+    // How many clients there was room for when the sockets were tried last.
     pub(crate) room: usize,
-    // Clients may have come since all sockets were tried: the next round tries them.
+    // Clients may have come since all sockets were tried: the next pass of the loop tries them.
     pub(crate) may_have_come: bool,
-    // The next round tries the sockets of this job first, or of the next above it.
+    // The next pass of the loop tries the sockets of this job first, or of the next above it.
     first_job: JobNo,
-    // The next round hears the client of this key first, or the next above it.
+    // The next pass of the loop reads from the client of this key first, or the next above it.
     first_key: usize,
-    // A client or some bytes came in this round.
+    // A client or some bytes came in this pass of the loop.
     pub(crate) is_stirred: bool,
-    // A request came whole in this round.
+    // A request came whole in this pass of the loop.
     pub(crate) is_whole: bool,
 }
 
@@ -70,9 +70,9 @@ impl JobSockets {
         }
     }
 
-    /// Takes the clients that wait at the sockets, if some may have come, as far as there is room beside the sockets that jobs have now: as
-    /// many are heard at a time, and a third of them, at most 64, of one job. Where there is no time left, those of the other jobs are
-    /// left for the next round.
+    /// Takes the clients that wait at the sockets, if some may have come. The room for clients is what the sockets that
+    /// jobs have now leave. That is how many are heard at a time, and a third of them, at most 64, of one job. Where no
+    /// time is left, the clients of the other jobs are left for the next pass of the loop.
     pub(crate) fn accept<H: LoopHost, L: Limit>(
         &mut self,
         registry: &Registry,
@@ -85,14 +85,14 @@ impl JobSockets {
         let room = host.room();
         self.room = room;
         self.callers.set_room(room);
-        // Sockets that the poll refuses are tried in each round.
+        // Sockets that the poll refuses are tried in each pass of the loop.
         let is_registered = host.register(registry, COMING);
         self.may_have_come = self.may_have_come | !is_registered;
         if !self.may_have_come {
             return;
         }
         self.begin_pass();
-        // A round that does not begin with the first job is followed by one that does.
+        // A pass of the loop that does not begin with the first job is followed by one that does.
         self.may_have_come = self.first_job > 0;
         let mut next = self.first_job;
         self.first_job = 0;
@@ -119,7 +119,8 @@ impl JobSockets {
         }
     }
 
-    // Whether a client with this place is left for a later round: there is none yet, or one of the job's came that was not read.
+    // Whether a client with this place is left for a later pass: it has none yet, or one of the job's came that was not
+    // read.
     fn is_put_off(&self, place: Place, bind: u64) -> bool {
         match place {
             Place::Free => false,
@@ -128,8 +129,9 @@ impl JobSockets {
         }
     }
 
-    // Takes the clients of one job. If they are many, or there is no room for all before the first are read, the others are left
-    // for the next round; so are those that have to wait for a place, which the system holds. It says whether one came, or may wait.
+    // Takes the clients of one job. Some are left for the next pass of the loop: if they are many, or if there is no
+    // room for all before the first are read. Clients that have to wait for a place are left too, and the system holds
+    // them. It says whether one came, or may wait.
     fn accept_for<H: LoopHost>(&mut self, registry: &Registry, host: &mut H, origin: Origin) -> bool
         ensures gathers { Gathers H.Asked H.Taken H.Came (desk_in self.old) host.old (desk_in self.new) host.new }
         ensures conn { self.new.conn ≡ self.old.conn }
@@ -149,7 +151,7 @@ impl JobSockets {
         true
     }
 
-    // Why the client of the key goes for another one.
+    // Why the client of the key is disconnected for another one.
     fn loss_of(&self, key: usize) -> Loss {
         if self.callers.is_waiting(key) {
             Loss::Outwaited
@@ -219,7 +221,7 @@ impl JobSockets {
         }
     }
 
-    // A loss is told of a job that has its sockets still.
+    // A loss is logged of a job that has its sockets still.
     fn tell<H: LoopHost>(&mut self, host: &mut H, origin: Origin, loss: Loss)
         ensures asks { Asks H.Asked host.old host.new }
         ensures conn { self.new.conn ≡ self.old.conn }
@@ -231,8 +233,8 @@ impl JobSockets {
         }
     }
 
-    /// Takes what the clients have sent, and hands in those whose request is whole, as far as there are places. Where there is no time left,
-    /// the other clients are left for the next round. It says whether one may go on at once.
+    /// Takes what the clients have sent, and delivers those whose request is whole, as far as there are places. Where
+    /// no time is left the other clients are left for the next pass. It says whether one may go on at once.
     pub(crate) fn gather<H: LoopHost, L: Limit>(
         &mut self,
         alloc: Global,
@@ -272,7 +274,8 @@ impl JobSockets {
         is_busy
     }
 
-    // Has a client wait for its turn whose request is whole, and lets one go that is lost. It says whether it may go on at once.
+    // Has a client wait for its turn whose request is whole, and closes one that is lost. It says whether it may go on
+    // at once.
     fn settle<H: LoopHost>(&mut self, host: &mut H, key: usize, gathered: Gathered) -> bool
         ensures { Gathers H.Asked H.Taken H.Came (desk_in self.old) host.old (desk_in self.new) host.new }
     {
@@ -290,8 +293,8 @@ impl JobSockets {
         }
     }
 
-    // Hands in those whose request is whole, the one first whose request was whole first, but those for whose job there is no place. Where
-    // there is no time left, the others are left for the next round. True then.
+    // Delivers those whose request is whole, in the order in which the requests became whole, but those for whose job
+    // there is no place. Where no time is left, the others are left for the next pass. True then.
     fn hand_in_line<H: LoopHost, L: Limit>(
         &mut self,
         alloc: Global,
@@ -314,7 +317,7 @@ impl JobSockets {
         false
     }
 
-    // Hands in a client whose request is whole, unless it has to wait for a place. It says whether it did.
+    // Delivers a client whose request is whole, unless it has to wait for a place. It says whether it did.
     fn hand_in_if_placed<H: LoopHost>(
         &mut self,
         alloc: Global,
@@ -334,8 +337,8 @@ impl JobSockets {
         true
     }
 
-    // What became of one client. One that came to sockets which were given up since is let go, also if the number has new
-    // ones.
+    // What became of one client. One that came to sockets which were given up since is disconnected, also if the number
+    // has new ones.
     fn gathered<H: LoopHost>(&mut self, host: &mut H, key: usize) -> Gathered
         ensures asks { Asks H.Asked host.old host.new }
         ensures conn { self.new.conn ≡ self.old.conn }
@@ -353,8 +356,8 @@ impl JobSockets {
         gathered
     }
 
-    // Hands in a client, under its number. Why one is closed that the launcher refused is told. If there were no further number, the client
-    // would be let go.
+    // Delivers a client, under its number. It logs why a client is closed that the launcher refused. If there were no
+    // further number, the client would be disconnected.
     fn hand_in<H: LoopHost>(
         &mut self,
         alloc: Global,

@@ -9,7 +9,7 @@ use std::marker::Model;
 /// How many bytes a label has at most.
 const LONGEST_LABEL: usize = 255;
 
-/// Room for a label. To a contract, the text that stands in it.
+/// Room for a label. To a contract, the text that is in it.
 #[derive(Drop)]
 pub struct LabelRoom {
     text: String,
@@ -30,7 +30,7 @@ impl LabelRoom {
         Ok(LabelRoom { text })
     }
 
-    /// Copies a text of at most 255 bytes, as each label is. Takes no memory for it.
+    /// Copies a label, of at most 255 bytes. Takes no memory for it.
     pub fn copy(&mut self, text: &str)
         ensures { length text.now ≤ 255 → self.new ≡ text.now }
     {

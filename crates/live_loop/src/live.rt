@@ -22,10 +22,10 @@ use std::alloc::{AllocError, Global};
 /// Under this token the control socket and its clients wake the poll.
 const CONTROL: Token = Token(0);
 
-/// How many events are told at a time. The others are told in the next round.
+/// How many events the poll reports at a time. It reports the others in the next pass of the loop.
 const EVENTS: usize = 128;
 
-/// A launcher with its control socket, the poll that both wait on, and what its rounds remember of one another.
+/// A launcher with its control socket, the poll that both wait on, and what its passes remember of one another.
 #[derive(Drop)]
 pub struct Live<H> {
     pub(crate) host: H,
@@ -34,21 +34,21 @@ pub struct Live<H> {
     pub(crate) rooms: Rooms,
     // What standard error would have had to wait for.
     pub(crate) untold: Option<Notice>,
-    // The journal was closed, and this was not told.
+    // The journal was closed, and this was not logged.
     pub(crate) has_journal_closed: bool,
-    // The longest wait of the next round, in milliseconds.
+    // The longest wait of the next pass, in milliseconds.
     pub(crate) pause: u64,
-    // How many of the next rounds are quick.
+    // How many of the next passes are quick.
     pub(crate) quick: u32,
-    // The next round asks about the child of this job first, or of the next above it.
+    // The next pass asks about the child of this job first, or of the next above it.
     pub(crate) next_child: JobNo,
     // A client may go on at once, or a child was left.
     pub(crate) is_busy: bool,
-    // The reading's `up` at which no job was left after a shutdown.
+    // The `up` of the clock reading at which no job was left after a shutdown.
     pub(crate) ended_at: Option<u64>,
 }
 
-/// What the rounds keep.
+/// What the passes keep.
 #[derive(Drop)]
 pub(crate) struct Rooms {
     pub(crate) events: Events,
@@ -117,9 +117,10 @@ fn poll_with<R: System>(rt: &R, control: &mut ControlSocket) -> Result<Poll, Ser
 }
 
 impl<H: LoopHost + Drop> Live<H> {
-    /// The launcher, which waits for its first round; no sight was handed in to it yet. NoMemory, or Poll, if the system refuses the poll or the control socket's
-    /// registration. After an `Err` what was handed in is dropped: the control socket's lock is let go, and its file and the
-    /// lock's are left. Who has the socket's mark can remove its file by that.
+    /// The launcher, which waits for its first pass; it was given no observation yet. NoMemory, or Poll, if the system
+    /// refuses the poll or the control socket's registration. After an `Err` the arguments are dropped: the control
+    /// socket's lock is released, and its file and the lock's are left. Who has the socket's mark can remove its file
+    /// by that.
     pub fn new<R: System>(
         rt: &R,
         alloc: Global,
@@ -167,8 +168,8 @@ impl<H> Live<H> {
         &self.host
     }
 
-    /// The launcher, for whoever wants no further round. All else is dropped: the control socket's lock is let go, and its file
-    /// and the lock's are left.
+    /// The launcher, for whoever wants no further pass. All else is dropped: the control socket's lock is released, and
+    /// its file and the lock's are left.
     pub fn into_host(self) -> H
         ensures { result ≡ self.host }
     {
@@ -184,14 +185,14 @@ impl<H> Live<H> {
         host
     }
 
-    /// From now on each line on standard error begins with its level, as the journal of systemd takes it: `<4>` for what was
-    /// refused, `<6>` for what became of a run. Takes no memory.
+    /// From now on each line on standard error begins with its level, as the journal of systemd takes it. That is `<4>`
+    /// for what was refused, `<6>` for what became of a run. Takes no memory.
     pub fn set_leveled(&mut self) {
         self.rooms.voice.is_leveled = true;
     }
 
-    /// As many clients there is room for until the first round, in which the launcher is asked for that, as in each: the control socket
-    /// is served before. 256 if this is not called. Takes no memory.
+    /// How many clients there is room for until the first pass. In that, as in each, the loop asks the launcher for the
+    /// room, but it serves the control socket before. 256 if this is not called. Takes no memory.
     pub fn set_room(&mut self, clients: usize) {
         self.rooms.sockets.callers.set_room(clients);
         self.control.set_room(clients);

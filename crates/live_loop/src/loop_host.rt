@@ -1,5 +1,5 @@
-//! A launcher as its live loop sees it: what a round asks of it and of its edge, and what it hands in. The loop knows neither the
-//! table nor the store nor the journal behind it.
+//! A launcher as its live loop sees it: what a pass asks of it and of its edge, and what it delivers. The loop does not
+//! know the table, the store and the journal of the launcher.
 
 ghost use Rattle.std.specs.Prelude.{◌≡◌, ◌≤◌, ℕ, List, Option, Some, IfNone, OnSome};
 ghost use Rattle.std.specs.Option.{option_map};
@@ -13,22 +13,22 @@ use job_clients::{Caller, Origin};
 use mio::{Registry, Token};
 use std::alloc::Global;
 
-/// A launcher as the looks at paths see it.
+/// A launcher as the path checks see it.
 pub trait PathHost {
-    /// The `up` of the present round's reading.
+    /// The `up` of the clock reading of the present pass.
     ghost round_up: { Self → ℕ };
 
-    /// This may be the first path behind the text, in byte order, that a job lists.
+    /// This may be the first path after the text, in byte order, that a job lists.
     ghost IsNext: { Self → List ℕ → Option (List ℕ) → Type 0 };
 
     /// The call may lead from the one to the other.
     ghost Did: { PathCall → Self → Self → Type 0 };
 
-    /// The `up` of the present round's reading.
+    /// The `up` of the clock reading of the present pass.
     fn up(&self) -> u64
         ensures { result ≡ Self.round_up self.now };
 
-    /// Begins a round of looks.
+    /// Begins a series of path checks.
     fn begin_looks(&mut self)
         ensures { Self.Did BeginsLooks self.old self.new };
 
@@ -36,11 +36,11 @@ pub trait PathHost {
     fn take_loaded(&mut self) -> bool
         ensures { Self.Did (HasLoaded result) self.old self.new };
 
-    /// The first path behind this one, in byte order, that a job lists.
+    /// The first path after this one, in byte order, that a job lists.
     fn path_after(&self, path: &str) -> Option<&str>
         ensures { Self.IsNext self.now path.now (option_map (λ next. next.now) result) };
 
-    /// Asks what is at the path, and does not wait for the answer. False: that is to be asked later.
+    /// Asks what is at the path, and does not wait for the answer. False: ask that later.
     fn ask(&mut self, path: &str) -> bool
         ensures { Self.Did (AsksAt path.now result) self.old self.new };
 
@@ -48,18 +48,19 @@ pub trait PathHost {
     fn is_seen(&mut self, path: &str) -> bool
         ensures { Self.Did (Awaits path.now result) self.old self.new };
 
-    /// What was at the path when it was asked about, at most half a second ago. None if the system refuses to look, or gives no answer.
+    /// What was at the path when it was asked about, at most half a second ago. None if the system refuses the check,
+    /// or gives no answer.
     fn look(&mut self, path: &str) -> Option<Obs>
         ensures { Self.Did (LookedAt path.now result) self.old self.new };
 
-    /// Hands in a sight.
+    /// Delivers an observation.
     fn saw(&mut self, alloc: Global, path: &str, obs: Obs)
         ensures { Self.Did (Sighted path.now obs) self.old self.new };
 }
 
-/// What became of a client that was handed in.
+/// What became of a client that was delivered.
 pub enum HandedIn {
-    /// The edge could not hold it, so it is no event. It was let go, and that was told.
+    /// The edge could not hold it, so it is not an event. It was disconnected, and that was logged.
     Dropped,
     /// Its job heard that it came.
     Heard,
@@ -67,51 +68,52 @@ pub enum HandedIn {
     Refused(Refusal),
 }
 
-/// How a launcher stands.
+/// The state of a launcher.
 #[derive(Clone, Copy)]
 pub struct Standing {
-    /// Whether something happened in this round that is an input.
+    /// Whether something happened in this pass that is an input.
     pub is_active: bool,
     /// Whether a shutdown was accepted, and no job is left.
     pub has_ended: bool,
-    /// The next moment of `up` at which time alone may make an order due. None also while readings are refused, so that a
-    /// moment that was reached does not keep the loop from waiting.
+    /// The next time of `up` at which time alone may make an order due. None also while the launcher refuses clock
+    /// readings, so that a time that was reached does not keep the loop from waiting.
     pub next_moment: Option<u64>,
 }
 
-/// A launcher as the rounds of a live loop see it. Its answers to the lines of control clients are those of `Answers`.
+/// A launcher as the passes of a live loop see it. Its answers to the lines of control clients are those of `Answers`.
 pub trait LoopHost: PathHost + Answers {
     ghost use Rattle.live_loop.specs.declared.loop_host.HandedIn.{HandedIn};
 
-    /// A round's beginning may lead from the one to the other.
+    /// The beginning of a pass may lead from the one to the other.
     ghost Begun: { Self → Self → Type 0 };
 
     /// To the question for a run that is over, of this job or of the next above it, this answer may lead from the one to the other.
     ghost Polled: { ℕ → Option ℕ → Self → Self → Type 0 };
 
-    /// A question to the edge, by which nothing is handed in, may lead from the one to the other.
+    /// A question to the edge, which delivers nothing, may lead from the one to the other.
     ghost Asked: { Self → Self → Type 0 };
 
     /// That a client was taken which waited at the sockets of this job may have led from the one to the other.
     ghost Taken: { ℕ → Self → Self → Type 0 };
 
-    /// That a client came, under this number, of this job, with this request, was handed in, and it may have led from the one to the other.
+    /// A client came, under this number, of this job, with this request. That it was delivered may have led from the
+    /// one to the other.
     ghost Came: { ℕ → ℕ → List ℕ → HandedIn → Self → Self → Type 0 };
 
-    /// Begins a round at a new reading, which is handed in if it may change something. If the clock can't be read, the round
-    /// is at the reading of the one before.
+    /// Begins a pass at a new clock reading, and delivers it if it may change something. If the clock can't be read,
+    /// the pass has the clock reading of the one before.
     fn begin(&mut self, alloc: Global)
         ensures { Self.Begun self.old self.new };
 
-    /// The `up` of now, or of the round if the clock can't be read.
+    /// The `up` of now, or of the pass if the clock can't be read.
     fn up_now(&mut self) -> u64
         ensures { Self.Asked self.old self.new };
 
-    /// How it stands now.
+    /// Its state now.
     fn standing(&self) -> Standing;
 
-    /// Asks about the child of this job, or of the next above it, whose run is over, and hands in how it ended, or that the wait was
-    /// refused. It gives the number of that job; none if no run is over.
+    /// Asks about the child of this job, or of the next above it, whose run is over. It delivers how the run exited, or
+    /// that the wait was refused. It gives the number of that job; none if no run is over.
     fn poll_from(&mut self, alloc: Global, room: &mut LabelRoom, first: JobNo) -> Option<JobNo>
         ensures { Self.Polled first result self.old self.new };
 
@@ -124,8 +126,8 @@ pub trait LoopHost: PathHost + Answers {
     fn listener_from(&mut self, job: JobNo) -> Option<Origin>
         ensures { Self.Asked self.old self.new };
 
-    /// As many clients there is room for now, beside the sockets of jobs: of connections whose request came whole, of clients of jobs'
-    /// sockets that are heard, and of clients of the control socket.
+    /// How many clients there is room for now, besides the sockets of jobs. It is a number of connections whose request
+    /// came whole, of clients of jobs' sockets that are heard, and of clients of the control socket.
     fn room(&mut self) -> usize
         ensures { Self.Asked self.old self.new };
 
@@ -145,7 +147,7 @@ pub trait LoopHost: PathHost + Answers {
         ensures taken { OnSome result (Self.Taken job self.old self.new) }
         ensures nobody { IfNone result (Self.Asked self.old self.new) };
 
-    /// Hands in a client whose request came whole, under a number that it has had for no other.
+    /// Delivers a client whose request came whole, under a number that it has had for no other.
     fn hand_in(
         &mut self,
         alloc: Global,
@@ -159,7 +161,7 @@ pub trait LoopHost: PathHost + Answers {
     fn forward(&mut self) -> bool
         ensures { Self.Asked self.old self.new };
 
-    /// Lets each connection go that is held, with its files.
+    /// Closes each connection that is held, with its files.
     fn let_all_go(&mut self)
         ensures { Self.Asked self.old self.new };
 

@@ -1,5 +1,5 @@
-//! The paths that jobs list, each looked at once a second. Nobody waits for what is there: paths are asked about, and looked at once that is
-//! known, in this round of the loop or in later ones.
+//! The paths that jobs list, each checked once a second. Nobody waits for what is there: the loop asks about paths. It
+//! checks each once the answer is known, in this pass or in later ones.
 
 ghost use Rattle.std.specs.Prelude.{◌≡◌, ◌≤◌, ◌<◌, ◌+◌, ◌-◌, ◌^◌, min, ℕ, IsTrue, true, false, [], None, Some, MatchOption, IfOk, Option, List};
 ghost use Rattle.std.specs.String.{string_capacity};
@@ -11,7 +11,7 @@ use std::alloc::{AllocError, Global};
 use std::collections::BTreeMap;
 use std::mem;
 
-/// How many milliseconds of `up` lie between two rounds of looks.
+/// How many milliseconds of `up` lie between two series of path checks.
 const BETWEEN: u64 = SECOND;
 
 /// How many milliseconds pass before it is asked again whether it is known what is at a path.
@@ -20,18 +20,18 @@ const SOON: u64 = 2;
 /// How many bytes a path has at most.
 const LONGEST_PATH: usize = 1_024;
 
-/// How many paths are asked about at most, and looked at, before the loop goes on to other things.
+/// How many paths are asked about at most, and checked, before the loop goes on to other things.
 const ASKED: u32 = 1_024;
 
 const LOOKS: u32 = 256;
 
-/// What was last seen at each path and handed in. A sight that is equal to the last one is not handed in again, unless a job
-/// was loaded since.
+/// What was last seen at each path and delivered. An observation that is equal to the last one is not delivered again,
+/// unless a job was loaded since.
 #[derive(Drop)]
 pub struct Sights {
     alloc: Global,
     seen: BTreeMap<String, Obs>,
-    // The path of the last look, and that of the last question; and a room.
+    // The path of the last check, and that of the last question; and a room.
     path: String,
     asked: String,
     room: String,
@@ -46,7 +46,7 @@ pub struct Sights {
 impl Sights {
     ghost use Rattle.live_loop.specs.Sightings.{known_in, path_in, room_in, walk_in, next_in, later_in, later_after, IsNextLook, IsStill};
 
-    /// Nothing was handed in yet.
+    /// Nothing was delivered yet.
     pub fn new(alloc: Global) -> Result<Sights, AllocError>
         ensures { IfOk result (λ sights. IsEmpty (known_in sights)) }
     {
@@ -65,7 +65,7 @@ impl Sights {
         })
     }
 
-    /// The moment of `up` of the next look, if a path is listed.
+    /// The time of `up` of the next check, if a path is listed.
     pub fn next_look<H: PathHost>(&self, host: &H) -> Option<u64>
         ensures { MatchOption result (H.IsNext host.now [] None)
             (λ at. (at ≡ next_in self.now) × ((path : List ℕ) × H.IsNext host.now [] (Some path))) }
@@ -76,9 +76,10 @@ impl Sights {
         }
     }
 
-    /// Looks at each listed path, in byte order, and hands in what is new; a refused look is no event. A round of looks begins if it is time. It
-    /// goes on as far as it is known what is at the paths, and 256 paths at most; then the next call goes on with it, two milliseconds later or
-    /// at once. It says whether a round of looks began.
+    /// Checks each listed path, in byte order, and delivers what is new; a refused check is not an event. A series of
+    /// checks begins if it is time. It goes on as far as the answers for the paths are known, and for 256 paths at
+    /// most. Then the next call goes on with it, two milliseconds later or at once. It says whether a series of checks
+    /// began.
     pub fn look<H: PathHost>(&mut self, alloc: Global, host: &mut H) -> bool
         ensures early { H.round_up host.old < next_in self.old →
             (result ≡ false) × (host.new ≡ host.old) × (self.new ≡ self.old) }
@@ -100,7 +101,7 @@ impl Sights {
         begins
     }
 
-    // Begins a round of looks, if none goes on. A load that was accepted while one went on is heeded too.
+    // Begins a series of checks, if none goes on. It takes a load into account that was accepted while one went on.
     fn start<H: PathHost>(&mut self, host: &mut H, up: u64)
         ensures begins { Begins H.IsNext H.Did (walk_in self.old) host.old (known_in self.old)
             (path_in self.new) host.new (known_in self.new) }
@@ -111,7 +112,7 @@ impl Sights {
         self.forget_if(has_loaded);
     }
 
-    // A round of looks begins before all paths.
+    // A series of checks begins before all paths.
     fn begin<H: PathHost>(&mut self, host: &mut H, up: u64)
         ensures starts { Starts H.IsNext H.Did (walk_in self.old) host.old (path_in self.new) host.new }
         ensures seen { self.new.seen ≡ self.old.seen }
@@ -126,7 +127,7 @@ impl Sights {
         host.begin_looks();
     }
 
-    // After a load each sight is handed in again.
+    // After a load each observation is delivered again.
     fn forget_if(&mut self, has_loaded: bool)
         ensures known { IsKept (known_after has_loaded (known_in self.old)) (known_in self.new) }
         ensures path { path_in self.new ≡ path_in self.old }
@@ -137,7 +138,7 @@ impl Sights {
         }
     }
 
-    // Asks what is at the paths behind the one that was asked about last, as far as they may be asked about.
+    // Asks what is at the paths after the one that was asked about last, as far as they may be asked about.
     fn ask_ahead<H: PathHost>(&mut self, host: &mut H)
         ensures asks { Questions H.IsNext H.Did host.old host.new }
         ensures still { IsStill self.old self.new }
@@ -167,7 +168,8 @@ impl Sights {
         true
     }
 
-    // Looks at the listed paths behind this one, as far as it is known what is there. It says whether that is not known of the next one.
+    // Checks the listed paths after this one, as far as it is known what is there. It says whether that is not known of
+    // the next one.
     fn walk<H: PathHost>(&mut self, alloc: Global, host: &mut H) -> bool
         ensures walks { WalksOn H.IsNext H.Did (path_in self.old) host.old (known_in self.old)
             host.new (known_in self.new) (walk_in self.new) }
@@ -201,7 +203,7 @@ impl Sights {
         self.room.push_str(next).is_ok()
     }
 
-    // The path in the room is the one to be looked at.
+    // The path in the room must be checked next.
     fn step_on(&mut self)
         ensures path { path_in self.new ≡ room_in self.old }
         ensures seen { self.new.seen ≡ self.old.seen }
@@ -211,7 +213,7 @@ impl Sights {
         mem::swap(&mut self.path, &mut self.room);
     }
 
-    // Looks at the path, and hands in what is new there.
+    // Checks the path, and delivers what is new there.
     fn look_here<H: PathHost>(&mut self, alloc: Global, host: &mut H)
         ensures looks { Looks H.Did (path_in self.old) host.old (known_in self.old) host.new (known_in self.new) }
         ensures path { path_in self.new ≡ path_in self.old }
@@ -229,7 +231,8 @@ impl Sights {
         self.note(obs);
     }
 
-    // Remembers what was handed in. Without memory for it the sight is forgotten, and handed in again at the next look.
+    // Remembers what was delivered. Without memory for it the observation is forgotten, and delivered again at the next
+    // check.
     fn note(&mut self, obs: Obs)
         ensures noted { IsNoted (path_in self.old) obs (known_in self.old) (known_in self.new) }
         ensures path { path_in self.new ≡ path_in self.old }
@@ -247,7 +250,7 @@ impl Sights {
     }
 }
 
-// When paths are asked about or looked at next: if a round of looks goes on, soon or at once, and else at its moment.
+// When paths are asked about or checked next: if a series of checks goes on, soon or at once, and else at its time.
 fn moment_of(is_walking: bool, waits: bool, up: u64, later: u64) -> u64
     ensures over { is_walking ≡ false → result ≡ later }
     ensures on { is_walking ≡ true → (up ≤ result) × (result ≤ up + 2) }

@@ -1,4 +1,4 @@
-//! How long children are polled and clients are served in a round.
+//! How long children are polled and clients are served in a pass of the loop.
 
 ghost use Rattle.std.specs.Prelude.{◌≡◌, None, false};
 
@@ -6,7 +6,8 @@ use control_socket::Limit;
 use std::rt::Clock;
 use std::time::{Duration, Instant};
 
-/// For how many milliseconds a round polls children, or serves clients of one kind. Then the clock is read, and what it orders is done.
+/// For how many milliseconds a pass polls children, or serves clients of one kind. Then the clock is read, and what it
+/// orders is done.
 const LONGEST: u64 = 5;
 
 /// The time since children are polled, or clients are served.
@@ -19,7 +20,7 @@ pub(crate) struct RoundTime<'a, R> {
 }
 
 impl<'a, R: Clock> RoundTime<'a, R> {
-    /// From now on, in the round of this `up`.
+    /// From now on, in the pass of this `up`.
     pub(crate) fn begin(rt: &'a R, up: u64) -> RoundTime<'a, R> {
         RoundTime {
             rt,
@@ -30,7 +31,7 @@ impl<'a, R: Clock> RoundTime<'a, R> {
 }
 
 impl<R: Clock> Limit for RoundTime<'_, R> {
-    // Without a clock there is no time.
+    // If the clock can't be read there is no time.
     ghost Timed = { λ has old new. (new ≡ old) × (old.start ≡ None → has ≡ false) };
 
     fn has_time(&mut self) -> bool {

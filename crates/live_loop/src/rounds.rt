@@ -1,4 +1,4 @@
-//! The rounds of the live loop: what each does, one after the other.
+//! The passes of the live loop: what each does, one after the other.
 
 ghost use Rattle.std.specs.Prelude.{◌≡◌, OnOk};
 ghost use Rattle.control_socket.specs.Serving.{Serves};
@@ -22,25 +22,28 @@ use std::sync::Wait;
 use std::thread;
 use std::time::Duration;
 
-/// For how many milliseconds of `up` a launcher with no job left waits for clients that don't take their reply, or ask on and on, and
-/// for a standard error that takes nothing.
+/// How long a launcher with no job left waits, in milliseconds of `up`. It waits for clients that don't take their
+/// reply, or ask on and on, and for a standard error that takes nothing.
 const PATIENCE: u64 = SECOND;
 
-/// How many microseconds a quick round waits.
+/// How many microseconds a quick pass waits.
 const QUICK_WAIT: u64 = 200;
 
-/// One round. It waits at most a tenth of a second, or 200 microseconds if it is one of the four behind a round in which a client's
-/// request came whole, reads the clock, asks about each child, asks what is at the listed paths once in
-/// 1,000 milliseconds of `up` and looks at those of which that is known by now, takes new control clients and serves all of them, and does the same for the clients of jobs'
-/// sockets. What it finds is handed to the launcher, one by one. In the end it tells what was refused, and what became of runs,
-/// in a line each on standard error.
+/// One pass of the event loop. It waits at most a tenth of a second. After a pass in which a client's request came
+/// whole, the next four wait 200 microseconds.
 ///
-/// Children are polled for 5 milliseconds at most, and one child longer; control clients are served for as long, and a line
-/// longer; then clients of jobs' sockets. What is left is for the next round, which does not wait. If clients of jobs' sockets took
-/// their whole time, control clients are served once more, so that who asks for one thing waits for few others.
+/// Then it reads the clock and asks about each child. Once in 1,000 milliseconds of `up` it asks what is at the listed
+/// paths. It checks those whose answer is known by now. It takes new control clients and serves all of them, and does
+/// the same for the clients of jobs' sockets. It delivers what it finds to the launcher, one by one. In the end it logs
+/// what was refused, and what became of runs, in a line each on standard error.
 ///
-/// True: a shutdown was accepted, no job is left, and the control clients have their replies, or a second has passed since.
-/// Poll, if the system refuses to wait; nothing was done then.
+/// Children are polled for 5 milliseconds at most, and one child longer. Control clients are served for as long, and a
+/// line longer; then clients of jobs' sockets. What is left is for the next pass, which does not wait. If clients of
+/// jobs' sockets took their whole time, control clients are served once more, so that who asks for one thing waits for
+/// few others.
+///
+/// True: a shutdown was accepted, no job is left, and the control clients have their replies, or a second has passed
+/// since. Poll, if the system refuses to wait; nothing was done then.
 pub fn round<R: System, H: LoopHost>(
     rt: &R,
     alloc: Global,
@@ -76,9 +79,10 @@ pub fn round<R: System, H: LoopHost>(
     Ok(ends(live))
 }
 
-/// Rounds, until one says that it was the last, or the system refuses to wait. In each case the control socket's file is then
-/// removed, and the connections of jobs are let go with their files; the children live on. Only `waits` may wait for ever: it is a
-/// parameter of its own, so that who puts the launcher together can name the runtime without the leave to wait.
+/// Passes, until one says that it was the last, or the system refuses to wait. In each case the control socket's file
+/// is then removed, and the connections of jobs are dropped with their files; the children keep running. Only `waits`
+/// may wait for ever. It is a parameter of its own, so that who puts the launcher together can name the runtime without
+/// the leave to wait.
 pub fn serve<L: Wait, R: System, H: LoopHost + Drop>(
     waits: &L,
     rt: &R,
@@ -103,8 +107,8 @@ pub fn serve<L: Wait, R: System, H: LoopHost + Drop>(
     unreachable!()
 }
 
-// Waits for readiness, no longer than until the next moment of the table and the next look. The poll knows whole milliseconds alone,
-// so a quick round sleeps before it.
+// Waits for readiness, no longer than until the next time of the table and the next path check. The poll knows whole
+// milliseconds alone, so a quick pass sleeps before it.
 fn wait<R: System, H: LoopHost>(rt: &R, live: &mut Live<H>) -> Result<(), ServeFault>
     ensures asks { Asks H.Asked live.old.host live.new.host }
     ensures kept { IsKeptBy live.old live.new }
@@ -125,7 +129,7 @@ fn wait<R: System, H: LoopHost>(rt: &R, live: &mut Live<H>) -> Result<(), ServeF
     Ok(())
 }
 
-// Tells the sockets of jobs what woke the poll.
+// Reports to the sockets of jobs what woke the poll.
 fn wake(events: &Events, sockets: &mut JobSockets)
     ensures { desk_in sockets.new ≡ desk_in sockets.old }
 {
@@ -194,7 +198,8 @@ fn serve_control<R: System, H: LoopHost>(rt: &R, alloc: Global, live: &mut Live<
     live.control.serve(alloc, &mut live.host, &mut time)
 }
 
-// Says how the next rounds wait, and whether this was the last. A quick round is none that is quiet: the pauses begin behind it.
+// Says how the next passes wait, and whether this was the last. A quick pass does not count as a quiet one: the pauses
+// begin after it.
 fn ends<H: LoopHost>(live: &mut Live<H>) -> bool
     ensures host { live.new.host ≡ live.old.host }
     ensures kept { IsKeptBy live.old live.new }

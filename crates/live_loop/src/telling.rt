@@ -1,5 +1,5 @@
-//! What a round tells on standard error: what was refused to the edge of the system, the control socket, the journal and the jobs'
-//! sockets, and what became of runs.
+//! What a pass of the loop logs on standard error. It is what was refused to the edge of the system, the control
+//! socket, the journal and the jobs' sockets, and what became of runs.
 
 ghost use Rattle.std.specs.Prelude.{◌≡◌};
 ghost use Rattle.live_loop.specs.Rounds.{Asks};
@@ -12,10 +12,10 @@ use history_model::Text;
 use std::alloc::Global;
 use std::mem;
 
-/// How many lines a round tells at most.
+/// How many lines a pass logs at most.
 const LINES: usize = 256;
 
-/// Tells what there is to tell, in a line each. Where standard error would wait, the rest is left for a later round.
+/// Logs what there is to log, in a line each. Where standard error would wait, the rest is left for a later pass.
 pub(crate) fn tell<R: Eprint, H: LoopHost>(rt: &R, alloc: Global, live: &mut Live<H>)
     ensures asks { Asks H.Asked live.old.host live.new.host }
     ensures kept { IsKeptBy live.old live.new }

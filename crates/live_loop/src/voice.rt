@@ -1,5 +1,6 @@
-//! Standard error: a line at a time, and only while it takes lines without a wait. To a terminal, or another device, a line goes letter by
-//! letter, and it is asked before each: one that says that it takes something may have room for one byte alone.
+//! Standard error: a line at a time, and only while it takes lines without a wait. To a terminal, or another device, a
+//! line goes letter by letter, and the system is asked before each. A device that says that it takes something may have
+//! room for one byte alone.
 
 ghost use Rattle.std.specs.Prelude.{◌≡◌, ◌++◌, ◌∷◌, [], IfOk, string_bytes, chars, codes};
 ghost use Rattle.plain_text.specs.Plain.{plain_text};
@@ -21,10 +22,10 @@ const STANDARD_ERROR: RawFd = 2;
 /// Standard error is all that its poll knows.
 const TAKING: Token = Token(0);
 
-/// What tells of which kind it is.
+/// What says of which kind it is.
 const ITS_FILE: &str = "/proc/self/fd/2";
 
-/// How many letters go to a device in a round. Each takes three calls of the system.
+/// How many letters go to a device in a pass of the loop. Each takes three calls of the system.
 const LETTERS: usize = 4096;
 
 /// A poll that knows when standard error takes something. A pipe or a socket then takes 4,096 bytes without a wait, and a line has
@@ -46,7 +47,7 @@ pub(crate) struct Voice {
     // What is left of a line for a device, from this byte on.
     rest: String,
     from: usize,
-    // As many letters may go to a device in this round still.
+    // How many letters may go to a device in this pass still.
     left: usize,
 }
 
@@ -69,7 +70,8 @@ impl Watch {
         }
     }
 
-    // Whether something is taken now. A new registration is told what is ready already. If the system refuses to say, it is tried.
+    // Whether something is taken now. The poll reports to a new registration what is ready already. If the system
+    // refuses to say, it is tried.
     fn is_taking(&mut self) -> bool {
         let mut source = SourceFd(&STANDARD_ERROR);
         let registry = self.poll.registry();
@@ -104,7 +106,7 @@ impl Voice {
         })
     }
 
-    /// A round begins to tell.
+    /// A pass of the loop begins to log.
     pub(crate) fn begin(&mut self) {
         self.left = LETTERS;
     }
@@ -114,7 +116,7 @@ impl Voice {
         self.from >= self.rest.len()
     }
 
-    /// Tells the notice in a line. False: that would have to wait, and nothing was told of it.
+    /// Logs the notice in a line. False: that would have to wait, and nothing of it was written.
     pub(crate) fn tell<R: Eprint>(&mut self, rt: &R, notice: &Notice) -> bool {
         if !self.go_on(rt) || !self.is_taking() {
             return false;
@@ -124,7 +126,7 @@ impl Voice {
             NoticeKind::Refusal => "<4>",
             NoticeKind::Run => "<6>",
         };
-        // Without memory the line is not told.
+        // Without memory the line is not logged.
         self.from = 0;
         match line_of(self.alloc, level, notice.text.as_str()) {
             Ok(line) => self.rest = line,
@@ -139,8 +141,8 @@ impl Voice {
         true
     }
 
-    /// Tells what is left of a line, letter by letter, while that is taken without a wait and the round's letters are not spent. True: nothing
-    /// is left.
+    /// Writes what is left of a line, letter by letter, while that is taken without a wait and the letters of the pass
+    /// are not spent. True: nothing is left.
     pub(crate) fn go_on<R: Eprint>(&mut self, rt: &R) -> bool {
         for _ in 0..self.rest.len() {
             if self.is_done() {
@@ -169,7 +171,7 @@ impl Voice {
     }
 }
 
-// The line that tells the text, which may be of others: level, name of the program, and the text as `plain_text` has it.
+// The line of the text, which may be of others: level, name of the program, and the text as `plain_text` has it.
 fn line_of(alloc: Global, level: &str, text: &str) -> Result<String, AllocError>
     ensures { IfOk result (λ line. string_bytes line
         ≡ level.now ++ (codes "jobd: " ++ (plain_text (chars text.now) ++ 10 ∷ []))) }

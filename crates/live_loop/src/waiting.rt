@@ -1,4 +1,4 @@
-//! How long a round of the live loop waits, in milliseconds.
+//! How long a pass of the live loop waits, in milliseconds.
 
 ghost use Rattle.std.specs.Prelude.{◌≡◌, ◌≤◌, ◌∷◌, ℕ, Bool, List};
 ghost use Rattle.live_loop.specs.Waiting.{pause_after, quick_after, IsNotPast, IsLongestWait};
@@ -6,11 +6,11 @@ ghost use Rattle.live_loop.specs.Waiting.{pause_after, quick_after, IsNotPast, I
 /// The longest pause.
 const LONGEST: u64 = 100;
 
-/// The pause after a round in which something happened, and before the first one.
+/// The pause after a pass in which something happened, and before the first one.
 pub(crate) const SHORTEST: u64 = 1;
 
-/// The pause after one round more, of the pause after those before it: a millisecond, doubled by each quiet round since one in
-/// which something happened, and at most a tenth of a second.
+/// The pause after one pass more; `pause` is that after those before it. It is a millisecond after a pass in which
+/// something happened. Each quiet pass since then doubles it, up to a tenth of a second.
 pub fn next_pause(is_active: bool, pause: u64) -> u64
     ensures { (rounds : List Bool) → pause ≡ pause_after rounds →
         result ≡ pause_after (is_active ∷ rounds) }
@@ -22,12 +22,12 @@ pub fn next_pause(is_active: bool, pause: u64) -> u64
     }
 }
 
-/// How many rounds are quick after one in which a client's request came whole.
+/// How many passes are quick after one in which a client's request came whole.
 const QUICK: u32 = 4;
 
-/// How many of the next rounds are quick, after one round more, of how many there were after those before it: four after a round
-/// in which a client's request came whole, since most runs that answer one end soon, and no end wakes a round. A quick round waits
-/// 200 microseconds if nothing is there.
+/// How many of the next passes are quick, after one pass more; `quick` is how many were after those before it. Four are
+/// quick after a pass in which a client's request came whole. The reason: most runs that answer one exit soon, and no
+/// exit wakes a pass. A quick pass waits 200 microseconds if nothing is there.
 pub fn quick_rounds(is_whole: bool, quick: u32) -> u32
     ensures { (rounds : List Bool) → quick ≡ quick_after rounds →
         result ≡ quick_after (is_whole ∷ rounds) }
@@ -39,8 +39,8 @@ pub fn quick_rounds(is_whole: bool, quick: u32) -> u32
     }
 }
 
-/// How long a round waits from `up` on: the longest time that is within the pause and goes past neither the next moment of the
-/// table nor the next look at paths, if there is one.
+/// How long a pass waits from `up` on: the longest time within the pause that does not go past the next time of the
+/// table. Nor does it go past the next check of paths, if there is one.
 pub fn round_wait(pause: u64, up: u64, moment: Option<u64>, look: Option<u64>) -> u64
     ensures { IsLongestWait pause up moment look result }
 {

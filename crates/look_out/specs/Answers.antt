@@ -1,4 +1,4 @@
--- What a look-out answers, as the nine bytes that cross its socket.
+-- What a helper answers, as the nine bytes that cross its socket.
 use Rattle.std.specs.Prelude.{ℕ, List, ◌∷◌, ◌+◌, fold, nat_eq, if◌then◌else◌}
 use Rattle.std.specs.Int.{w64, to_le_bytes}
 use Rattle.look_out.specs.declared.answer.Answer.{Answer}

@@ -1,4 +1,4 @@
--- The questions of a round of looks, in the order in which they were asked.
+-- The questions of a series of path checks, in the order in which they were asked.
 use Rattle.std.specs.Prelude.{◌≡◌, ◌<◌, ℕ, List, length, slice_index_or, slice_set}
 use Rattle.look_out.specs.declared.batch.Entry.{Entry}
 use Rattle.look_out.specs.declared.batch.Seen.{Seen}

@@ -1,19 +1,19 @@
-//! What a look-out answers to one question, and the nine bytes that say it.
+//! What a helper answers to one question, and the nine bytes that say it.
 
 ghost use Rattle.std.specs.Prelude.{◌≡◌, ◌<◌, ◌^◌, Some};
 ghost use Rattle.look_out.specs.Answers.{code_of, number_of};
 
-/// How many bytes each answer has: so many questions, so many answers, and no byte of one is taken for another's.
+/// How many bytes each answer has. Each question has one answer, and no byte of one is taken for another's.
 pub const LENGTH: usize = 9;
 
 #[derive(Clone, Copy, PartialEq, Eq)]
 pub enum Answer {
-    /// A look: nothing is there.
+    /// A check: nothing is there.
     Absent,
-    /// A look: something is there that is no folder, or an empty one, or one that may not be read; when it was changed. A
-    /// folder: it may be entered and not read. A program: it is there.
+    /// A check: something is there that is not a folder, or an empty folder, or one that may not be read; when it was
+    /// changed. A folder: it may be entered and not read. A program: it is there.
     There { stamp: u64 },
-    /// A look: a folder with an entry.
+    /// A check: a folder with an entry.
     Filled { stamp: u64 },
     /// An open: what was opened is held under this number.
     Held { number: u64 },

@@ -1,4 +1,5 @@
-//! The questions of a round of looks that are on their way, in the order in which they were asked, each with what became of it.
+//! The questions of a series of checks that are on their way, in the order in which they were asked, each with what
+//! became of it.
 
 ghost use Rattle.std.specs.Prelude.{◌≡◌, true};
 ghost use Rattle.look_out.specs.Batches.{IsDecidedAt};
@@ -19,9 +20,10 @@ pub enum Seen {
     Answered(Answer),
     /// There was none for half a second; or it was not asked, since what hung there hangs there still.
     Silent,
-    /// It could not be asked, the system starts no look-out now, or one ended twice in a row before its answer.
+    /// It could not be asked, the system starts no helper now, or one exited twice in a row before its answer.
     Failed(io::Error),
-    /// This program's own file is not there to be started as a look-out, or what is there is none: none that was started has ever answered.
+    /// This program's own file is not there to be started as a helper, or what is there is not one: none that was
+    /// started has ever answered.
     Unstarted,
 }
 

@@ -1,4 +1,5 @@
-//! The helper's side: it answers questions, each a letter, a space, and a text that a NUL ends, until its peer is gone.
+//! The helper's side: it answers questions until its peer closes. Each is a letter, a space, and a text that a NUL
+//! ends.
 
 ghost use Rattle.std.specs.Prelude.{◌≡◌, ◌+◌, ◌*◌, length, OnOk};
 ghost use Rattle.look_out.specs.Answers.{asked_in};
@@ -20,8 +21,8 @@ use std::rt::Env;
 /// How many bytes of questions are read at a time.
 const ROOM: usize = 4_096;
 
-/// What a look-out has: what it holds open, the folder of the start that it was asked about, where nothing is asked now, and the question that still
-/// comes.
+/// What a helper has: what it holds open, the folder of the start that it was asked about, where nothing is asked now,
+/// and the question that still comes.
 #[derive(Drop)]
 struct Far {
     alloc: Global,
@@ -31,9 +32,9 @@ struct Far {
     question: Vec<u8>,
 }
 
-/// Answers the questions that come at the socket, in their order, until its end: each before the next is looked at, so that the first without
-/// an answer is the one that hangs; beside the answers it names where links lead. What a question opens stays open until the one
-/// that forgets it.
+/// Answers the questions that come at the socket, in their order, until its end. It answers each before it reads the
+/// next, so that the first without an answer is the one that hangs. Besides the answers it names where links lead. What
+/// a question opens stays open until the one that forgets it.
 pub fn serve<R: AllocGlobal + Clone + Drop + Env + Files<File = File>, S: Read + Write>(
     rt: &R,
     alloc: Global,
@@ -148,7 +149,7 @@ fn answer_to<R: AllocGlobal + Clone + Drop + Env + Files<File = File>, S: Write>
     }
 }
 
-// What it is told of where nothing is asked.
+// What it learns of where nothing is asked.
 fn take_told(told: &mut Told, letter: &str, path: &str) -> Answer {
     let is_taken = match letter {
         "x" => {

@@ -11,7 +11,7 @@ use std::process::{Child, Command, Processes, Stdio};
 use std::time::Duration;
 use std::{fs, io};
 
-/// The name under which this program is a look-out.
+/// The name under which this program is a helper.
 pub const NAME: &str = "jobd-look-out";
 
 /// This program's own file, also if another is at its path by now.
@@ -20,7 +20,7 @@ const OWN_FILE: &str = "/proc/self/exe";
 /// How many milliseconds a question may take to be taken.
 const PATIENCE: u64 = 500;
 
-/// A look-out that is asked, by its number among those that there are, and its process id.
+/// A helper that is asked, by its number among those that there are, and its PID.
 #[derive(Drop)]
 pub(crate) struct Helper {
     pub(crate) number: u64,
@@ -35,7 +35,7 @@ pub(crate) fn is_missing<R: Files>(rt: &R) -> bool {
     fs::symlink_metadata(rt, OWN_FILE).is_err()
 }
 
-/// Whether the error says that a look-out has ended.
+/// Whether the error says that a helper has exited.
 pub(crate) fn is_end(error: &io::Error) -> bool {
     matches!(
         error.kind(),
@@ -77,7 +77,7 @@ fn set_up(socket: &UnixStream, is_waited_for: bool) -> io::Result<()> {
     }
 }
 
-// The far end is the look-out's input.
+// The far end is the helper's input.
 fn start_at<R: Processes>(rt: &R, alloc: Global, far: UnixStream) -> io::Result<Child<R::Started>> {
     let input = Stdio::from(OwnedFd::from(far));
     match command_of(alloc, input) {
@@ -91,8 +91,8 @@ fn start_at<R: Processes>(rt: &R, alloc: Global, far: UnixStream) -> io::Result<
     }
 }
 
-// It has the launcher's variables, output, errors and folder: a path may be relative or name one of the streams, and a program's name is
-// looked for in the launcher's search path.
+// It has the launcher's variables, output, errors and folder: a path may be relative or name one of the streams. A
+// program's name is looked for in the launcher's search path.
 fn command_of(alloc: Global, input: Stdio) -> Result<Command, AllocError> {
     let mut command = Command::new(alloc, OWN_FILE)?;
     command.stdin(input);
@@ -105,7 +105,7 @@ fn command_of(alloc: Global, input: Stdio) -> Result<Command, AllocError> {
     }
 }
 
-/// What is told of a path that gave no answer.
+/// What is said of a path that gave no answer.
 pub fn no_answer() -> io::Error {
     io::Error::new(ErrorKind::TimedOut, "no answer")
 }

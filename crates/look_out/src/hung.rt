@@ -1,6 +1,9 @@
-//! What hung, by its place, and the look-outs that there are: one that waits for its file system in the kernel stays until that answers. As long as
-//! it is left, nothing at its place is asked about; and then one question each ten seconds. A disk is shut as a whole only while four are left on it that a KILL
-//! did not end: one at a lease or a FIFO ends at once. To looks, which no lease and no FIFO holds, it is shut once four of them hung there.
+//! What hung, by its place, and the helpers that there are. A helper that waits for its file system in the kernel stays
+//! until that answers. As long as it is left, nothing at its place is asked about; and then one question each ten
+//! seconds.
+//!
+//! A disk is shut as a whole only while four helpers are left on it that a KILL did not end. A helper at a lease or a
+//! FIFO exits at once. For path checks, which no lease and no FIFO holds, it is shut once four of them hung there.
 
 ghost use Rattle.std.specs.Prelude.{◌≡◌, ◌≤◌, ◌+◌, IfOk, OnOk, OnErr};
 
@@ -18,23 +21,24 @@ use std::marker::Model;
 use std::net::Net;
 use std::process::{OpenProcess, Processes};
 
-/// How many look-outs are left at most before nothing more is asked on file systems of a kind that may hang: the others have room then.
+/// How many helpers are left at most before nothing more is asked on file systems of a kind that may hang: the others
+/// have room then.
 const LEFT: usize = 10;
 
 /// How many hung on a disk before it is shut as a whole.
 const ON_DISK: usize = 4;
 
-/// How many places are remembered at most, and of how many a look-out is told.
+/// How many places are remembered at most, and how many of them a helper gets.
 const PLACES: usize = 256;
 
 const TOLD: usize = 64;
 
-/// For how many milliseconds a place is left in peace that hung, and after how many more it is forgotten.
+/// For how many milliseconds nothing is asked at a place that hung, and after how many more it is forgotten.
 const PEACE: u64 = 10_000;
 
 const MEMORY: u64 = 60_000;
 
-/// The places that hung and have not answered since. To a contract, how many look-outs there are.
+/// The places that hung and have not answered since. To a contract, how many helpers there are.
 #[derive(Drop)]
 pub struct Hung<P: OpenProcess + Drop> {
     alloc: Global,
@@ -63,8 +67,9 @@ impl<P: OpenProcess + Drop> Hung<P> {
         })
     }
 
-    /// Waits for the look-outs that were ended and have gone since, so that none of them stays a zombie. It waits for none that has not gone. There are 16
-    /// at most: the two that are asked, and those that were ended and not waited for yet.
+    /// Waits for the helpers that were killed and have exited since, so that none of them stays a zombie. It waits for
+    /// none that has not exited. There are 16 at most: the two that are asked, and those that were killed and not
+    /// waited for yet.
     pub fn reap(&mut self)
         ensures fewer { self.new ≤ self.old }
         ensures few { self.new ≤ 16 }
@@ -72,7 +77,7 @@ impl<P: OpenProcess + Drop> Hung<P> {
         self.look_outs.reap();
     }
 
-    // Starts a look-out, if there is room for one.
+    // Starts a helper, if there is room for one.
     pub(crate) fn start<R: Net + Processes<Started = P>>(
         &mut self,
         rt: &R,
@@ -100,7 +105,7 @@ impl<P: OpenProcess + Drop> Hung<P> {
         }
     }
 
-    /// Ends the look-out, also one that was stopped. It is waited for later.
+    /// Kills the helper, also one that was stopped. It is waited for later.
     pub(crate) fn end(&mut self, helper: Helper, up: u64)
         ensures { self.new ≡ self.old }
     {
@@ -119,8 +124,9 @@ impl<P: OpenProcess + Drop> Hung<P> {
         up < place.again || self.look_outs.is_there(place.number)
     }
 
-    /// Whether the path is not to be asked about at this moment of `up`: it hung, and its look-out is left or it is left in peace; or it lies on a disk
-    /// that is shut; or it may hang, and ten are left.
+    /// Whether the path must not be asked about at this `up`. First case: it hung, and its helper is left or its ten
+    /// seconds are not over. Second case: it is on a disk that is shut. Third case: it may hang, and ten helpers are
+    /// left.
     pub(crate) fn is_shut<R: AllocGlobal + Files>(
         &self,
         rt: &R,
@@ -152,12 +158,14 @@ impl<P: OpenProcess + Drop> Hung<P> {
         }
     }
 
-    // Whether as many are left as may be before nothing more is asked on file systems of a kind that may hang.
+    // Whether the most helpers are left that may be, before nothing more is asked on file systems of a kind that may
+    // hang.
     fn is_closed(&self) -> bool {
         self.look_outs.left() >= LEFT
     }
 
-    // Whether the place counts for its disk: it is a path alone, and its look-out was not ended by its KILL, or to looks, one hung there.
+    // Whether the place counts for its disk. It must be a path alone. It counts if KILL did not end its helper, and for
+    // path checks also if one hung there.
     fn counts(&self, place: &HungPlace, up: u64, is_look: bool) -> bool {
         if place.mount.may_hang {
             return false;
@@ -188,12 +196,12 @@ impl<P: OpenProcess + Drop> Hung<P> {
         count
     }
 
-    /// Whether nothing hung, so that a look-out has to be told nothing.
+    /// Whether nothing hung, so that a helper has to learn nothing.
     pub(crate) fn is_quiet(&self) -> bool {
         self.places.is_empty()
     }
 
-    /// The text that tells a look-out where nothing is asked at this moment, and how many questions it is.
+    /// The text that says to a helper where nothing is asked at this time, and how many questions it is.
     pub(crate) fn put_told(
         &self,
         text: &mut Vec<u8>,
@@ -245,7 +253,7 @@ impl<P: OpenProcess + Drop> Hung<P> {
         patience
     }
 
-    /// An answer came about the path: what hung there is open again, once its look-out is gone.
+    /// An answer came about the path: what hung there is open again, once its helper has exited.
     pub(crate) fn answered(&mut self, path: &str)
         ensures { self.new ≡ self.old }
     {
@@ -263,7 +271,7 @@ impl<P: OpenProcess + Drop> Hung<P> {
         }
     }
 
-    // Only what is remembered of the place goes: its look-out stays until it was waited for.
+    // Only what is remembered of the place is dropped: its helper stays until it was waited for.
     fn forget(&mut self, at: usize)
         ensures { self.new ≡ self.old }
     {
@@ -272,8 +280,9 @@ impl<P: OpenProcess + Drop> Hung<P> {
         }
     }
 
-    /// No answer came about what was asked in so many milliseconds: its way had led to the path. The look-out is ended and left. From now on its place is
-    /// left in peace, and a start there waits half as long, unless this wait was cut short by others. Without memory the place is not remembered.
+    /// No answer came in `waited` milliseconds about what was asked: its way had led to the path. The helper is killed
+    /// and left. From now on nothing is asked at its place for ten seconds. A start there waits half as long, unless
+    /// this wait was cut short by others. Without memory the place is not remembered.
     pub(crate) fn hangs<R: AllocGlobal + Files>(
         &mut self,
         rt: &R,
@@ -326,8 +335,9 @@ impl<P: OpenProcess + Drop> Hung<P> {
         })
     }
 
-    // Forgets what was remembered of the place, and what was left in peace for long; or else, without room, the place that is asked again first. One
-    // whose look-out was not waited for yet is not forgotten.
+    // Forgets what was remembered of the place, and each place that may be asked again for a minute already. Or else,
+    // without room, it forgets the place that is asked again first. It does not forget one whose helper was not waited
+    // for yet.
     fn make_room(&mut self, place: &HungPlace, up: u64)
         ensures { self.new ≡ self.old }
     {

@@ -1,4 +1,4 @@
-//! What comes from a look-out: answers of nine bytes each, and between them the steps by which it goes to a path.
+//! What comes from a helper: answers of nine bytes each, and between them the steps by which it goes to a path.
 
 use crate::answer::{Answer, LENGTH};
 use crate::question::LONGEST;
@@ -6,7 +6,7 @@ use std::alloc::{AllocError, Global};
 use std::io;
 use std::io::{ErrorKind, Write};
 
-/// The first byte of a step, whose text is behind its nine bytes, as long as their number says.
+/// The first byte of a step, whose text is after its nine bytes, as long as their number says.
 const STEP: u8 = 255;
 
 /// What came and was not taken yet, and where the question that waits for an answer has led, if not to its own path.

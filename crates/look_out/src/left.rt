@@ -1,5 +1,6 @@
-//! The look-outs that there are: those that are asked, and those that were ended and have not gone yet. One that a file system keeps in the kernel
-//! goes only once that answers. Each stays here until it was waited for, so none becomes a zombie; and without room for a further one none is started.
+//! The helpers that there are: those that are asked, and those that were killed and have not exited yet. One that a
+//! file system keeps in the kernel exits only once that answers. Each stays here until it was waited for, so none
+//! becomes a zombie. Without room for a further one none is started.
 
 ghost use Rattle.std.specs.Prelude.{◌≡◌, ◌<◌, ◌≤◌, ◌+◌, ℕ, length, IsTrue, ◌↔◌, None, IfOk, IfSome};
 ghost use Rattle.std.specs.Vec.{vec_capacity};
@@ -8,13 +9,13 @@ use std::alloc::{AllocError, Global};
 use std::marker::Model;
 use std::process::{Child, ExitStatus, OpenProcess};
 
-/// How many look-outs there are at most: the two that are asked, and those that were ended and have not gone yet.
+/// How many helpers there are at most: the two that are asked, and those that were killed and have not exited yet.
 pub const MOST: usize = 16;
 
-/// After how many milliseconds a look-out that has not gone yet is one that KILL does not end.
+/// After how many milliseconds a helper that has not exited yet is one that KILL does not end.
 const STUBBORN: u64 = 1_000;
 
-/// A look-out, by a number that no other has; and the moment of `up` at which it was ended.
+/// A helper, by a number that no other has; and the `up` at which it was killed.
 #[derive(Drop)]
 struct One<P: OpenProcess + Drop> {
     number: u64,
@@ -22,7 +23,7 @@ struct One<P: OpenProcess + Drop> {
     child: Child<P>,
 }
 
-/// To a contract, how many look-outs there are.
+/// To a contract, how many helpers there are.
 #[derive(Drop)]
 pub(crate) struct LookOuts<P: OpenProcess + Drop> {
     ones: Vec<One<P>>,
@@ -92,7 +93,7 @@ impl<P: OpenProcess + Drop> LookOuts<P> {
         false
     }
 
-    /// Whether it was ended by KILL some time ago, and has not gone.
+    /// Whether it was killed some time ago, and has not exited.
     pub(crate) fn is_stubborn(&self, number: u64, up: u64) -> bool {
         for one in self.ones.iter() {
             if let (true, Some(ended)) = (one.number == number, one.ended) {
@@ -102,7 +103,7 @@ impl<P: OpenProcess + Drop> LookOuts<P> {
         false
     }
 
-    /// How many were ended and have not gone yet.
+    /// How many were killed and have not exited yet.
     pub(crate) fn left(&self) -> usize {
         let mut left = 0usize;
         for one in self.ones.iter() {
@@ -111,7 +112,7 @@ impl<P: OpenProcess + Drop> LookOuts<P> {
         left
     }
 
-    /// Waits for those that were ended and have gone since; for no other.
+    /// Waits for those that were killed and have exited since; for no other.
     pub(crate) fn reap(&mut self)
         ensures fewer { self.new ≤ self.old }
         ensures few { self.new ≤ 16 }
@@ -133,7 +134,8 @@ impl<P: OpenProcess + Drop> LookOuts<P> {
         }
     }
 
-    // How the look-out at the place ended: it was ended, has gone, and was waited for, and only then it is here no longer. None: it is here still.
+    // How the helper at the place exited: it was killed, has exited, and was waited for. Only then it is here no
+    // longer. None: it is here still.
     fn settle(&mut self, at: usize) -> Option<ExitStatus>
         requires { at < self.old }
         ensures here { result ≡ None → self.new ≡ self.old }

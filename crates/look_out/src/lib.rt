@@ -1,6 +1,6 @@
-//! A helper process that looks at files and opens them in its launcher's place, so that a file system which hangs, a FIFO or a
-//! lease stops the helper and not the launcher. [`Looks`] asks and does not wait; [`Openings`] asks at once and waits half a second at
-//! most. Both remember what hung in a [`Hung`].
+//! A helper process that checks files and opens them in its launcher's place. So a file system which hangs, a FIFO or a
+//! lease stops the helper and not the launcher. A [`Looks`] asks and does not wait. An [`Openings`] asks at once and
+//! waits half a second at most. Both remember what hung in a [`Hung`].
 #![tactic(auto)]
 
 mod answer;

@@ -1,4 +1,4 @@
-//! Looks: what is at a path, as launchd.plist(5) speaks of it under WatchPaths, QueueDirectories and PathState.
+//! Path checks: what is at a path, as launchd.plist(5) speaks of it under WatchPaths, QueueDirectories and PathState.
 
 ghost use Rattle.std.specs.Prelude.{◌≡◌, ◌+◌, ◌-◌, ◌*◌, ◌^◌, min};
 
@@ -24,7 +24,7 @@ pub(crate) fn refused(error: &io::Error) -> Answer {
     Answer::Refused { error }
 }
 
-/// Looks at the path. That nothing is there is an answer too, also if a folder above it is a file.
+/// Checks the path. That nothing is there is an answer too, also if a folder above it is a file.
 pub(crate) fn look<R: AllocGlobal + Clone + Drop + Files>(rt: &R, path: &str) -> Answer {
     match fs::metadata(rt, path) {
         Ok(data) => sight_of(rt, path, &data),
@@ -50,7 +50,7 @@ fn sight_of<R: AllocGlobal + Clone + Drop + Files>(rt: &R, path: &str, data: &Me
     }
 }
 
-// A folder that may not be read has no entry that is told; that it is there, is.
+// A folder that may not be read counts as one without an entry. It is known that it is there.
 fn has_entry<R: AllocGlobal + Clone + Drop + Files>(rt: &R, path: &str) -> io::Result<bool> {
     let mut listing = match fs::read_dir(rt, path) {
         Ok(listing) => listing,

@@ -1,4 +1,4 @@
-//! Looks that nobody waits for: paths are asked about, and the answers taken as they come.
+//! Path checks that nobody waits for: paths are asked about, and the answers taken as they come.
 
 use crate::answer::Answer;
 use crate::batch::{Batch, MOST, Seen};
@@ -21,23 +21,24 @@ const ON_THE_WAY: usize = 32_768;
 /// How many bytes of answers are read at a time.
 const ROOM: usize = 9_216;
 
-/// How many times in a row a look-out may end before the question that it has is given up.
+/// How many times in a row a helper may exit before the question that it has is given up.
 const LOSSES: u32 = 2;
 
-/// The questions about paths, and the look-out that is asked: none before the first question.
+/// The questions about paths, and the helper that is asked: none before the first question.
 #[derive(Drop)]
 pub struct Looks {
     alloc: Global,
     helper: Option<Helper>,
     telling: Telling,
-    // How many of the next answers are to what it was told, and none to a question about a path.
+    // How many of the next answers are to what it had to learn, and not to a question about a path.
     owed: usize,
     batch: Batch,
     // The text of the questions, and how much of it was sent.
     text: Vec<u8>,
     sent: usize,
     inbox: Inbox,
-    // The moment of `up` at which the last answer came, or the first question that waits was asked; and what may be waited for answers that don't come.
+    // The `up` at which the last answer came, or the first question that waits was asked; and how long it may still
+    // wait for answers that don't come.
     since: u64,
     spare: Spare,
     losses: u32,
@@ -63,14 +64,14 @@ impl Looks {
         }
     }
 
-    /// A round of looks begins: what was asked before and is not taken is no longer taken.
+    /// A series of checks begins: what was asked before and is not taken is no longer taken.
     pub fn begin_round(&mut self) {
         self.batch.leave();
         self.make_room();
     }
 
-    /// Asks what is at the path, if that was not asked in this round yet. False: there is no room for a further question before those that
-    /// were asked are taken.
+    /// Asks what is at the path, if that was not asked in this series yet. False: there is no room for a further
+    /// question before those that were asked are taken.
     pub fn ask<P: OpenProcess + Drop, R: AllocGlobal + Files>(
         &mut self,
         rt: &R,
@@ -134,7 +135,7 @@ impl Looks {
         }
     }
 
-    // Without memory for the text, no answer comes: the look-out is ended, and the questions are asked anew.
+    // Without memory for the text, no answer comes: the helper is killed, and the questions are asked again.
     fn ask_anew<P: OpenProcess + Drop>(&mut self, hung: &mut Hung<P>, up: u64) {
         self.text.clear();
         self.sent = 0;
@@ -234,7 +235,7 @@ impl Looks {
         }
     }
 
-    // Starts a look-out, if there is none. It is asked all that waits.
+    // Starts a helper, if there is none. It is asked all that waits.
     fn begin<P: OpenProcess + Drop, R: Net + Processes<Started = P>>(
         &mut self,
         rt: &R,
@@ -257,7 +258,7 @@ impl Looks {
         }
     }
 
-    // There is no look-out for what waits.
+    // There is no helper for what waits.
     fn give_in(&mut self, seen: Seen) {
         for entry in self.batch.entries.iter_mut() {
             if matches!(entry.seen, Seen::Waits) {
@@ -267,7 +268,7 @@ impl Looks {
         self.batch.pass();
     }
 
-    // The text of all questions that wait, and before them of what a new look-out is told.
+    // The text of all questions that wait, and before them of what a new helper has to learn.
     fn put_all<P: OpenProcess + Drop>(
         &mut self,
         hung: &Hung<P>,
@@ -312,7 +313,7 @@ impl Looks {
         }
     }
 
-    // Each answer is that to the first question that waits, behind those that are owed.
+    // Each answer is that to the first question that waits, after those that are owed.
     fn take_in<P: OpenProcess + Drop>(&mut self, hung: &mut Hung<P>) -> io::Result<bool> {
         let mut has_come = false;
         for _ in 0..u64::MAX {
@@ -344,7 +345,7 @@ impl Looks {
         self.batch.take_in(answer)
     }
 
-    // The first question that waits hangs. The others are asked of another look-out, but for those at the same place.
+    // The first question that waits hangs. The others are asked of another helper, but for those at the same place.
     fn give_up<P: OpenProcess + Drop, R: AllocGlobal + Files>(
         &mut self,
         rt: &R,
@@ -386,7 +387,8 @@ impl Looks {
         self.batch.pass();
     }
 
-    // The look-out ended. What waits is asked once more, and the first question then no more; nothing, if none has ever answered.
+    // The helper exited. What waits is asked once more, and the first question then no more; nothing, if none has ever
+    // answered.
     fn lose<P: OpenProcess + Drop>(&mut self, hung: &mut Hung<P>, error: io::Error, up: u64) {
         self.let_go(hung, up);
         self.losses = self.losses.saturating_add(1);
@@ -401,7 +403,7 @@ impl Looks {
         self.since = up;
     }
 
-    /// Ends the look-out, if there is one: also one that was stopped. It is waited for later.
+    /// Kills the helper, if there is one: also one that was stopped. It is waited for later.
     pub fn let_go<P: OpenProcess + Drop>(&mut self, hung: &mut Hung<P>, up: u64) {
         if let Some(helper) = self.helper.take() {
             hung.end(helper, up);

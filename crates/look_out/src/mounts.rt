@@ -1,5 +1,5 @@
-//! Where a path's file system is mounted, and whether it is of a kind that may hang. The system tells all mounts in a text, and asks no file
-//! system for it. A link in the path may cheat.
+//! Where a path's file system is mounted, and whether it is of a kind that may hang. The system lists all mounts in a
+//! text, and asks no file system for it. A link in the path may cheat.
 
 use std::alloc::{AllocError, Global};
 use std::fs;
@@ -60,7 +60,8 @@ pub(crate) fn is_below(path: &str, folder: &str) -> bool {
     }
 }
 
-/// The mount of the path. An error without memory; one without a name if the system tells no mounts, or the path does not begin with a slash.
+/// The mount of the path. An error without memory. A mount without a name if the system lists no mounts, or the path
+/// does not begin with a slash.
 pub(crate) fn mount_of<R: AllocGlobal + Files>(
     rt: &R,
     alloc: Global,
@@ -101,7 +102,7 @@ fn mount_among(alloc: Global, mounts: &str, path: &str) -> Result<Mount, AllocEr
     })
 }
 
-// The fifth word is the mount point, and the kind stands behind the lone stroke (proc(5)).
+// The fifth field is the mount point, and the kind comes after the lone stroke (proc(5)).
 fn mount_in(line: &str) -> Option<(&str, &str)> {
     let (head, tail) = line.split_once(" - ")?;
     let point = head.split(' ').nth(4)?;
@@ -109,7 +110,7 @@ fn mount_in(line: &str) -> Option<(&str, &str)> {
     Some((point, kind))
 }
 
-// A space, a tab, a newline and a backslash are told as a backslash and three octal digits.
+// A space, a tab, a newline and a backslash are written as a backslash and three octal digits.
 fn put_plain(point: &mut String, told: &str) -> Result<(), AllocError> {
     let mut rest = told;
     for _ in 0..told.len() {

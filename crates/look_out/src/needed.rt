@@ -1,5 +1,6 @@
-//! What the system opens beside a program's own file before it is started (execve(2)): the interpreter that a script names in its first line, and
-//! the loader that an ELF file names (elf(5), `PT_INTERP`). What such an interpreter needs is opened too.
+//! What the system opens besides a program's own file before it is started (execve(2)). This is the interpreter that a
+//! script names in its first line, or the loader that an ELF file names (elf(5), `PT_INTERP`). What such an interpreter
+//! needs is opened too.
 
 use crate::told::Told;
 use crate::walking::may_go;
@@ -13,7 +14,8 @@ use std::{fs, io};
 /// How many bytes of a program the system reads to see what kind it is.
 const HEAD: usize = 256;
 
-/// How many interpreters are followed. The system refuses a program after as many at the latest: four of scripts are run.
+/// How many interpreters are followed. The system refuses a program after this number at the latest: four of scripts
+/// are run.
 const LEVELS: usize = 6;
 
 /// How long the path of a loader may be, with its NUL.
@@ -22,8 +24,9 @@ const LONGEST: usize = 4_096;
 /// The part of an ELF file that names its loader.
 const NAMES_LOADER: u64 = 3;
 
-/// Reads the first bytes of the program, of its interpreter, and so on: what hangs there has hung here. A path that does not begin with a slash is
-/// taken from the folder. What may not be read is looked at alone. False: one of them leads to where nothing is asked now.
+/// Reads the first bytes of the program, of its interpreter, and so on: what hangs there has hung here. A path that
+/// does not begin with a slash is taken from the folder. Of what may not be read only the metadata is read. False: one
+/// of them leads to where nothing is asked now.
 pub(crate) fn follow<R: AllocGlobal + Env + Files<File = File>, S: Write>(
     rt: &R,
     told: &Told,
@@ -126,8 +129,8 @@ fn loader_at(
     }
 }
 
-/// The interpreter that the first line of a script names: behind `#!` and blanks, up to a blank, a NUL or the end of the line. One whose end is not
-/// within the head is none, since the system refuses it.
+/// The interpreter that the first line of a script names: after `#!` and blanks, up to a blank, a NUL or the end of the
+/// line. One whose end is not within the head is none, since the system refuses it.
 pub(crate) fn interpreter_in(head: &[u8]) -> Option<&str> {
     let line = head.strip_prefix(b"#!".as_slice())?;
     let from = count_while(line, Kind::Blank);
@@ -179,7 +182,7 @@ fn count_while(bytes: &[u8], kind: Kind) -> usize {
     count
 }
 
-/// Where an ELF file lists its parts: so many lines of this width, of which as many bytes are read.
+/// Where an ELF file lists its parts: how many lines of this width, and how many bytes are read of each.
 #[derive(Clone, Copy)]
 struct Table {
     place: u64,
@@ -221,7 +224,7 @@ fn table_in(head: &[u8]) -> Option<Table> {
     })
 }
 
-// Where the loader's path stands in the file, and its length, if the line is the one that says it.
+// Where the loader's path is in the file, and its length, if the line is the one that says it.
 fn loader_in(table: &Table, line: &[u8]) -> Option<(u64, usize)> {
     if number_in(line, 0, 4, table.is_big) != NAMES_LOADER {
         return None;
@@ -243,7 +246,7 @@ fn loader_in(table: &Table, line: &[u8]) -> Option<(u64, usize)> {
     }
 }
 
-// The number of so many bytes at this place; a byte that is not there is 0.
+// The number of `width` bytes at this place; a byte that is not there is 0.
 fn number_in(bytes: &[u8], place: usize, width: usize, is_big: bool) -> u64 {
     let mut number = 0u64;
     for at in 0..width {

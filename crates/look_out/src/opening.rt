@@ -1,8 +1,9 @@
-//! Opens, and what a start needs beside its streams: its folder and its program.
+//! Opens, and what a start needs besides its streams: its folder and its program.
 //!
-//! An open of anything but a plain file, a terminal or a device of the system's memory may wait for ever, as that of a FIFO without
-//! a peer does. So each path is looked at first, and what was opened is looked at again. What still waits, as a file that is put
-//! there in between, a lease of another process or a file system of the network, is what the launcher's patience is for.
+//! An open of anything but a plain file, a terminal or a device of the system's memory may wait for ever, as that of a
+//! FIFO without a peer does. So each path is checked first, and what was opened is checked again. Some opens still
+//! wait: of a file that is put there in between, under a lease of another process, or on a file system of the network.
+//! For these the launcher has a timeout.
 
 use crate::answer::Answer;
 use crate::looking::{INVALID, refused};
@@ -209,7 +210,7 @@ fn put_name(path: &mut String, folder: &str, at: &str, name: &str) -> Result<(),
     path.push_str(name)
 }
 
-// `Absent`: the search goes on behind it.
+// `Absent`: the search goes on after it.
 fn runnable<R: AllocGlobal + Env + Files<File = File>, S: Write>(
     rt: &R,
     told: &Told,
@@ -230,7 +231,7 @@ fn runnable<R: AllocGlobal + Env + Files<File = File>, S: Write>(
     }
 }
 
-// As the modes say it (path_resolution(7)). Where the system does not tell who this process is, it may.
+// As the modes say it (path_resolution(7)). Where the system does not say who this process is, it may.
 fn may_be_run<R: AllocGlobal + Files>(rt: &R, alloc: Global, data: &Metadata) -> bool {
     let mode = data.mode() & 0o111;
     if mode == 0 || mode == 0o111 {

@@ -32,11 +32,12 @@ pub enum Asked {
     Hangs(usize),
     /// None was asked: what hung at the path of this one hangs there still.
     StillHangs(usize),
-    /// A path can't be asked about, or the look-out ended twice before its answer, which says nothing of the paths.
+    /// A path can't be asked about, or the helper exited twice before its answer, which says nothing of the paths.
     Unasked(io::Error),
-    /// The system starts no look-out now, and this is its reason. None was asked.
+    /// The system starts no helper now, and this is its reason. None was asked.
     Refused(io::Error),
-    /// This program's own file is not there to be started as a look-out, or what is there is none: none that was started has ever answered.
+    /// This program's own file is not there to be started as a helper, or what is there is not one: none that was
+    /// started has ever answered.
     Unstarted,
 }
 
@@ -55,13 +56,13 @@ impl Asked {
 enum Lack {
     /// They did not come in time.
     Late,
-    /// The system starts no look-out.
+    /// The system starts no helper.
     Refused(io::Error),
-    /// The look-out ended, or what it said is no answer, or memory lacked for them.
+    /// The helper exited, or what it sent is not an answer, or memory lacked for them.
     Lost(io::Error),
 }
 
-/// The look-out that is asked: none before the first questions.
+/// The helper that is asked: none before the first questions.
 #[derive(Drop)]
 pub struct Openings {
     alloc: Global,
@@ -103,9 +104,10 @@ impl Openings {
         }
     }
 
-    /// Asks all questions at this moment of `up`, and waits half a second at most, or less where one hung before. All waits that end without
-    /// an answer take two seconds at most, one of them at paths that hung before, and half of the time after that; then none is asked. The answers take the place of what stood
-    /// there. Who gave no answer in time is kept no longer: what it says late is nobody's answer, and what it held is held no longer.
+    /// Asks all questions at this `up`, and waits half a second at most, or less where one hung before. All waits that
+    /// end without an answer take two seconds at most, one of them at paths that hung before, and half of the time
+    /// after that. Then none is asked. The answers replace the contents of `answers`. A helper that gave no answer in
+    /// time is kept no longer: what it says late is nobody's answer, and what it held is held no longer.
     pub fn ask<
         P: OpenProcess + Drop,
         R: AllocGlobal + Clock + Files + Net + Processes<Started = P>,
@@ -165,7 +167,7 @@ impl Openings {
         }
     }
 
-    // An error in time says nothing of the paths; the look-out is then kept no longer.
+    // An error in time says nothing of the paths; the helper is then kept no longer.
     fn ask_once<P: OpenProcess + Drop, R: Clock + Files + Net + Processes<Started = P>>(
         &mut self,
         rt: &R,
@@ -203,7 +205,7 @@ impl Openings {
         answer
     }
 
-    // Starts a look-out, if there is none.
+    // Starts a helper, if there is none.
     fn begin<P: OpenProcess + Drop, R: Files + Net + Processes<Started = P>>(
         &mut self,
         rt: &R,
@@ -228,8 +230,8 @@ impl Openings {
         }
     }
 
-    /// The process id of the look-out that is kept, if what it holds can be opened: by `/proc/ID/fd/NUMBER`. Linux closes that folder to
-    /// others where this program's file may not be read, or has capabilities of its own.
+    /// The PID of the helper that is kept, if what it holds can be opened: by `/proc/ID/fd/NUMBER`. Linux closes that
+    /// folder to others where this program's file may not be read, or has capabilities of its own.
     pub fn id(&self) -> Option<u32>
         ensures { self.now ≡ false → result ≡ None }
     {
@@ -252,7 +254,7 @@ impl Openings {
         }
     }
 
-    // Ends the look-out, which hangs where what was asked led, and does not wait for that.
+    // Kills the helper, which hangs where what was asked led, and does not wait for that.
     fn give_up<P: OpenProcess + Drop, R: AllocGlobal + Files>(
         &mut self,
         rt: &R,
@@ -270,7 +272,7 @@ impl Openings {
         }
     }
 
-    /// Ends the look-out that is kept, if there is one: also one that was stopped. It is waited for later.
+    /// Kills the helper that is kept, if there is one: also one that was stopped. It is waited for later.
     pub fn let_go<P: OpenProcess + Drop>(&mut self, hung: &mut Hung<P>, up: u64)
         ensures { self.new ≡ false }
     {
@@ -280,7 +282,7 @@ impl Openings {
     }
 }
 
-/// Questions that are sent: their text and number, how many milliseconds their answers may take, and the moment.
+/// Questions that are sent: their text and number, how many milliseconds their answers may take, and the `up` of now.
 #[derive(Clone, Copy)]
 struct Asking<'a> {
     text: &'a [u8],
@@ -298,7 +300,8 @@ fn lack_of(error: io::Error) -> Lack {
     }
 }
 
-// Whether the folder of what the process holds is open to this one: its input is a socket, which is there to be looked at.
+// Whether the folder of what the process holds is open to this one. Its input is a socket, whose metadata can then be
+// read.
 fn reaches<R: Files>(rt: &R, alloc: Global, id: u32) -> bool {
     match format!(in alloc; "/proc/{id}/fd/0") {
         Ok(path) => {
@@ -310,7 +313,7 @@ fn reaches<R: Files>(rt: &R, alloc: Global, id: u32) -> bool {
     }
 }
 
-// How many milliseconds have passed since then; a look-out's start takes its time too.
+// How many milliseconds have passed since then; a helper's start takes its time too.
 fn spent_since<R: Clock>(rt: &R, begun: io::Result<Instant>) -> u64 {
     let Ok(begun) = begun else {
         return 0;
@@ -321,7 +324,7 @@ fn spent_since<R: Clock>(rt: &R, begun: io::Result<Instant>) -> u64 {
     }
 }
 
-// Sends the news and the questions, and takes in as many answers as are owed and as were asked for.
+// Sends the news and the questions, and takes in all answers that are owed and that were asked for.
 fn exchange<R: Clock>(
     rt: &R,
     helper: &mut Helper,
@@ -436,7 +439,7 @@ fn read_more<R: Clock>(
     }
 }
 
-// A read of its socket ends after so many milliseconds. What was said last is not said again.
+// A read of its socket ends after `left` milliseconds. What was said last is not said again.
 fn wait_at_most(helper: &mut Helper, left: u64) -> io::Result<()> {
     if helper.waits == left {
         return Ok(());

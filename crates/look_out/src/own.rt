@@ -1,6 +1,6 @@
-//! What `/proc/self/status` tells of who this process is (proc(5)).
+//! What `/proc/self/status` says of who this process is (proc(5)).
 
-/// Whether the line's word at this place, counted from 0 behind its name, is the number.
+/// Whether the line's field at this place, counted from 0 after its name, is the number.
 pub(crate) fn has_number(status: &str, name: &str, at: usize, number: u32) -> bool {
     match words_of(status, name) {
         Some(words) => match words.split_whitespace().nth(at) {
@@ -11,7 +11,7 @@ pub(crate) fn has_number(status: &str, name: &str, at: usize, number: u32) -> bo
     }
 }
 
-/// Whether one of the line's words is the number.
+/// Whether one of the line's fields is the number.
 pub(crate) fn has_any(status: &str, name: &str, number: u32) -> bool {
     let Some(words) = words_of(status, name) else {
         return false;

@@ -1,4 +1,4 @@
-//! What a look-out is asked: a letter, a space, a text, and a NUL that ends it.
+//! What a helper is asked: a letter, a space, a text, and a NUL that ends it.
 
 /// How many bytes the text of a question has at most: no path that the system takes is longer, and a search path seldom is.
 pub const LONGEST: usize = 32_768;
@@ -8,27 +8,27 @@ pub const LONGEST: usize = 32_768;
 pub enum Asks {
     /// What is there.
     Look,
-    /// It is to be opened, from its beginning, and held.
+    /// The file must be opened, from its beginning, and held.
     Read,
-    /// It is to be opened to be appended to, made if it is not there, and held.
+    /// The file must be opened to be appended to, made if it is not there, and held.
     Append,
-    /// A folder: it is to be held, if it may be read.
+    /// A folder: it must be held, if it may be read.
     Enter,
     /// A program: whether it is there, and whether what the system opens to start it answers. A path in it that does not begin with a slash is taken
     /// from the folder that was last to be held.
     Program,
-    /// A program without a slash in its name, in the folders of the text behind the first slash, or else in those of the
-    /// look-out's own search path: the first that may be run.
+    /// A program without a slash in its name: the first that may be run. It is looked for in the folders of the text
+    /// after the first slash, or else in those of the helper's own search path.
     Search,
     /// What was opened is closed. No path belongs to it.
     Forget,
-    /// What was said before of where nothing is to be asked holds no longer.
+    /// What was said before of where nothing must be asked holds no longer.
     Open,
-    /// Nothing is to be asked on file systems of a kind that may hang.
+    /// Nothing must be asked on file systems of a kind that may hang.
     Close,
-    /// Nothing is to be asked of what is mounted at the path, as the system tells it.
+    /// Nothing must be asked of what is mounted at the path, as the system names it.
     ShutMount,
-    /// Nothing is to be asked about the path, in which no link is.
+    /// Nothing must be asked about the path, in which no link is.
     ShutPath,
 }
 
@@ -61,8 +61,8 @@ pub(crate) fn can_be_asked(text: &str) -> bool {
     text.len() < LONGEST && !text.as_bytes().contains(&0)
 }
 
-/// The path by which a look-out is asked about a stream. None: it is one of what this process has open, which to the look-out means its own. Root and folder
-/// are the same for both, and what is below them is asked about by its real path.
+/// The path by which a helper is asked about a stream. None: it is one of what this process has open, which to the
+/// helper means its own. Root and folder are the same for both, and what is below them is asked about by its real path.
 pub fn stream_asked(path: &str) -> Option<&str> {
     if path.starts_with("/dev/std") || path.starts_with("/dev/fd/") {
         return None;

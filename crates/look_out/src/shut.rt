@@ -5,13 +5,14 @@ use crate::mounts::{Mount, is_below};
 #[derive(Drop)]
 pub(crate) struct HungPlace {
     pub(crate) mount: Mount,
-    // The path that the way had come to, without a link in what was gone of it; and the text that was asked about.
+    // The path that the way had come to, without a link in the part that it had followed; and the text that was asked
+    // about.
     pub(crate) path: String,
     pub(crate) asked: String,
-    // The look-out that was ended there, and whether it looked, and opened nothing.
+    // The helper that was killed there, and whether it checked a path, and opened nothing.
     pub(crate) number: u64,
     pub(crate) is_look: bool,
-    // From this moment on it is asked again.
+    // From this `up` on it is asked again.
     pub(crate) again: u64,
     // How many milliseconds the next start there waits.
     pub(crate) patience: u64,

@@ -13,7 +13,7 @@ const SPARE: u64 = 1_000;
 
 const FOR_NEW: u64 = 1_000;
 
-/// What is left of the time, at that moment of `up`.
+/// What is left of the time, at that `up`.
 #[derive(Clone, Copy)]
 pub(crate) struct Spare {
     left: u64,
@@ -28,14 +28,14 @@ impl Spare {
         }
     }
 
-    /// Gives back half of the time that has passed until this moment.
+    /// Gives back half of the time that has passed until now.
     pub(crate) fn go_on(&mut self, up: u64) {
         let gained = up.saturating_sub(self.counted) / 2;
         self.counted = self.counted.saturating_add(gained.saturating_mul(2));
         self.left = self.left.saturating_add(gained).min(SPARE + FOR_NEW);
     }
 
-    /// So many milliseconds were waited for an answer that did not come.
+    /// `waited` milliseconds were waited for an answer that did not come.
     pub(crate) fn spend(&mut self, waited: u64) {
         self.left = self.left.saturating_sub(waited);
     }

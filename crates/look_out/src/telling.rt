@@ -1,4 +1,4 @@
-//! What a look-out is told of where nothing is asked now, each time that this has changed.
+//! What a helper has to learn of where nothing is asked now, each time that this has changed.
 
 use crate::hung::Hung;
 use std::alloc::{AllocError, Global};
@@ -18,13 +18,13 @@ impl Telling {
         }
     }
 
-    /// Another look-out was started, which was told nothing yet.
+    /// Another helper was started, which has learned nothing yet.
     pub(crate) fn begin(&mut self) {
         self.told.clear();
         self.news.clear();
     }
 
-    /// Makes the news of this moment of `up`, if there are some, and says how many questions they are.
+    /// Makes the news of this `up`, if there are some, and says how many questions they are.
     pub(crate) fn make<P: OpenProcess + Drop>(
         &mut self,
         hung: &Hung<P>,

@@ -1,4 +1,4 @@
-//! What a look-out was told of places where nothing is asked now.
+//! What a helper has learned of places where nothing is asked now.
 
 use crate::mounts::{is_below, mount_of};
 use std::alloc::{AllocError, Global};

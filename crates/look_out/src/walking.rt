@@ -1,5 +1,5 @@
-//! The way to a path, link by link. Each path that a link leads to is named to who asked before anything there is looked at; so if no answer
-//! comes, it is known where it would have to come from.
+//! The way to a path, link by link. Each path that a link leads to is named to who asked before anything there is
+//! checked. So if no answer comes, it is known where it would have to come from.
 
 use crate::inbox::name;
 use crate::told::Told;
@@ -15,7 +15,7 @@ const LINKS: u32 = 40;
 /// How many steps a way has at most.
 const STEPS: u32 = 8_192;
 
-/// A way: the part that was gone, in which no link is; and what lies before it.
+/// A way: the part that was followed, in which no link is; and what lies before it.
 #[derive(Drop)]
 struct Way {
     alloc: Global,
@@ -31,7 +31,7 @@ enum Step {
     Made,
     /// It leads over a link.
     Linked,
-    /// There is nothing behind it.
+    /// There is nothing after it.
     Over,
     /// It leads to where nothing is asked now.
     Shut,
@@ -118,7 +118,7 @@ fn name_way<S: Write>(socket: &mut S, way: &Way) -> io::Result<()> {
     answer
 }
 
-/// The next part of what lies before: where it leads to, if it is no link, and what lies behind it.
+/// The next part of what lies before: where it leads to, if it is not a link, and what comes after it.
 #[derive(Drop)]
 struct Next {
     to: String,
@@ -147,7 +147,7 @@ fn next_of(way: &Way) -> Result<Option<Next>, AllocError> {
     }
 }
 
-// What stands before the first slash, and what behind it.
+// What is before the first slash, and what after it.
 fn first_part(rest: &str) -> (&str, &str) {
     if let Some(parts) = rest.split_once('/') {
         return parts;
@@ -190,7 +190,7 @@ fn make_step<R: AllocGlobal + Files>(rt: &R, told: &Told, way: &mut Way) -> io::
     }
 }
 
-// That a part is no link is an error of its own.
+// That a part is not a link is an error of its own.
 fn step_without_link(error: &io::Error) -> Step {
     match error.kind() {
         ErrorKind::InvalidInput => Step::Made,

@@ -16,12 +16,12 @@ load_entries false job outside bound = []
 load_entries true job outside bound =
     (Bind job, bound) ∷ (if outside.bind && not outside.store then (Release job, Done) ∷ [] else [])
 
--- what the edge and the store were told: the calls of each, as far as they tell
+-- the calls of the edge and of the store, as far as they record them
 pub record Told : Type 0 where
   pub calls : Option (List ToldCall)
   pub stores : Option (List StoreCall)
 
--- as they tell it
+-- as they record it
 abbrev pub told_of : Option (List ToldCall) → Option (List StoreCall) → Told
 told_of calls stores = record { calls = calls; stores = stores }
 

@@ -13,7 +13,7 @@ use Rattle.child_edge.specs.declared.plain.Scripted.{Scripted}
 use Rattle.child_edge.specs.declared.plain.Scripted.TheVariants.{Started}
 use Rattle.outside.specs.declared.unheard.Unheard.{Unheard}
 
--- the call that an order of the job asks for; a job that is gone gives up its sockets
+-- the call that an order of the job asks for; a job that was removed gives up its sockets
 abbrev pub call_by : ℕ → Act → EdgeCall
 call_by job (acts.Spawn run conn) = Start job run conn
 call_by job (acts.Term run) = Term job run
@@ -52,7 +52,7 @@ pub record Carries (order : Order) (pending : Option Unheard)
   pub tells : Tells old ((call_of order, answer) ∷ []) new
   pub gives : pending ≡ answer_in (call_of order, answer)
 
--- the numbers of an answer are such as a line can say: a run of 64 bits, and a process id from 1 to
+-- the numbers of an answer are such as a line can say: a run of 64 bits, and a PID from 1 to
 -- 2^32 - 1
 abbrev pub IsTellable : Answer → Type 0
 IsTellable (Spawned run pid) = (run < 2 ^ 64) × (0 < pid) × (pid < 2 ^ 32)

@@ -13,7 +13,8 @@ use ctl_protocol::Outside;
 use history_model::JobNo;
 use history_model::definition::Def;
 
-/// Stores that the label is enabled, if that is wanted. Tells whether it was stored; what is not wanted counts as stored.
+/// Stores that the label is enabled, if that is wanted. Says whether it was stored; what is not wanted counts as
+/// stored.
 fn ask_store<T: SettingStore>(
     store: &mut T,
     label: &str,

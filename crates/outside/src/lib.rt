@@ -1,5 +1,5 @@
-//! What is asked of the outside: the one call for each order of a job, and before a load is made its sockets and, with `-w`
-//! (launchctl(1), load), that the store keeps its label's setting.
+//! What a launcher asks of the outside. Each order of a job is one call. Before a load is made, the launcher asks for
+//! the job's sockets. With `-w` (launchctl(1), load) it then asks the store to keep the setting of the label.
 #![tactic(auto)]
 
 mod asking;

@@ -23,7 +23,7 @@ fn spawn_answer(run: u64, started: Result<u32, EdgeFault>) -> Answer
 }
 
 /// Carries out the order by the one call that it asks for: `start`, `term` or `kill`; `close` for a connection, and
-/// `release` for a job that is gone, which have no answer. `def` is the definition of the order's job.
+/// `release` for a job that was removed. The last two have no answer. `def` is the definition of the order's job.
 #[tactic(auto, using(crate::proofs::OrdersLemmas::made_start, crate::proofs::OrdersLemmas::made_term, crate::proofs::OrdersLemmas::made_kill, crate::proofs::OrdersLemmas::made_close, crate::proofs::OrdersLemmas::made_release))]
 pub fn carry<E: ChildEdge + SocketEdge>(edge: &mut E, order: Order, def: &Def) -> Option<Unheard>
     ensures carries { Carries order result (E.told edge.old) (E.told edge.new) }

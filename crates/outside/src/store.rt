@@ -15,7 +15,7 @@ use std::alloc::Global;
 pub enum StoreFault {
     /// Memory was refused.
     NoMemory,
-    /// They can't be read, or are no settings of labels.
+    /// They can't be read, or are not settings of labels.
     Refused,
 }
 
@@ -29,14 +29,16 @@ pub trait SettingStore {
     /// The store has these seconds of its labels' settings, newest first, as long as it is what the implementation says.
     ghost stamped: { Self → List Stamp → Type 0 };
 
-    /// The settings that it was asked to keep, with its answers, oldest first. A store that does not tell them has none.
+    /// The settings that it was asked to keep, with its answers, oldest first. A store that does not record them has
+    /// none.
     ghost told: { Self → Option (List StoreCall) };
 
-    /// What it may answer if it is asked for its settings, oldest first. A store that tells nothing of that may answer anything.
+    /// What it may answer if it is asked for its settings, oldest first. A store that says nothing of that may answer
+    /// anything.
     ghost may_give: { Self → Result (List Held) StoreFault → Type 0 };
 
-    /// Stores that the label is disabled, or enabled, and the second of Unix time in which that was said. Tells whether it
-    /// was stored; a refused setting leaves the store as it was.
+    /// Stores that the label is disabled, or enabled, and the second of Unix time in which that was said. Says whether
+    /// it was stored; a refused setting leaves the store as it was.
     fn set(&mut self, label: &str, disabled: bool, changed: u64) -> bool
         requires label { is_label label.now ≡ true }
         requires second { changed ≤ MAX_WALL }

@@ -30,17 +30,17 @@ use Rattle.override_store.proofs.PutLemmas.{went, same_value, apart}
 use Rattle.override_store.proofs.PermutationLemmas.{has_permuted}
 use Rattle.override_store.proofs.AnswerLemmas.{all_matched}
 
-abbrev named : Row → Row
+abbrev pub named : Row → Row
 named row = rowid row ∷ []
 
-abbrev out : Row → Output
+abbrev pub out : Row → Output
 out row = ([], named row)
 
 outputs : (rows : List Row) → map (output cleared) (map (λ r. [] ∷ r ∷ []) rows) ≡ map out rows
 outputs [] = refl
 outputs (r ∷ rows) = ap (λ xs. out r ∷ xs) (outputs rows)
 
-rowids : (rows : List Row) → map (λ (o : Output). o.1) (map out rows) ≡ map named rows
+pub rowids : (rows : List Row) → map (λ (o : Output). o.1) (map out rows) ≡ map named rows
 rowids [] = refl
 rowids (r ∷ rows) = ap (λ xs. named r ∷ xs) (rowids rows)
 
@@ -58,7 +58,7 @@ nothing_left [] none = refl
 nothing_left (x ∷ xs) none = absurd (none x (inl refl))
 
 -- if each row's rowid is taken out, no row is left
-all_gone : (rows : List Row) (ids : List ℤ) → ((x : Row) → Has rows x → Has ids (id_in (rowid x)) × (has_rowid (id_in (rowid x)) x ≡ true)) → without_all rows ids ≡ []
+pub all_gone : (rows : List Row) (ids : List ℤ) → ((x : Row) → Has rows x → Has ids (id_in (rowid x)) × (has_rowid (id_in (rowid x)) x ≡ true)) → without_all rows ids ≡ []
 all_gone rows ids each = nothing_left (without_all rows ids) (λ x h. let it = each x (without_all_has ids rows x h) in goes ids rows x (id_in (rowid x)) it.0 it.1 h)
 
 -- the first table is empty, and the second as it was

@@ -76,7 +76,7 @@ is_label_of : (a b : Label) → is_same a b ≡ true → a ≡ b
 is_label_of a b e = (bytes_decides a b).0 e
 
 module _ (new : Known) (label : Label) where
-  -- one more behind a list, seen by whether each is of the label
+  -- one more after a list, seen by whether each is of the label
   behind : (x : Known) (rest xs : List Known) (a b : Bool) → is_known_as label new ≡ a → is_known_as label x ≡ b → is_known_as new.setting.label x ≡ false →
       first (filter (is_known_as label) rest) ≡ first (cond a (new ∷ filter (is_known_as label) xs) (filter (is_known_as label) xs)) →
       first (cond b (x ∷ filter (is_known_as label) rest) (filter (is_known_as label) rest))
@@ -100,13 +100,13 @@ module _ (new : Known) (label : Label) where
           ap (λ b. first (cond b (x ∷ filter (is_known_as label) xs) (filter (is_known_as label) xs))) (sym other)
   known_at (x ∷ xs) (suc k) at = behind x (slice_set xs k new) xs (is_known_as label new) (is_known_as label x) refl refl at.0 (known_at xs k at.1)
 
-  -- what stands among others, none of its label, decides as if it stood first
+  -- what is among others, none of its label, decides as if it came first
   pub known_placed : (xs : List Known) (k : ℕ) → NonePasses (is_known_as new.setting.label) xs → found_in (take k xs ++ new ∷ drop k xs) label ≡ found_in (new ∷ xs) label
   known_placed xs zero apart = refl
   known_placed [] (suc k) apart = refl
   known_placed (x ∷ xs) (suc k) apart = behind x (take k xs ++ new ∷ drop k xs) xs (is_known_as label new) (is_known_as label x) refl refl apart.0 (known_placed xs k apart.1)
 
--- ---- what a list tells
+-- ---- what a list says
 
 pub setting_found : (known : List Known) (l : Label) → setting_in (settings_of known) l ≡ option_map (λ (k : Known). k.setting.disabled) (found_in known l)
 setting_found [] l = refl

@@ -21,7 +21,7 @@ module _ (label : Label) (disabled : Bool) (changed : ℕ) (known new : List Kno
   abbrev one : Known
   one = known_as label disabled changed
 
-  -- the list tells the setting, and else what is told before
+  -- the list has the setting, and else what it had before
   pub lists_more : (held : List Setting) → ListAlike (settings_of known) held → ListAlike (settings_of new) (one.setting ∷ held)
   lists_more held alike l = settings_alike new (one ∷ known) l (told l) ∙ more_alike one.setting (settings_of known) held l (alike l)
 

@@ -14,6 +14,6 @@ from_all P [] x all h = absurd h
 from_all P (y ∷ xs) x all (inl same) = subst P (sym same) (all 0 x (omega arith))
 from_all P (y ∷ xs) x all (inr later) = from_all P xs x (λ i d low. all (suc i) d (omega (arith, low))) later
 
--- what stands in a permutation stood in the list
+-- what is in a permutation was in the list
 pub has_permuted : {X : Type 0} (xs ys : List X) (x : X) → IsPermutation xs ys → Has ys x → Has xs x
 has_permuted xs ys x same h = from_all (Has xs) ys x (All-permutation (Has xs) xs ys same (λ i d low. has_at xs i d low)) h

@@ -105,14 +105,15 @@ module _ (limit : Option ℕ) (keys : Keys) (params : Row) where
   pub ended : (top : ℤ) (done : Written) (out : Written × ℤ) → TriesEach task Replace [] [] top done (Ok out) → out.0.trees ≡ done.trees
   ended top done out h = ap (λ (d : Written × ℤ). d.0.trees) (same_value h)
 
+-- rows from which some were taken out keep their order
+pub shaped_left : (ids : List ℤ) (rows : List Row) → IsShaped Table rows → IsShaped Table (without_all rows ids)
+shaped_left [] rows h = h
+shaped_left (id ∷ ids) rows h = shaped_left ids (without_rowid id rows) (IsShaped-filter Table (λ r. not (has_rowid id r)) rows h)
+
 -- the rows keep their order
 pub still_shaped : (old new : Trees) (label : List ℕ) (m n : ℤ) → IsShaped Table (old 2) → Replaced old new label m n → IsShaped Table (new 2)
 still_shaped old new label m n shaped it =
     subst (IsShaped Table) (sym it.rows) (IsShaped-put_row (kept (next_id (old 2)) label m n) (without_all (old 2) (ids_of it.found)) refl (shaped_left (ids_of it.found) (old 2) shaped))
-  where
-    shaped_left : (ids : List ℤ) (rows : List Row) → IsShaped Table rows → IsShaped Table (without_all rows ids)
-    shaped_left [] rows h = h
-    shaped_left (id ∷ ids) rows h = shaped_left ids (without_rowid id rows) (IsShaped-filter Table (λ r. not (has_rowid id r)) rows h)
 
 -- the label has the new row, and each other label its own
 pub has_replaced : (old new : Trees) (label : List ℕ) (m n : ℤ) → IsShaped Table (old 2) → Replaced old new label m n

@@ -1,9 +1,11 @@
--- The settings that a launcher's store has to hold, as they stand in memory, and what holds of the store at hand.
+-- The settings that a launcher's store must hold, as they are in memory, and what holds of the store at hand.
 use Rattle.std.specs.Prelude.{◌≡◌, ◌≤◌, ℕ, Bool, List, ◌∷◌, map, Option, Some, MatchOption, IsTrue, length, pos, false, ⊤}
 use Rattle.std.specs.List.{filter, list_any}
 use Rattle.sqlite.specs.declared.types.Value.TheVariants.{Int}
 use Rattle.sqlite.specs.Order.{Row, column}
 use Rattle.sqlite.specs.Held.{Held, state}
+use Rattle.sqlite.specs.Tree.{Trees}
+use Rattle.sqlite.specs.Effect.{Database}
 use Rattle.sqlite.specs.Store.{Ghosts}
 use Rattle.sqlite.specs.Schema.{Schema}
 use Rattle.sqlite.specs.State.{State, HasCleanDisk}
@@ -14,7 +16,7 @@ use Rattle.override_store.specs.declared.known.Known.{Known}
 use Rattle.override_store.specs.declared.known.TheConstants.{MOST_LABELS}
 use Rattle.override_store.specs.StoreTables.{both_schema}
 use Rattle.override_store.specs.Settings.{Change, HoldsEach, IsEntry, ListAlike, StampsEach, second_in}
-use Rattle.override_store.specs.OverrideStores.{HoldsSettings, HoldsStamps, IsOurs, LeavesAll, rows_now}
+use Rattle.override_store.specs.OverrideStores.{AreOurs, HoldsSettings, HoldsStamps, IsOurs, LeavesAll, rows_now, setting_rows}
 
 -- the row reads as this setting of this second
 abbrev pub IsKnown : Row → Known → Type 0
@@ -37,7 +39,7 @@ is_known_as label known = is_same label known.setting.label
 abbrev pub found_in : List Known → Label → Option Known
 found_in known label = first (filter (is_known_as label) known)
 
--- the label has no setting, and as many have one as may
+-- the label has no setting, and the most labels have one
 abbrev pub IsOneTooMany : List Known → Label → Type 0
 IsOneTooMany known label =
     (MOST_LABELS ≤ length known) × (list_any (is_known_as label) known ≡ false)
@@ -47,11 +49,11 @@ abbrev pub known_as : Label → Bool → ℕ → Known
 known_as label disabled changed =
     record { setting = record { label = label; disabled = disabled }; changed = changed }
 
--- of each label both lists tell the same
+-- both lists say the same of each label
 abbrev pub TellAlike : List Known → List Known → Type 0
 TellAlike one other = (label : Label) → found_in one label ≡ found_in other label
 
--- the list tells each second of these
+-- the list has each second of these
 abbrev pub TellsStamps : List Known → List Change → Type 0
 TellsStamps known stamps =
     (label : Label) (second : ℕ) → second_in stamps label ≡ Some second →
@@ -60,6 +62,15 @@ TellsStamps known stamps =
 -- a store holds what is known, with its seconds, as long as its disk has returned what was written and it is open
 abbrev pub HoldsKnown : State → List Known → Type 0
 HoldsKnown s known = HoldsSettings s (settings_of known) × HoldsStamps s (stamps_of known)
+
+-- the rows are what is known, with its seconds
+abbrev pub HasKnown : List Row → List Known → Type 0
+HasKnown rows known = HoldsEach rows (settings_of known) × StampsEach rows (stamps_of known)
+
+-- the trees are a database of a store that has what is known, with its seconds
+abbrev pub HoldsTrees : Trees → List Known → Type 0
+HoldsTrees trees known =
+    (db : Database) × (trees ≡ db.trees) × AreOurs db × HasKnown (setting_rows trees) known
 
 -- a store has committed what is known, and one setting more, with its second
 pub record HasMade (s : State) (label : List ℕ) (disabled : Bool) (changed : ℕ)
@@ -74,8 +85,8 @@ pub record HasMade (s : State) (label : List ℕ) (disabled : Bool) (changed : �
 abbrev pub AtHand : {S : Type 0} → Ghosts S → Option (Held S) → List Known → Type 0
 AtHand g store known = MatchOption store ⊤ (λ s. HoldsKnown (state g s) known)
 
--- A launcher's store holds these settings: it has to, and the store at hand does. One that is opened
--- anew is held against the schema of a store.
+-- A launcher's store holds these settings: it must, and the store at hand does. A store that is opened again is
+-- compared with the schema of a store.
 abbrev pub HoldsLast : {S : Type 0} → Ghosts S → Schema → Option (Held S) → List Known →
     List Setting → Type 0
 HoldsLast g pattern store known settings =

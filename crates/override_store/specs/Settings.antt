@@ -67,7 +67,7 @@ labels_set settings = map (λ (s : Setting). s.label) settings
 abbrev pub labels_changed : List Change → List Label
 labels_changed changes = map (λ (c : Change). c.0) changes
 
--- the value is no label that is text
+-- the value is not a label that is text
 abbrev pub IsForeign : Value → Type 0
 IsForeign v = (t : List ℕ) → v ≡ Text t → IsUtf8 t → is_label t ≡ false
 

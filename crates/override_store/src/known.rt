@@ -1,5 +1,5 @@
-//! The settings that a store has to hold, in memory: each label once, in falling byte order, so that the list of them has the newest
-//! first as well as any.
+//! The settings that a store must hold, in memory: each label once, in falling byte order. Since each label is there once, this
+//! order can take the place of newest first.
 
 ghost use Rattle.std.specs.Prelude.{◌≡◌, ◌<◌, ◌≤◌, ◌∷◌, ◌↔◌, IfOk, IsTrue, length, reverse};
 ghost use Rattle.std.specs.List.{list_any, position};
@@ -12,7 +12,7 @@ use history_model::{Setting, Text};
 use std::alloc::Global;
 use std::cmp::Ordering;
 
-/// As many labels have a setting at most, but for those that a store had before. Each takes two pages of a database at most.
+/// How many labels have a setting at most, not counting those that a store had before. Each takes two pages of a database at most.
 pub const MOST_LABELS: usize = 16_384;
 
 /// A label's setting, and the second of Unix time in which it was made.
@@ -47,24 +47,14 @@ fn is_above(one: &Known, label: &str) -> bool {
     is_behind(one.label(), label)
 }
 
-/// Where the label stands, or else where it belongs.
-pub(crate) fn place_in_order(known: &[Known], label: &str) -> usize
+/// The index of the label, or else where it belongs.
+fn place_in_order(known: &[Known], label: &str) -> usize
     ensures { result ≤ length known.now }
 {
     known.partition_point(|one| is_above(one, label))
 }
 
-/// What is known of the label.
-pub(crate) fn known_of<'x>(known: &'x [Known], label: &str) -> Option<&'x Known> {
-    let place = place_in_order(known, label);
-    if place >= known.len() {
-        return None;
-    }
-    let one = &known[place];
-    if one.is_of(label) { Some(one) } else { None }
-}
-
-/// Where the label stands first.
+/// The first index of the label.
 fn place_of(known: &[Known], label: &str) -> Option<usize>
     ensures { result ≡ position (is_known_as label.now) known.now }
 {
@@ -101,7 +91,7 @@ pub(crate) fn put(known: &mut Vec<Known>, one: Known)
     }
 }
 
-pub(crate) fn is_same(one: &Known, other: &Known) -> bool
+fn is_same(one: &Known, other: &Known) -> bool
     ensures { IsTrue result → one.now ≡ other.now }
 {
     let is_label = one.label() == other.label();

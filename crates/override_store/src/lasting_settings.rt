@@ -1,6 +1,6 @@
 //! The store that a launcher's settings last in: it goes on after its disk failed.
 
-ghost use Rattle.std.specs.Prelude.{◌≡◌, ◌⊎◌, ◌<◌, ◌≤◌, ◌∷◌, ◌↔◌, Err, IfErr, IfOk, IsSomeAnd, IsTrue, None, Option, [], reverse, true, false};
+ghost use Rattle.std.specs.Prelude.{◌≡◌, ◌≢◌, ◌⊎◌, ◌<◌, ◌≤◌, ◌∷◌, ◌↔◌, Err, IfErr, IfOk, IsSomeAnd, IsTrue, None, Option, [], reverse, true, false};
 ghost use Rattle.std.specs.Vec.{vec_capacity, vec_len};
 ghost use Rattle.sqlite.specs.Held.{state};
 ghost use Rattle.sqlite.specs.State.{HasCleanDisk};
@@ -10,6 +10,7 @@ ghost use Rattle.history_model.specs.declared.TheConstants.{MAX_WALL};
 ghost use Rattle.history_model.specs.Labels.{is_label};
 ghost use Rattle.override_store.specs.OverrideStores.{AreFit, HoldsAs};
 ghost use Rattle.override_store.specs.StoreTables.{both_schema};
+ghost use Rattle.override_store.specs.Places.{IsAskedMore};
 ghost use Rattle.override_store.specs.KnownSettings.{AtHand, HasMade, HoldsKnown, HoldsLast, IsOneTooMany, StampsLast, TellAlike, known_as};
 
 use crate::known::{Known, is_one_too_many, put, rising};
@@ -31,12 +32,12 @@ pub enum NotKept {
     NoMemory,
     /// The label has no setting, and `MOST_LABELS` have one.
     TooMany,
-    /// The store refused it, or could not be opened anew.
+    /// The store refused it, or could not be opened again.
     Refused,
 }
 
-/// The store at its place, with the settings that it has to hold. A setting that is refused shuts it. The next one opens it anew, and
-/// what its database then has otherwise is written back before that one is made. Once it is let go, its database is closed whole.
+/// The store at its place, with the settings that it must hold. A refused setting shuts it. The next setting opens it again, and before
+/// that setting is made, what its database then has otherwise is written back. When it is dropped, it closes its database whole.
 pub struct LastingSettings<S: Alter, P: StorePlace<Connection<S>>> {
     alloc: Global,
     pub place: P,
@@ -45,11 +46,9 @@ pub struct LastingSettings<S: Alter, P: StorePlace<Connection<S>>> {
     /// One that a refusal shut. It keeps the place from others.
     shut: Option<OverrideStore<S>>,
     pub known: Vec<Known>,
-    /// The schema of a store, against which one is held that is opened anew.
+    /// The schema of a store. A store that is opened again is compared with it.
     pub pattern: Schema,
-    /// Whether it is told that the store refuses, since it last took a setting.
-    is_told: bool,
-    /// Whether it is told that there are too many labels.
+    /// Whether it has reported that there are too many labels.
     is_full: bool,
 }
 
@@ -62,25 +61,26 @@ impl<S: Alter + Drop, P: StorePlace<Connection<S>> + Drop> Drop for LastingSetti
             shut,
             known,
             pattern,
-            is_told: _,
             is_full: _,
         } = self;
         drop(store);
         drop(shut);
-        settle(alloc, &place, &pattern, known.as_slice());
+        let mut place = place;
+        settle(alloc, &mut place, &pattern, known.as_slice());
         drop(pattern);
         drop(known);
         drop(place);
     }
 }
 
-// Opens the store anew, so that what others did to its files meanwhile is seen and mended, and closes it.
+// Opens the store again, to see and mend what others did to its files meanwhile, and closes it.
 fn settle<S: Alter + Drop, P: StorePlace<Connection<S>>>(
     alloc: Global,
-    place: &P,
+    place: &mut P,
     pattern: &Schema,
     known: &[Known],
 ) {
+    place.tell(StoreNews::Anew);
     if let Ok((store, is_mended)) = renewed(alloc, place, pattern, known, Telling::AllButBusy) {
         if is_mended {
             place.tell(StoreNews::Mended);
@@ -128,7 +128,6 @@ pub fn lasting<S: Alter + Drop, P: StorePlace<Connection<S>> + Drop>(
                 shut: None,
                 known,
                 pattern,
-                is_told: false,
                 is_full: false,
             },
             settings,
@@ -143,7 +142,7 @@ pub fn lasting<S: Alter + Drop, P: StorePlace<Connection<S>> + Drop>(
 }
 
 impl<S: Alter + Drop, P: StorePlace<Connection<S>> + Drop> LastingSettings<S, P> {
-    // The store, taken out. It is opened anew if it is shut.
+    // The store, taken out. It is opened again if it is shut.
     fn at_hand(&mut self) -> Result<OverrideStore<S>, StoreFault>
         ensures pattern { self.new.pattern ≡ self.old.pattern }
         ensures known { self.new.known ≡ self.old.known }
@@ -151,6 +150,8 @@ impl<S: Alter + Drop, P: StorePlace<Connection<S>> + Drop> LastingSettings<S, P>
         ensures holds { self.old.pattern ≡ both_schema →
             AtHand S.Store self.old.store self.old.known.items →
             IfOk result (λ store. HoldsKnown (state S.Store store) self.old.known.items) }
+        ensures asked { self.old.store ≡ None →
+            IsAskedMore (P.asked self.old.place) (P.asked self.new.place) }
     {
         match self.store.take() {
             Some(store) => Ok(store),
@@ -164,43 +165,35 @@ impl<S: Alter + Drop, P: StorePlace<Connection<S>> + Drop> LastingSettings<S, P>
         ensures taken { self.new.store ≡ self.old.store }
         ensures holds { self.old.pattern ≡ both_schema →
             IfOk result (λ store. HoldsKnown (state S.Store store) self.old.known.items) }
+        ensures asked { IsAskedMore (P.asked self.old.place) (P.asked self.new.place) }
     {
         drop(self.shut.take());
-        let telling = if self.is_told {
-            Telling::Nothing
-        } else {
-            Telling::All
-        };
+        let telling = Telling::New;
         match renewed(
             self.alloc,
-            &self.place,
+            &mut self.place,
             &self.pattern,
             self.known.as_slice(),
             telling,
         ) {
             Ok((store, _)) => Ok(store),
-            Err(fault) => {
-                self.is_told = true;
-                Err(fault)
-            }
+            Err(fault) => Err(fault),
         }
     }
 
-    // Shuts the store, which refused a setting. That is told, unless it is known.
+    // Shuts the store, which refused a setting. It reports that, unless it has reported the reason since the store last took one.
     fn shut(&mut self, store: OverrideStore<S>, fault: StoreFault)
         ensures pattern { self.new.pattern ≡ self.old.pattern }
         ensures known { self.new.known ≡ self.old.known }
         ensures store { self.new.store ≡ self.old.store }
+        ensures place { self.new.place ≡ self.old.place }
     {
-        if !self.is_told {
-            self.place.tell(StoreNews::Refused(fault));
-        }
-        self.is_told = true;
+        self.place.tell(StoreNews::Refused(fault));
         self.shut = Some(store);
     }
 
-    /// Makes the setting in the store, which is opened anew first if it is shut: true, and it lasts. What is known stays as it was, so
-    /// the caller has to note it. False: the store is shut, and the setting may be in its database.
+    /// Makes the setting in the store, which it opens again first if it is shut. True: the setting lasts. What is known stays as it was,
+    /// so the caller must note it. False: the store is shut, and the setting may be in its database.
     fn write(&mut self, label: &str, disabled: bool, changed: u64) -> bool
         requires label { IsTrue (is_label label.now) }
         requires second { changed ≤ MAX_WALL }
@@ -210,6 +203,8 @@ impl<S: Alter + Drop, P: StorePlace<Connection<S>> + Drop> LastingSettings<S, P>
         ensures made { IsTrue result → self.old.pattern ≡ both_schema → AtHand S.Store self.old.store self.old.known.items →
             IsSomeAnd self.new.store (λ store. (HasCleanDisk (state S.Store store) →
             HasMade (state S.Store store) label.now disabled changed self.old.known.items)) }
+        ensures asked { self.old.store ≡ None →
+            IsAskedMore (P.asked self.old.place) (P.asked self.new.place) }
     {
         let mut store = match self.at_hand() {
             Ok(store) => store,
@@ -218,7 +213,7 @@ impl<S: Alter + Drop, P: StorePlace<Connection<S>> + Drop> LastingSettings<S, P>
         match store.set(label, disabled, changed) {
             Ok(()) => {
                 self.store = Some(store);
-                self.is_told = false;
+                self.place.tell(StoreNews::Anew);
                 true
             }
             Err(fault) => {
@@ -228,13 +223,15 @@ impl<S: Alter + Drop, P: StorePlace<Connection<S>> + Drop> LastingSettings<S, P>
         }
     }
 
-    // Whether the label may have a setting. Room for one more is then there. That there are too many labels is told once.
+    // Whether the label may have a setting. There is room for one more then. It reports once that there are too many labels.
     fn make_room(&mut self, label: &str) -> Result<(), NotKept>
         ensures pattern { self.new.pattern ≡ self.old.pattern }
         ensures store { self.new.store ≡ self.old.store }
         ensures known { self.new.known.items ≡ self.old.known.items }
         ensures room { IfOk result (λ _. vec_len self.new.known < vec_capacity self.new.known) }
         ensures full { result ≡ Err NotKept.TooMany ↔ IsOneTooMany self.old.known.items label.now }
+        ensures place { self.new.place ≡ self.old.place }
+        ensures memory { result ≢ Err NotKept.Refused }
     {
         if is_one_too_many(self.known.as_slice(), label) {
             if !self.is_full {
@@ -249,9 +246,9 @@ impl<S: Alter + Drop, P: StorePlace<Connection<S>> + Drop> LastingSettings<S, P>
         }
     }
 
-    /// As `set` of `SettingStore`, which is this: once it answers Ok the setting lasts, and the store has all that was set, whatever
-    /// was refused before. Err: nothing of it has to be held, though the database may have it until the store is opened anew. A label is
-    /// one too many exactly if it has no setting and `MOST_LABELS` have one.
+    /// This is `set` of `SettingStore`. Once it returns Ok the setting lasts, and the store has all that was set, whatever was refused
+    /// before. Err: the store need not hold the setting, though the database may have it until the store is opened again. A label is one
+    /// too many exactly if it has no setting and `MOST_LABELS` have one.
     pub fn keep(&mut self, label: &str, disabled: bool, changed: u64) -> Result<(), NotKept>
         requires label { IsTrue (is_label label.now) }
         requires second { changed ≤ MAX_WALL }
@@ -265,6 +262,8 @@ impl<S: Alter + Drop, P: StorePlace<Connection<S>> + Drop> LastingSettings<S, P>
         ensures made { IfOk result (λ _. self.old.pattern ≡ both_schema → AtHand S.Store self.old.store self.old.known.items →
             IsSomeAnd self.new.store (λ store. (HasCleanDisk (state S.Store store) →
             HasMade (state S.Store store) label.now disabled changed self.old.known.items))) }
+        ensures asked { self.old.store ≡ None → result ≡ Err NotKept.Refused →
+            IsAskedMore (P.asked self.old.place) (P.asked self.new.place) }
     {
         match self.make_room(label) {
             Ok(()) => {}

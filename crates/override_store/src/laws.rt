@@ -1,5 +1,6 @@
-//! What holds of each store that is opened again, by the clauses of the calls alone: of `close_on` and `open_on`, of
-//! `close_files`, `open_files` and `open_on`, and of `all`. The functions do nothing: their contracts are the laws.
+//! What holds of each store that is opened again, only by the clauses of the calls. The calls are `close_on` and
+//! `open_on`; `close_files`, `open_files` and `open_on`; and `all`. The functions do nothing: their contracts are the
+//! laws.
 
 ghost use Rattle.std.specs.Prelude.{◌≡◌, List, reverse};
 ghost use Rattle.sqlite.specs.Closing.{IsCopied};
@@ -27,8 +28,9 @@ pub fn a_store_opened_again_holds_the_same<S: Alter, R: Alter>(
     let _ = again;
 }
 
-/// What a store held, a store holds that `open_on` gives on the connection that `open_files` made of the files that
-/// `close_files` gave; and each label has the setting and the second that it had.
+/// A store that is opened again on its files holds what it held before. `close_files` gave the files, `open_files` made
+/// the connection of them, and `open_on` gives the second store on it. Each label has the setting and the second that
+/// it had.
 pub fn a_store_over_its_files_holds_the_same<D: Disk>(
     store: &OverrideStore<FileStore<D>>,
     files: &Files<D>,
@@ -50,7 +52,7 @@ pub fn a_store_over_its_files_holds_the_same<D: Disk>(
     let _ = again;
 }
 
-/// Of each label, a list that `all` gives tells the setting that the store holds.
+/// For each label, a list that `all` gives has the setting that the store holds.
 pub fn what_all_lists_is_what_is_held<S: Alter>(store: &OverrideStore<S>)
     ensures { (settings listed : List Setting) → HoldsNow (state S.Store store.now) settings →
         HoldsEach (rows_now (state S.Store store.now)) (reverse listed) →

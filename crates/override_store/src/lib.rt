@@ -8,7 +8,7 @@ ghost use Rattle.sqlite.specs.State.{HasCleanDisk, Survives};
 ghost use Rattle.sqlite_disk.specs.Disk.{MoreFaults};
 ghost use Rattle.sqlite.specs.Tree.{Trees};
 ghost use Rattle.sqlite.specs.View.{IsClean};
-ghost use Rattle.override_store.specs.KnownSettings.{HoldsKnown};
+ghost use Rattle.override_store.specs.KnownSettings.{HoldsKnown, HoldsTrees};
 ghost use Rattle.history_model.specs.declared.TheConstants.{MAX_WALL};
 ghost use Rattle.history_model.specs.Labels.{is_label, is_same};
 ghost use Rattle.history_model.specs.declared.event.Setting.{Setting};
@@ -21,6 +21,7 @@ mod known;
 mod lasting_settings;
 pub mod laws;
 mod lists;
+mod mending;
 mod open;
 mod place;
 mod renewal;
@@ -41,13 +42,13 @@ pub use stored_settings::{StoredSettings, opened, opened_again};
 /// Why a store refuses.
 #[derive(Clone, Copy, PartialEq, Eq)]
 pub enum StoreFault {
-    /// No memory was to be had.
+    /// There was not enough memory.
     NoMemory,
     /// The database refused the statement, or its disk failed.
     Refused,
     /// No room was left on the disk.
     Full,
-    /// A stored name is no label.
+    /// A stored name is not a label.
     Foreign,
 }
 
@@ -81,11 +82,11 @@ impl<S: Alter> Model for OverrideStore<S> {
 }
 
 impl<S: Alter + Drop> OverrideStore<S> {
-    /// The store on a connection. In one transaction both tables are made if they aren't there, and the settings of
-    /// `overrides`, the table of the first version, are moved to `settings` with the second 0. Names are not looked at.
-    /// What was not committed on the connection is rolled back, and a limit or a clock that was set on it is gone.
+    /// The store on a connection. In one transaction it makes both tables if they are missing, and moves the settings of
+    /// `overrides`, the table of the first version, to `settings` with the second 0. It does not look at names. What was
+    /// not committed on the connection is rolled back, and a limit or a clock that was set on it is lost.
     ///
-    /// `NoMemory` and `Refused` give what the connection stood on, whose database is as it was or wholly moved.
+    /// `NoMemory` and `Refused` return the storage of the connection, whose database is as it was or wholly moved.
     pub fn open_or_give(
         alloc: Global,
         conn: Connection<S>,
@@ -123,11 +124,11 @@ impl<S: Alter + Drop> OverrideStore<S> {
 }
 
 impl<S: Alter> OverrideStore<S> {
-    /// Keeps that the label is disabled, or that it is enabled, and the second of Unix time in which that was said.
-    /// Once it answers Ok the setting lasts, whatever stops the machine.
+    /// Keeps that the label is disabled, or that it is enabled, and the second of Unix time in which that was said. Once
+    /// it returns Ok the setting lasts, whatever stops the machine.
     ///
-    /// `NoMemory` and `Refused` change nothing; if the disk failed in between, what an open then finds is the settings
-    /// before, or those with this one.
+    /// `NoMemory` and `Refused` change nothing. If the disk failed in between, an open then finds the settings before, or
+    /// those with this one.
     pub fn set(&mut self, label: &str, disabled: bool, changed: u64) -> Result<(), StoreFault>
         requires label { IsTrue (is_label label.now) }
         requires second { changed ≤ MAX_WALL }
@@ -164,7 +165,7 @@ impl<S: Alter> OverrideStore<S> {
 
     /// Each label's setting, by rising bytes of the labels.
     ///
-    /// `NoMemory` and `Refused`, and `Foreign` if a stored name is no label. Nothing is changed by it.
+    /// `NoMemory` and `Refused`, and `Foreign` if a stored name is not a label. It changes nothing.
     pub fn all(&mut self, alloc: Global) -> Result<Vec<Setting>, StoreFault>
         ensures ok { FromOurs S.Store self.old self.new (λ old _.
             IfOk result (λ all. ListsSettings (rows_now old) all.items)) }
@@ -243,9 +244,13 @@ impl<S: Alter> OverrideStore<S> {
         Ok(all)
     }
 
-    /// Takes the label's setting out, and promises nothing of what is left.
-    pub(crate) fn forget(&mut self, label: &str) -> Result<(), StoreFault> {
-        statements::forget(&mut self.conn, label)
+    /// Makes the store have what is known and nothing else, in one transaction. At each exit a crash leaves what it could leave before, or
+    /// all that is known.
+    pub(crate) fn mend(&mut self, known: &[Known]) -> Result<(), StoreFault>
+        ensures crash { Between S.Store self.old self.new (λ old new. Survives old new (λ db.
+            CommitsOpen old (HoldsTrees db known.now))) }
+    {
+        mending::mended(&mut self.conn, known)
     }
 
     /// The connection, as it is.

@@ -13,7 +13,7 @@ use sqlite::{Alter, Connection};
 use sqlite_trees::store::Store;
 use std::alloc::Global;
 
-/// A connection over the same store, whose rows are known to rise: the one that is given is rolled back and read anew.
+/// A connection over the same store, whose rows are known to rise: it rolls back the given one and reads it again.
 pub(crate) fn renewed<S: Alter + Drop>(
     alloc: Global,
     conn: Connection<S>,

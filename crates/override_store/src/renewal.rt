@@ -1,4 +1,4 @@
-//! A store that is opened anew: its database is made to have what it has to hold.
+//! A store that is opened again: its database is made to have what it must hold.
 
 ghost use Rattle.std.specs.Prelude.{◌≡◌, ◌⊎◌, IfErr, IfOk, IsTrue, None};
 ghost use Rattle.sqlite_catalog.specs.Listing.{IsSound};
@@ -9,13 +9,13 @@ ghost use Rattle.sqlite.specs.Tree.{Trees};
 ghost use Rattle.sqlite.specs.View.{IsClean};
 ghost use Rattle.override_store.specs.OverrideStores.{AreFit, HoldsAs};
 ghost use Rattle.override_store.specs.KnownSettings.{HoldsKnown};
+ghost use Rattle.override_store.specs.Places.{IsAskedMore};
 
-use crate::known::{Known, are_same, is_same, known_of};
+use crate::known::{Known, are_same};
 use crate::open::open_tables;
 use crate::place::{StoreNews, StorePlace, Telling};
 use crate::sameness::Same;
 use crate::{OverrideStore, StoreFault};
-use history_model::{MAX_WALL, is_label};
 use sqlite::{Alter, Connection};
 use sqlite_schema::schema::Schema;
 use sqlite_trees::store::Store;
@@ -46,14 +46,16 @@ pub(crate) fn open_all<S: Alter + Drop>(
     }
 }
 
-// A refusal is told.
+// It reports a refusal.
 fn open_at<S: Alter + Drop, P: StorePlace<Connection<S>>>(
     alloc: Global,
-    place: &P,
+    place: &mut P,
     pattern: &Schema,
     telling: Telling,
 ) -> Result<(OverrideStore<S>, Vec<Known>), StoreFault>
-    ensures { pattern.now ≡ both_schema → IfOk result (λ r. HoldsKnown (state S.Store r.0) r.1.items) }
+    ensures holds { pattern.now ≡ both_schema →
+        IfOk result (λ r. HoldsKnown (state S.Store r.0) r.1.items) }
+    ensures asked { IsAskedMore (P.asked place.old) (P.asked place.new) }
 {
     let conn = match place.open(alloc, telling) {
         Ok(conn) => conn,
@@ -140,8 +142,7 @@ fn told<C, P: StorePlace<C>>(place: &P, telling: Telling, fault: StoreFault) -> 
     ensures { result ≡ fault }
 {
     match telling {
-        Telling::Nothing => {}
-        Telling::All | Telling::AllButBusy => place.tell(StoreNews::Refused(fault)),
+        Telling::New | Telling::AllButBusy => place.tell(StoreNews::Refused(fault)),
     }
     fault
 }
@@ -149,13 +150,14 @@ fn told<C, P: StorePlace<C>>(place: &P, telling: Telling, fault: StoreFault) -> 
 // The store at its place, and what it has, if that is not what is known.
 fn look<S: Alter + Drop, P: StorePlace<Connection<S>>>(
     alloc: Global,
-    place: &P,
+    place: &mut P,
     pattern: &Schema,
     known: &[Known],
     telling: Telling,
 ) -> Result<(OverrideStore<S>, Option<Vec<Known>>), StoreFault>
-    ensures { pattern.now ≡ both_schema →
+    ensures holds { pattern.now ≡ both_schema →
         IfOk result (λ r. r.1 ≡ None → HoldsKnown (state S.Store r.0) known.now) }
+    ensures asked { IsAskedMore (P.asked place.old) (P.asked place.new) }
 {
     let (store, found) = match open_at(alloc, place, pattern, telling) {
         Ok(both) => both,
@@ -169,15 +171,18 @@ fn look<S: Alter + Drop, P: StorePlace<Connection<S>>>(
     }
 }
 
-/// The store opened anew, which has what is known, and whether that had to be written back. Nothing is answered before it was read back.
+/// The store opened again, with all that is known, and whether that had to be written back. If so, it reads the store again before it
+/// returns.
 pub(crate) fn renewed<S: Alter + Drop, P: StorePlace<Connection<S>>>(
     alloc: Global,
-    place: &P,
+    place: &mut P,
     pattern: &Schema,
     known: &[Known],
     telling: Telling,
 ) -> Result<(OverrideStore<S>, bool), StoreFault>
-    ensures { pattern.now ≡ both_schema → IfOk result (λ r. HoldsKnown (state S.Store r.0) known.now) }
+    ensures holds { pattern.now ≡ both_schema →
+        IfOk result (λ r. HoldsKnown (state S.Store r.0) known.now) }
+    ensures asked { IsAskedMore (P.asked place.old) (P.asked place.new) }
 {
     let (store, other) = match look(alloc, place, pattern, known, telling) {
         Ok(both) => both,
@@ -185,22 +190,27 @@ pub(crate) fn renewed<S: Alter + Drop, P: StorePlace<Connection<S>>>(
     };
     match other {
         None => Ok((store, false)),
-        Some(found) => match mend(store, known, found) {
-            Ok(()) => look_again(alloc, place, pattern, known, telling),
-            Err(fault) => Err(told(place, telling, fault)),
-        },
+        Some(found) => {
+            drop(found);
+            match mend(store, known) {
+                Ok(()) => look_again(alloc, place, pattern, known, telling),
+                Err(fault) => Err(told(place, telling, fault)),
+            }
+        }
     }
 }
 
 // The store, once it was mended.
 fn look_again<S: Alter + Drop, P: StorePlace<Connection<S>>>(
     alloc: Global,
-    place: &P,
+    place: &mut P,
     pattern: &Schema,
     known: &[Known],
     telling: Telling,
 ) -> Result<(OverrideStore<S>, bool), StoreFault>
-    ensures { pattern.now ≡ both_schema → IfOk result (λ r. HoldsKnown (state S.Store r.0) known.now) }
+    ensures holds { pattern.now ≡ both_schema →
+        IfOk result (λ r. HoldsKnown (state S.Store r.0) known.now) }
+    ensures asked { IsAskedMore (P.asked place.old) (P.asked place.new) }
 {
     let (store, other) = match look(alloc, place, pattern, known, telling) {
         Ok(both) => both,
@@ -216,57 +226,10 @@ fn look_again<S: Alter + Drop, P: StorePlace<Connection<S>>>(
     }
 }
 
-// Makes a store that has what was found have what is known, and lets it go.
-fn mend<S: Alter + Drop>(
-    store: OverrideStore<S>,
-    known: &[Known],
-    found: Vec<Known>,
-) -> Result<(), StoreFault> {
+// Makes the store have what is known, and drops it.
+fn mend<S: Alter + Drop>(store: OverrideStore<S>, known: &[Known]) -> Result<(), StoreFault> {
     let mut store = store;
-    let mended = match forget_others(&mut store, known, found.as_slice()) {
-        Ok(()) => write_back(&mut store, known, found.as_slice()),
-        Err(fault) => Err(fault),
-    };
+    let mended = store.mend(known);
     drop(store);
-    drop(found);
     mended
-}
-
-// Takes out what was found of labels that are not known.
-fn forget_others<S: Alter>(
-    store: &mut OverrideStore<S>,
-    known: &[Known],
-    found: &[Known],
-) -> Result<(), StoreFault> {
-    for one in found {
-        if known_of(known, one.label()).is_none() {
-            store.forget(one.label())?;
-        }
-    }
-    Ok(())
-}
-
-// Writes what is known and was not found so.
-fn write_back<S: Alter>(
-    store: &mut OverrideStore<S>,
-    known: &[Known],
-    found: &[Known],
-) -> Result<(), StoreFault> {
-    for one in known {
-        let is_there = match known_of(found, one.label()) {
-            Some(it) => is_same(it, one),
-            None => false,
-        };
-        if !is_there {
-            put_back(store, one)?;
-        }
-    }
-    Ok(())
-}
-
-fn put_back<S: Alter>(store: &mut OverrideStore<S>, one: &Known) -> Result<(), StoreFault> {
-    if !is_label(one.label()) || one.changed > MAX_WALL {
-        return Err(StoreFault::Refused);
-    }
-    store.set(one.label(), one.setting.disabled, one.changed)
 }

@@ -9,9 +9,8 @@ ghost use Rattle.override_store.specs.Settings.{IsSortedList};
 use crate::{StoreFault, fault};
 use sqlite::{Alter, Connection, Row, params};
 
-const SET: &str = "INSERT OR REPLACE INTO settings (label, disabled, changed) VALUES (?1, ?2, ?3)";
-
-const FORGET: &str = "DELETE FROM settings WHERE label = ?1";
+pub(crate) const SET: &str =
+    "INSERT OR REPLACE INTO settings (label, disabled, changed) VALUES (?1, ?2, ?3)";
 
 const LIST: &str = "SELECT label, disabled, changed FROM settings ORDER BY label";
 
@@ -119,13 +118,5 @@ pub(crate) fn read<S: Alter>(conn: &mut Connection<S>) -> Result<Vec<Row>, Store
     match ready(conn, LIST) {
         Ok(()) => read_rows(conn),
         Err(fault) => Err(fault),
-    }
-}
-
-/// Takes the label's setting out. No clause says what it leaves: what is there is read again.
-pub(crate) fn forget<S: Alter>(conn: &mut Connection<S>, label: &str) -> Result<(), StoreFault> {
-    match conn.execute(FORGET, params![label]) {
-        Ok(_) => Ok(()),
-        Err(error) => Err(fault(error)),
     }
 }

@@ -1,5 +1,5 @@
-//! The store of overrides as the place where a launcher's settings last: it holds each setting that was made, and so does the
-//! store that is opened again.
+//! The store as the place where a launcher's settings last: it holds each setting that was made, and so does the store that is
+//! opened again.
 
 ghost use Rattle.std.specs.Prelude.{◌≡◌, ◌⊎◌, ◌↔◌, IfErr, IfOk, None, [], reverse};
 ghost use Rattle.sqlite.specs.Held.{state};
@@ -15,14 +15,14 @@ use outside::{self, SettingStore};
 use sqlite::{Alter, Connection};
 use std::alloc::Global;
 
-/// A store of overrides that a launcher's turns write to. It holds what it was asked to keep as long as its disk is honest and
-/// its connection open. It does not tell what it was asked.
+/// A store of settings to which a launcher's turns write. It holds what it was asked to keep as long as its disk is honest and
+/// its connection open. Its contracts don't record the calls.
 #[derive(Drop)]
 pub struct StoredSettings<S: Alter> {
     pub store: OverrideStore<S>,
 }
 
-/// The fault that the store's is. A name that is no label counts as refused.
+/// The fault for the caller. A name that is not a label counts as refused.
 pub(crate) fn fault_of(fault: StoreFault) -> outside::StoreFault
     ensures memory { result ≡ given.NoMemory ↔ (fault ≡ StoreFault.NoMemory) }
 {
@@ -59,7 +59,7 @@ impl<S: Alter> SettingStore for StoredSettings<S> {
 }
 
 /// The store on a connection, and the settings that it holds, by rising bytes of their labels. `NoMemory` and `Refused` as
-/// `OverrideStore::open_or_give`, and `Foreign` if a stored name is no label. A fault gives what the connection stood on, whose
+/// `OverrideStore::open_or_give`, and `Foreign` if a stored name is not a label. A fault returns the storage of the connection, whose
 /// database is as it was or wholly moved.
 pub fn opened<S: Alter + Drop>(
     alloc: Global,

@@ -1,12 +1,12 @@
-//! The letters that a text of XML stands for.
+//! The letters that a text of XML means.
 
 use crate::fault::Wrong;
 use std::alloc::AllocError;
 
 const UNKNOWN: &str = "&$; is no entity of XML";
 
-/// Adds the letters of the text: each entity is decoded once, and an end of a line is a newline. Refused: an entity that XML does not
-/// know by itself, `&` alone, and `]]>`. A refusal leaves what was added before.
+/// Adds the letters of the text: each entity is decoded once, and an end of a line is a newline. Refused: an entity that XML does not know
+/// by itself, `&` without an entity, and `]]>`. A refusal leaves what was added before.
 pub(crate) fn add_decoded<'a>(text: &'a str, into: &mut String) -> Result<(), Wrong<'a>> {
     if text.contains("]]>") {
         return Err(Wrong::Because("]]> stands outside of a CDATA section", ""));
@@ -31,7 +31,7 @@ pub(crate) fn add_decoded<'a>(text: &'a str, into: &mut String) -> Result<(), Wr
     Ok(())
 }
 
-/// How many bytes stand before what `add_decoded` refuses first in the text; all of it, if it refuses nothing.
+/// How many bytes come before what `add_decoded` refuses first in the text; all of it, if it refuses nothing.
 pub(crate) fn front_of_wrong(text: &str) -> usize {
     if let Some(offset) = text.find("]]>") {
         return offset;
@@ -48,7 +48,7 @@ pub(crate) fn front_of_wrong(text: &str) -> usize {
     text.len()
 }
 
-// Whether what stands behind an `&` begins with an entity.
+// Whether what follows an `&` begins with an entity.
 fn is_decoded(part: &str) -> bool {
     match part.split_once(';') {
         Some((name, _)) => letter_of(name).is_some(),
@@ -56,7 +56,7 @@ fn is_decoded(part: &str) -> bool {
     }
 }
 
-/// Adds the letters as they stand; CR LF and CR are a newline each.
+/// Adds the letters as they are; CR LF and CR are a newline each.
 pub(crate) fn add_plain(text: &str, into: &mut String) -> Result<(), AllocError> {
     let mut is_behind_return = false;
     for letter in text.chars() {
@@ -69,7 +69,7 @@ pub(crate) fn add_plain(text: &str, into: &mut String) -> Result<(), AllocError>
     Ok(())
 }
 
-// The letter that the entity of this name stands for.
+// The letter that the entity of this name means.
 fn letter_of(name: &str) -> Option<char> {
     for (known, letter) in ENTITIES {
         if *known == name {

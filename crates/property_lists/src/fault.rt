@@ -1,4 +1,4 @@
-//! Why bytes are no property list that can be written as JSON.
+//! Why bytes are not a property list that can be written as JSON.
 
 use std::alloc::AllocError;
 
@@ -6,7 +6,7 @@ use std::alloc::AllocError;
 #[derive(Clone, Copy, Drop)]
 pub enum ListFault<'a> {
     NoMemory,
-    /// The first fault, in the line of this number, which begins at 1: what is wrong, in which a `$` stands for the found words.
+    /// The first fault, and the number of its line, from 1. A `$` in the text on what is wrong is for what was found.
     Refused {
         line: usize,
         why: &'static str,

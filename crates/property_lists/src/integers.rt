@@ -7,8 +7,8 @@ pub(crate) enum Integer {
     Negative(i64),
 }
 
-/// The integer, in decimal digits or behind `0x` in hexadecimal ones, with a sign or none; blanks around it are no part of it. None if the
-/// text is none, or is out of range.
+/// The integer, in decimal digits or in hexadecimal ones after `0x`, with a sign or none; blanks around it don't count. None if the text is
+/// not an integer, or is out of range.
 pub(crate) fn integer_of(text: &str) -> Option<Integer> {
     let text = text.trim();
     let behind = text.strip_prefix('-');

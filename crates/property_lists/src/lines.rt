@@ -1,6 +1,6 @@
 //! The number of a line.
 
-/// The number of the line that stands behind the bytes: one more than they have newlines. At most the greatest number.
+/// The number of the line that follows the bytes: one more than they have newlines. At most the greatest number.
 pub(crate) fn line_behind(bytes: &[u8]) -> usize {
     let mut line: usize = 1;
     for byte in bytes {

@@ -18,18 +18,18 @@ use std::alloc::{AllocError, Global};
 /// The longest list that is read, in bytes: a request to the launcher has no more in a line.
 const LONGEST: usize = 262_144;
 
-/// So many dictionaries and arrays stand in one another at most.
+/// How many `<dict>` and `<array>` may be nested at most.
 const DEEPEST: usize = 127;
 
-/// The element that a list stands in.
+/// The element that holds a list.
 const ROOT: &str = "plist";
 
-/// What is read next in a dictionary or array that is open.
+/// What is read next in a `<dict>` or `<array>` that is open.
 #[derive(Clone, Copy)]
 enum Inside {
-    /// A key of a dictionary.
+    /// A key of a `<dict>`.
     Key,
-    /// The value of a dictionary's key.
+    /// The value of a key of a `<dict>`.
     Value,
     /// A member of an array.
     Member,
@@ -62,18 +62,19 @@ struct Reading<'a> {
 struct Making<'a> {
     writer: Writer,
     stage: Stage,
-    /// The dictionaries and arrays that are open, the innermost last.
+    /// Each `<dict>` and `<array>` that is open, the innermost last.
     open: Vec<Inside>,
     reading: Option<Reading<'a>>,
     /// The text so far of the element that is being read.
     text: String,
 }
 
-/// The JSON of the list that the bytes mean, in one line: the first value of `<plist>`, with the keys in their order. A string and a key
-/// have each entity decoded once; an integer is the number that it is. Refused, with the line of the first fault: more than 262,144 bytes;
-/// a binary list; bytes that are no UTF-8, or no XML of this kind; more than 127 dictionaries and arrays in one another; a value where a
-/// key is wanted, or a key where a value is; an integer out of -2^63 to 2^64 - 1; a real that is no
-/// number or is past what 64 bits have; a `<date>` or `<data>`.
+/// The JSON of the list that the bytes mean, in one line: the first value of `<plist>`, with the keys in their order. In a string and a key
+/// each entity is decoded once. An integer is the number that it is.
+///
+/// It refuses, with the line of the first fault: more than 262,144 bytes; a binary list; bytes that are not UTF-8, or not XML of this kind.
+/// It refuses more than 127 nested `<dict>` and `<array>`, a value where a key is expected, and a key where a value is. It refuses an
+/// integer out of -2^63 to 2^64 - 1, a real that is not a number or is past what 64 bits have, a `<date>` and a `<data>`.
 pub fn json_of(alloc: Global, bytes: &[u8]) -> Result<Vec<u8>, ListFault<'_>>
     ensures json { IfOk result (λ made. (value : Data) × (Some value ≡ json_in made.items)) }
     ensures short { OnOk result (length bytes.now ≤ 262144) }
@@ -168,7 +169,7 @@ fn checked<'a>(alloc: Global, made: Vec<u8>) -> Result<Vec<u8>, ListFault<'a>>
     }
 }
 
-// What is wrong first, and how many bytes stand from there on; none if the text is a list.
+// The first fault, and how many bytes are left from there on; None if the text is a list.
 fn read_all<'a>(text: &'a str, making: &mut Making<'a>) -> Option<(Wrong<'a>, usize)> {
     if let Some(offset) = text.find(is_none) {
         let left = text.len().saturating_sub(offset);
@@ -204,7 +205,7 @@ fn read_all<'a>(text: &'a str, making: &mut Making<'a>) -> Option<(Wrong<'a>, us
     Some((Wrong::Because("it has no end", ""), 0))
 }
 
-// How many bytes of a text stand before what is wrong in it: inside of an element with a text, or between elements.
+// How many bytes of a text come before what is wrong in it: inside of an element with a text, or between elements.
 fn front_of(mark: Mark<'_>, is_inside: bool) -> usize {
     match mark {
         Mark::Text(text) if is_inside => front_of_wrong(text),
@@ -302,7 +303,7 @@ fn begin<'a>(making: &mut Making<'a>, name: &'a str) -> Result<(), Wrong<'a>> {
     }
 }
 
-// Why the element may not stand here; none if it may.
+// Why the element is not allowed here; None if it is.
 fn misplaced(making: &Making<'_>, element: Element) -> Option<&'static str> {
     let is_key = matches!(element, Element::Leaf(Leaf::Key));
     match making.stage {
@@ -335,7 +336,7 @@ fn open<'a>(making: &mut Making<'a>, inside: Inside) -> Result<(), Wrong<'a>> {
     Ok(put?)
 }
 
-// Ends the dictionary, the array or the list.
+// Ends the `<dict>`, the `<array>` or the list.
 fn end<'a>(making: &mut Making<'a>, name: &'a str) -> Result<(), Wrong<'a>> {
     if name == ROOT && making.stage == Stage::Behind {
         making.stage = Stage::Done;
@@ -357,7 +358,7 @@ fn end<'a>(making: &mut Making<'a>, name: &'a str) -> Result<(), Wrong<'a>> {
     Ok(())
 }
 
-// A value was written: behind it stands a key, the next member, or nothing.
+// A value was written: after it comes a key, the next member, or nothing.
 fn value_ended(making: &mut Making<'_>) {
     match making.open.last_mut() {
         Some(inside) => {

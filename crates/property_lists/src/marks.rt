@@ -2,7 +2,7 @@
 
 use crate::fault::Wrong;
 
-/// What stands next in a text.
+/// What comes next in a text.
 #[derive(Clone, Copy)]
 pub(crate) enum Mark<'a> {
     /// `<NAME>`
@@ -11,9 +11,9 @@ pub(crate) enum Mark<'a> {
     Close(&'a str),
     /// `<NAME/>`
     Empty(&'a str),
-    /// Text in which entities stand for letters.
+    /// Text in which entities mean letters.
     Text(&'a str),
-    /// The inner text of a CDATA section, which stands for itself.
+    /// The inner text of a CDATA section, which is taken as it is.
     Plain(&'a str),
     /// The DOCTYPE line, whose names are not looked up.
     Doctype,
@@ -31,7 +31,7 @@ const VERSIONS: &[&str] = &["version=\"1.0\"", "version='1.0'", "version=\"0.9\"
 
 const HEAD: &str = "<?xml ..?> does not stand first, or is not version=\"1.0\" encoding=\"UTF-8\"";
 
-/// The words of a first line of XML.
+/// What a first line of XML may have.
 const HEAD_WORDS: &[&str] = &[
     "version=\"1.0\"",
     "version='1.0'",
@@ -43,8 +43,7 @@ const HEAD_WORDS: &[&str] = &[
     "standalone=\"no\"",
 ];
 
-/// What stands behind the first line of XML, `<?xml ..?>`, if there is one. Refused: another version than 1.0, another encoding than
-/// UTF-8.
+/// What follows the first line of XML, `<?xml ..?>`, if there is one. Refused: another version than 1.0, another encoding than UTF-8.
 pub(crate) fn behind_head(text: &str) -> Result<&str, Wrong<'_>> {
     let Some(inner) = text.strip_prefix("<?xml") else {
         return Ok(text);
@@ -63,7 +62,7 @@ pub(crate) fn behind_head(text: &str) -> Result<&str, Wrong<'_>> {
     Ok(behind)
 }
 
-/// The next mark, and what stands behind it. Refused: a mark that does not end, an attribute, and declarations of the text's own.
+/// The next mark, and what follows it. Refused: a mark that does not end, an attribute, and declarations of the text's own.
 pub(crate) fn next_mark(text: &str) -> Result<(Mark<'_>, &str), Wrong<'_>> {
     if text.is_empty() {
         return Ok((Mark::End, text));
@@ -116,7 +115,7 @@ fn passed<'a>(
     }
 }
 
-// What is wrong with what stands between `<` and `>` and begins with `!`: anything but the DOCTYPE line of a list.
+// What is wrong with what is between `<` and `>` and begins with `!`: anything but the DOCTYPE line of a list.
 fn declaration(tag: &str) -> Option<&'static str> {
     if !tag.starts_with("!DOCTYPE ") {
         Some("a declaration <!.. is no part of a property list")

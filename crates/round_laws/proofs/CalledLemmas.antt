@@ -1,4 +1,4 @@
--- Between the turns of rounds the edge is called for questions alone.
+-- Between the turns of passes the edge is called for questions alone.
 use Rattle.std.proofs.Common.{◌≡◌, inl, inr, ℕ, Bool, true, false, List, [], ◌∷◌, ◌++◌, Option, Some, None, refl, sym, ap, subst, append_assoc, ◌∙◌}
 use Rattle.std.proofs.lemmas.List.{append-nil}
 use Rattle.std.specs.Prelude.{Result, Ok, Err}

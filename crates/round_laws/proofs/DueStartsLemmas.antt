@@ -1,4 +1,4 @@
--- A start that is due at a reading is ordered at it.
+-- A start that is due at a clock reading is ordered at it.
 use Rattle.std.proofs.Common.{◌≡◌, Bool, true, false, not, ◌||◌, ◌&&◌, cond, Option, Some, None, is_some, List, [], ◌∷◌, ◌++◌, map, refl, sym, ap, subst, ◌∙◌, ◌+◌, nat_le}
 use Rattle.std.specs.Prelude.{unwrap_or}
 use Rattle.std.specs.List.{filter, flat_map, AllByRecursion}
@@ -64,7 +64,7 @@ acts-by : (t : History) (gone : Bool) (o : Option Act) (act : Act) → gone ≡ 
 acts-by t true o act stays is = cc
 acts-by t false o act stays is = ap listed is
 
--- a job whose start a reading makes due orders that, and nothing else
+-- a job whose start a clock reading makes due orders that, and nothing else
 pub acts-due : (t : History) (at : Reading) (calendar : Bool) → is_some_spawn (due (Read at calendar ∷ t)) ≡ true →
     acts_of (Read at calendar ∷ t) ≡ Spawn (runs t + 1) (first (waiting t)) ∷ []
 acts-due t at calendar is_due =
@@ -83,7 +83,7 @@ own-filter label (job ∷ jobs) = go (is_of label job) refl (own-filter label jo
   go true is rest = (is, rest)
   go false is rest = rest
 
--- a start that is due at a reading which the machine accepts is the first of the job's orders
+-- a start that is due at a clock reading which the machine accepts is the first of the job's orders
 pub order-at : (s : State) (label : Label) (t : History) (at : Reading) → IsDueAt s label t at → refusal_in s (Tick at) ≡ None →
     first (filter (is_for label) (outcome s (Tick at)).orders) ≡ Some (start_of label t)
 order-at s label t at is_due accepted =
@@ -111,7 +111,7 @@ accepts s at allowed = ap (λ b. refused_if b ClockRefused None) allowed
 no-first : (order : Label × Act) → None ≡ Some order → ⊥
 no-first order e = cc
 
--- such a reading is news
+-- such a clock reading is news
 pub is-news : (s : State) → IsGood s → (label : Label) (t : History) (at : Reading) → IsDueAt s label t at → refusal_in s (Tick at) ≡ None → may_change s.jobs s.reading at ≡ true
 is-news s good label t at is_due accepted = go (may_change s.jobs s.reading at) refl where
   go : (b : Bool) → may_change s.jobs s.reading at ≡ b → b ≡ true

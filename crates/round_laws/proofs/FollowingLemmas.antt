@@ -1,4 +1,4 @@
--- Each client is followed, step by step, and round by round.
+-- Each client is followed, step by step, and pass by pass.
 use Rattle.std.proofs.Common.{◌≡◌, ◌≢◌, ◌⊎◌, inl, inr, ℕ, ◌+◌, List, [], ◌∷◌, ◌++◌, Option, Some, None, refl, sym, ap, subst, ◌∙◌, arith}
 use Rattle.std.specs.Prelude.{◌==◌, if◌then◌else◌, ⊤}
 use Rattle.std.proofs.lemmas.Bool.Decides.{eqb_tells}
@@ -32,7 +32,7 @@ its_own None client is short = let clash : None ≡ Some client = is in cc
 its_own (Some other) client is short = (ap job_of (sym is), ap request_of (sym is), subst IsShortSoFar is short)
 
 module _ {H : Type 0} (it : Launcher H) where
-  -- the clients that are held are those of which all this tells
+  -- the clients that are held are those of which all this speaks
   record Tells (past : List (Deed H)) (conn : ℕ) (coming : ℕ → Option Coming) : Type 0 where
     followed : AreFollowed it past
     number : conn ≡ how_many past + 1

@@ -38,7 +38,7 @@ use Rattle.loaded_jobs.proofs.NearestLemmas.{not-before-self}
 use Rattle.round_laws.specs.DueStarts.{IsDueAt, LeavesAlone, start_of}
 use Rattle.round_laws.proofs.DueStartsLemmas.{acts-due, own-filter}
 
--- ---- a reading puts no start off
+-- ---- a clock reading puts no start off
 
 record IsLate (n i w f : Bool) : Type 0 where
   free_of_events : n ≡ false
@@ -71,7 +71,7 @@ needs-parts false false c d e none = (refl, refl)
 lt-on : (x y z : ℕ) → nat_lt x z ≡ true → nat_lt x y ≡ false → nat_lt y z ≡ true
 lt-on x y z later same = grind (arith, nat_tests, later, same)
 
--- a period that ends by the one moment and has not ended by the other ends between them
+-- a period that ends by the one time and has not ended by the other time ends between them
 cross-on : (o : Option ℕ) (load a b c : ℕ) → crosses_interval o load a c ≡ true → crosses_interval o load a b ≡ false → crosses_interval o load b c ≡ true
 cross-on None load a b c later none = cc
 cross-on (Some seconds) load a b c later none = lt-on (periods seconds (a - load)) (periods seconds (b - load)) (periods seconds (c - load)) later none
@@ -108,7 +108,7 @@ late-on t at mid c period come =
       go false false fires is =
           ap (λ b. b || is_wanted u) (cross-on (definition_of t).start_interval (load_of t).at.up (now t).up mid.up at.up (only-interval (interval_fires t at) (is_wanted t) l.wants is) fires)
 
--- a job that needs no event and is not started at a reading does nothing at it
+-- a job that needs no event and is not started at a clock reading does nothing at it
 none-due : (c : Option Child) (o : Option Act) → is_some c ≡ false → is_none_or_stops c o ≡ true → o ≡ None
 none-due None None alone is = refl
 none-due None (Some act) alone is = cc
@@ -166,7 +166,7 @@ filter-both {X} p (x ∷ xs) ys = go (filter-both p xs ys) (p x) where
   go rest true = ap (λ (l : List X). x ∷ l) rest
   go rest false = rest
 
--- its start is due at the reading, if nothing happens to it meanwhile
+-- its start is due at the clock reading, if nothing happens to it meanwhile
 record Waits (s : State) (label : Label) (t : History) (at : Reading) : Type 0 where
   its : IsAlone label s.jobs t
   period : HasPeriod t

@@ -1,4 +1,4 @@
--- What a round spares its launcher may be left out, and what it hands in comes in time.
+-- What a pass spares its launcher may be left out, and what it delivers comes in time.
 use Rattle.std.proofs.Common.{◌≡◌, inr, ◌≤◌, Bool, true, false, ◌||◌, List, [], ◌∷◌, ◌++◌, map, Option, Some, None, refl, sym, ap, subst, ◌∙◌, nat_lt, append_assoc, arith}
 use Rattle.std.specs.Prelude.{Ok, Err, if◌then◌else◌, ⊤}
 use Rattle.std.specs.List.{AllByRecursion}
@@ -46,14 +46,14 @@ may-both last s [] ys first second = second
 may-both last s (HandedIn e ∷ xs) ys first second = (first.0, may-both (last_read last e) (step s e) xs ys first.1 second)
 may-both last s (LeftOut e ∷ xs) ys first second = (first.0, may-both (last_read last e) s xs ys first.1 second)
 
--- of each sight that the launcher was spared, each job which lists the path saw it so last
+-- of each observation that the launcher was spared, each job which lists the path saw it so last
 abbrev pub HadSeen : State → List Line → Type 0
 HadSeen s [] = ⊤
 HadSeen s (HandedIn e ∷ lines) = HadSeen (step s e) lines
 HadSeen s (LeftOut (Sight path obs) ∷ lines) = HaveSeen path obs s.jobs × HadSeen s lines
 HadSeen s (LeftOut e ∷ lines) = HadSeen s lines
 
--- the sights of both
+-- the observations of both
 seen-left : (s : State) (e : Event) (xs ys : List Line) → (HadSeen s (xs ++ ys) → HadSeen s xs × HadSeen (run (handed_in xs) s) ys) →
     HadSeen s (LeftOut e ∷ (xs ++ ys)) → HadSeen s (LeftOut e ∷ xs) × HadSeen (run (handed_in xs) s) ys
 seen-left s (Sight path obs) xs ys more seen = let both = more seen.1 in ((seen.0, both.0), both.1)
@@ -89,7 +89,7 @@ seen-join s [] ys first second = second
 seen-join s (HandedIn e ∷ xs) ys first second = seen-join (step s e) xs ys first second
 seen-join s (LeftOut e ∷ xs) ys first second = join-left s e xs ys (λ seen. seen-join s xs ys seen second) first
 
--- what is handed in is no sight that was spared
+-- what is delivered is not an observation that was spared
 pub seen-handed : (s : State) (es : List Event) → HadSeen s (map HandedIn es)
 seen-handed s [] = tt
 seen-handed s (e ∷ es) = seen-handed (step s e) es
@@ -116,7 +116,7 @@ module _ {T : Type 0} where
   memory-both (Spared event ∷ xs) ys had = memory-both xs ys had
   memory-both (Turned turn ∷ xs) ys had = let both = memory-both xs ys had.1 in ((had.0, both.0), both.1)
 
--- ---- events that are no reading
+-- ---- events that are not clock readings
 
 abbrev pub is_tick : Event → Bool
 is_tick (Tick at) = true
@@ -157,7 +157,7 @@ plain last s (OfJob label item) apart = (refl, λ is. is)
 abbrev pub ArePlain : List Event → Type 0
 ArePlain es = AllByRecursion (λ (e : Event). is_tick e ≡ false) es
 
--- what a list of events is from s on, at this last reading
+-- what a list of events is from s on, at this last clock reading
 pub record Comes (last : Reading) (s : State) (es : List Event) (next : Reading) : Type 0 where
   pub may : MayBeLeftOut last s (map HandedIn es)
   pub reading : (run es s).reading ≡ next
@@ -174,7 +174,7 @@ plain-list (e ∷ es) all s last is =
       read = ap (λ l. last_read_in l es) p.0 ∙ rest.read;
     }
 
--- a reading that is accepted, and what follows it
+-- a clock reading that is accepted, and what follows it
 pub tick-list : (at : Reading) (es : List Event) → ArePlain es → (s : State) (last : Reading) → is_clock_refused s.reading at ≡ false → last.up ≤ at.up → last_read last (Tick at) ≡ at → Comes last s (Tick at ∷ es) at
 tick-list at es all s last allowed less again =
     let accepted : refusal_in s (Tick at) ≡ None = ap (λ b. refused_if b ClockRefused None) allowed in
@@ -186,7 +186,7 @@ tick-list at es all s last allowed less again =
       read = ap (λ l. last_read_in l es) again ∙ rest.read;
     }
 
--- ---- readings that are taken
+-- ---- clock readings that are taken
 
 pub read-self : (last : Reading) → last_read last (Tick last) ≡ last
 read-self last = go (is_clock_refused last last) where
@@ -204,7 +204,7 @@ read-again last at = go (is_clock_refused last at) refl where
   go true is = stays (is_clock_refused last last)
   go false is = ap (λ c. if c then last else at) is
 
--- a reading that is accepted after another, by its three tests
+-- a clock reading that is accepted after another, by its three tests
 record NotRefused (before at : Reading) : Type 0 where
   up : nat_lt at.up before.up ≡ false
   most_up : nat_lt MAX_UP at.up ≡ false

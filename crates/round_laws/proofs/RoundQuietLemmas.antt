@@ -1,4 +1,4 @@
--- A round may spare its launcher what it spares it: round by round.
+-- A pass may spare its launcher what it spares it: pass by pass.
 use Rattle.history_model.specs.Step.{run}
 use Rattle.loaded_jobs.specs.StandsFor.{KeepsState}
 use Rattle.std.proofs.Common.{◌≡◌, inl, inr, ℕ, Bool, false, ◌||◌, List, [], ◌∷◌, Option, Some, None, refl, sym, ap, subst, ◌∙◌}

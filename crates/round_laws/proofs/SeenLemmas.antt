@@ -1,4 +1,4 @@
--- What each job saw last of a path: that holds until another look at the path, or a load that is accepted.
+-- What each job saw last of a path: that holds until another check of the path, or a load that is accepted.
 use Rattle.std.proofs.Common.{◌≡◌, ◌≢◌, inl, inr, ℕ, ◌+◌, Bool, true, false, not, ◌&&◌, ◌||◌, cond, List, [], ◌∷◌, ◌++◌, map, Option, Some, None, is_some, refl, sym, ap, subst, ◌∙◌, true≢false, arith}
 use Rattle.std.specs.Prelude.{bytes_eq, is_none, unwrap_or, if◌then◌else◌}
 use Rattle.std.specs.Option.{option_map}
@@ -56,7 +56,7 @@ loads-both (x ∷ xs) ys s first second = go (is_taken_as is_load s x) (λ none.
 count-step : (s : State) (e : Event) (es : List Event) → is_taken_as is_load s e ≡ false → count_taken is_load es (step s e) ≡ 0 → count_taken is_load (e ∷ es) s ≡ 0
 count-step s e es apart more = (λ i. cond (apart i) 1 0 + more i)
 
--- an event that is no load, or is refused, is no accepted load
+-- an event that is not a load, or is refused, is not an accepted load
 no-load : (s : State) (e : Event) (r : Option Refusal) (b : Bool) → refusal_in s e ≡ r → is_load e ≡ b → (b && is_none r) ≡ false → is_taken_as is_load s e ≡ false
 no-load s e r b is load none = (λ i. not (is_some (is i)) && load i) ∙ go r b none where
   go : (r : Option Refusal) (b : Bool) → (b && is_none r) ≡ false → (not (is_some r) && b) ≡ false
@@ -66,7 +66,7 @@ no-load s e r b is load none = (λ i. not (is_some (is i)) && load i) ∙ go r b
 
 -- ---- a path that was seen
 
--- this state came after a look at the path that saw this, and after that look came no other at it, and no load that was accepted
+-- this state came after a check of the path that saw this, and after that check came no other of it, and no load that was accepted
 pub record WasSeen (path : List ℕ) (obs : Obs) (s : State) : Type 0 where
   pub before : State
   pub after : List Event
@@ -89,9 +89,9 @@ later path obs s es was no_look no_load = record {
   no_load = loads-both was.after es (step was.before (Sight path obs)) was.no_load (subst (λ (t : State). count_taken is_load es t ≡ 0) was.is no_load);
 }
 
--- ---- what was handed in last of each path
+-- ---- what was delivered last of each path
 
--- what the looks remember, and whether a load was accepted since they heeded one
+-- what the path checks remember, and whether a load was accepted since they took one into account
 pub record Mind : Type 0 where
   pub known : Known
   pub loaded : Bool
@@ -102,7 +102,7 @@ Knows s m = m.loaded ≡ false → (path : List ℕ) (obs : Obs) → m.known pat
 
 -- ---- the events of turns
 
--- what comes is no sight, and no load of a journal
+-- what comes is not an observation, and no load of a journal
 abbrev pub is_plain : Incoming → Bool
 is_plain (asks_for request) = true
 is_plain (happened (journaled.Clock at)) = true
@@ -126,7 +126,7 @@ pub plain-if : (b : Bool) (x : Incoming) → is_plain x ≡ true → IsPlain (if
 plain-if true x is_so = plain (Some x) is_so
 plain-if false x is_so = plain None refl
 
--- what happens is no request, and so no load that is accepted
+-- what happens is not a request, and so no load that is accepted
 pub happened-if : (b : Bool) (event : journal.Event) (refusal : Option Refusal) → accepting.is_accepted_load (if b then Some (happened event) else None) refusal ≡ false
 happened-if true event refusal = refl
 happened-if false event refusal = refl
@@ -197,14 +197,14 @@ abbrev first_refusal : List Outcome → Option Refusal
 first_refusal [] = None
 first_refusal (out ∷ outs) = out.refusal
 
--- the events of a turn of a sight
+-- the events of a turn of an observation
 record IsLook (path : List ℕ) (obs : Obs) (es : List Event) : Type 0 where
   names : List Name
   told : List Unheard
   is : es ≡ Sight path obs ∷ answers names told
 
 module _ {T : Type 0} where
-  -- a turn of what is no sight, and no load that was accepted
+  -- a turn of what is not an observation, and no load that was accepted
   pub seen-on : (turn : Turn T) (p : Part) (s : State) → IsPartOf turn p → outcomes_in (p ∷ []) ≡ outcomes (map machine_event (events_in (p ∷ []))) s → IsPlain turn.incoming →
       accepting.is_accepted_load turn.incoming turn.refusal ≡ false → (path : List ℕ) (obs : Obs) → WasSeen path obs s → WasSeen path obs (run (map machine_event p.0) s)
   seen-on turn p s (inl none) all is_plain no_load path obs was = subst (λ (es : List journal.Event). WasSeen path obs (run (map machine_event es) s)) (sym none.1) was

@@ -1,4 +1,4 @@
--- What some marks were for the machine beside the launcher, and how two such lists join.
+-- What some marks were for the machine next to the launcher, and how two such lists join.
 use Rattle.std.proofs.lemmas.Grind.{flat_map-append}
 use Rattle.history_model.specs.declared.Reading.{Reading}
 use Rattle.history_model.specs.Refusals.{is_clock_refused}
@@ -24,14 +24,14 @@ use Rattle.round_laws.proofs.QuietLemmas.{HadSeen, seen-join, seen-handed, run-b
 use Rattle.round_laws.proofs.StepsLemmas.{as_loaded}
 
 module _ {T E W : Type 0} where
-  -- the machine s, of which this was the last reading, is the launcher's
+  -- the machine s, of which this was the last clock reading, is the launcher's
   pub record Follows (s : State) (last : Reading) (r : RoundLauncher T E W) : Type 0 where
     pub keeps : KeepsState r.host.table s
     pub led : IsLed s
     pub at : r.at ≡ last
     pub allowed : is_clock_refused s.reading last ≡ false
 
-  -- what these marks were for it; what the looks remember stays true
+  -- what these marks were for it; what the path checks remember stays true
   pub record Spans (s : State) (last : Reading) (m : Mind) (marks : List (Mark T)) (m' : Mind) (new : RoundLauncher T E W) : Type 0 where
     pub parts : List Part
     pub are_parts : AreParts (turns_in marks) parts
@@ -41,7 +41,7 @@ module _ {T E W : Type 0} where
     pub may : HadSeen s (lines_of marks parts) → MayBeLeftOut last s (lines_of marks parts)
     pub follows : Follows (run (handed_in (lines_of marks parts)) s) (last_read_in last (all_of (lines_of marks parts))) new
 
-  -- and the machine is at the last reading
+  -- and the machine is at the last clock reading
   pub record SpansOwn (s : State) (last : Reading) (m : Mind) (marks : List (Mark T)) (m' : Mind) (new : RoundLauncher T E W) : Type 0 where
     pub spans : Spans s last m marks m' new
     pub own : (run (handed_in (lines_of marks spans.parts)) s).reading ≡ last_read_in last (all_of (lines_of marks spans.parts))
@@ -49,11 +49,11 @@ module _ {T E W : Type 0} where
   abbrev pub KeepsTo : Mind → List (Mark T) → RoundLauncher T E W → Mind → RoundLauncher T E W → Type 0
   KeepsTo m marks old m' new = (s : State) (last : Reading) → HeardReadings marks → Follows s last old → Spans s last m marks m' new
 
-  -- what the looks remember, and whether the launcher accepted a load since
+  -- what the path checks remember, and whether the launcher accepted a load since
   abbrev pub mind : looks.Known → RoundLauncher T E W → Mind
   mind known r = record { known = known; loaded = r.has_loaded }
 
-  -- nothing was handed in to the looks
+  -- nothing was delivered to the path checks
   abbrev pub Keeps : List (Mark T) → RoundLauncher T E W → RoundLauncher T E W → Type 0
   Keeps marks old new = (known : looks.Known) → KeepsTo (mind known old) marks old (mind known new) new
 

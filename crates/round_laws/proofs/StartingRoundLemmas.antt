@@ -1,4 +1,4 @@
--- The round whose reading is late enough orders each start that is due.
+-- The pass whose clock reading is late enough orders each start that is due.
 use Rattle.std.proofs.Common.{◌≡◌, inl, inr, ℕ, Bool, true, false, List, [], ◌∷◌, ◌++◌, map, Option, Some, None, refl, sym, ap, subst, ◌∙◌, ◌+◌, append_assoc}
 use Rattle.std.proofs.lemmas.List.{append-nil}
 use Rattle.std.specs.List.{filter, flat_map}
@@ -130,7 +130,7 @@ module _ {T : Type 0} where
   started_by label t at turns s xs ys same (inr on) starts =
       inr (ap (λ (l : List (Label × Act)). filter (is_for label) l) same ∙ on.0, same_start label t on.1.0 at turns on.1.2 (starts on.1.0 on.1.1))
 
--- ---- a round
+-- ---- a pass
 
 module _ {T E W : Type 0} (calls : E → Option (List ToldCall)) (stores : T → Option (List StoreCall))
     (holds : T → List Setting → Type 0) (stamped : T → List Stamp → Type 0) where

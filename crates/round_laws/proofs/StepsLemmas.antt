@@ -1,4 +1,4 @@
--- What one turn leaves of what the looks remember; and which events are no reading of the clocks.
+-- What one turn leaves of what the path checks remember; and which events are not clock readings.
 use Rattle.std.specs.Prelude.{unwrap_or, if◌then◌else◌}
 use Rattle.history_model.specs.declared.Reading.{Reading}
 use Rattle.history_model.specs.Labels.{is_label}
@@ -28,7 +28,7 @@ use Rattle.live_loop.specs.Looks as looks
 use Rattle.round_laws.proofs.SeenLemmas.{Mind, Knows, IsPlain, plain, plain-if, happened-if, seen-on, sight-on}
 use Rattle.round_laws.proofs.QuietLemmas.{is_tick, ArePlain}
 
--- what came is a reading of the clocks
+-- what came is a clock reading
 abbrev pub is_clock : Incoming → Bool
 is_clock (happened (journaled.Clock at)) = true
 is_clock _ = false
@@ -75,7 +75,7 @@ answers-plain : (names : List Name) (ps : List Unheard) → ArePlain (map machin
 answers-plain names [] = tt
 answers-plain names (p ∷ ps) = (refl, answers-plain names ps)
 
--- the events of a reading that was heard: the reading, and what it caused
+-- the events of a clock reading that was heard: the clock reading, and what it caused
 pub record IsTicked (at : Reading) (es : List Event) : Type 0 where
   pub rest : List Event
   pub is : es ≡ Tick at ∷ rest
@@ -111,25 +111,25 @@ abbrev pub Steps : (T : Type 0) → Option Incoming → Option Refusal → Mind 
 Steps T event refusal m m' = (turn : Turn T) → turn.incoming ≡ event → turn.refusal ≡ refusal → (p : Part) → IsPartOf turn p → (s : State) →
     outcomes_in (p ∷ []) ≡ outcomes (map machine_event (events_in (p ∷ []))) s → Knows s m → Knows (run (map machine_event p.0) s) m'
 
--- of what is no sight: a load that is accepted is noted
+-- of what is not an observation: a load that is accepted is noted
 pub heeds : (T : Type 0) (event : Option Incoming) (refusal : Option Refusal) → IsPlain event → (known : looks.Known) (loaded : Bool) →
     Steps T event refusal (record { known = known; loaded = loaded }) (record { known = known; loaded = loaded || is_accepted_load event refusal })
 heeds T event refusal is_plain known loaded = λ turn is was p is_part s all knows none path obs at.
     let both = or-false loaded (is_accepted_load event refusal) none in
     seen-on turn p s is_part all (λ x came. is_plain x (sym is ∙ came)) ((λ i. is_accepted_load (is i) (was i)) ∙ both.1) path obs (knows both.0 path obs at)
 
--- and of what is no load either
+-- and of what is not a load either
 pub leaves : (T : Type 0) (event : Option Incoming) (refusal : Option Refusal) → IsPlain event → is_accepted_load event refusal ≡ false → (m : Mind) → Steps T event refusal m m
 leaves T event refusal is_plain no_load m = λ turn is was p is_part s all knows none path obs at.
     seen-on turn p s is_part all (λ x came. is_plain x (sym is ∙ came)) ((λ i. is_accepted_load (is i) (was i)) ∙ no_load) path obs (knows none path obs at)
 
--- of a sight
+-- of an observation
 pub notes : (T : Type 0) (path : List ℕ) (obs : Obs) (refusal : Option Refusal) → is_memory refusal ≢ true → (known known' : looks.Known) → looks.IsNoted path obs known known' → (loaded : Bool) →
     Steps T (Some (happened (journaled.Saw path obs))) refusal (record { known = known; loaded = loaded }) (record { known = known'; loaded = loaded })
 notes T path obs refusal had known known' noted loaded = λ turn is was p is_part s all knows.
     sight-on turn p s path obs is_part is (subst (λ (r : Option Refusal). is_memory r ≢ true) (sym was) had) known known' noted loaded knows
 
--- what happens to a job: no reading, no sight, no load
+-- what happens to a job: no reading, no observation, no load
 pub record IsOfJob (event : Option Incoming) : Type 0 where
   pub no_reading : NoClock event
   pub no_sight : IsPlain event
@@ -142,7 +142,7 @@ of_job label item = record {
   no_load = λ refusal. happened-if (is_label label) (journaled.OfJob label item) refusal;
 }
 
--- no load was accepted since the looks heeded one
+-- no load was accepted since the path checks took one into account
 abbrev pub heeded : looks.Known → Mind
 heeded known = record { known = known; loaded = false }
 

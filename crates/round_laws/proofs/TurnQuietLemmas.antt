@@ -1,4 +1,4 @@
--- One turn beside the machine: a reading, and what is handed in behind it.
+-- One turn of the launcher, and the machine: a clock reading, and what is delivered after it.
 use Rattle.history_model.specs.declared.Reading.{Reading}
 use Rattle.history_model.specs.News.{may_change}
 use Rattle.history_model.specs.Refusals.{is_clock_refused}
@@ -66,7 +66,7 @@ module _ {T E W : Type 0} (calls : E → Option (List ToldCall)) (stores : T →
             let steps = leaves T (Some (happened (journaled.Clock at))) refusal (plain (Some (happened (journaled.Clock at))) refl) refl m in
             spans-of turn p are.0 s m m (steps turn is was p are.0 s all) last at new c all led' kept is_at (own-again s.reading at allowed)
 
-  -- a reading that is the round's already
+  -- a clock reading that is the pass's already
   again_turn : (old new : RoundLauncher T E W) (heard : HeardReading calls stores holds stamped old new) → is_memory heard.refusal ≡ false → (m : Mind) (s : State) (last : Reading) → Follows s last old →
       SpansOwn s last m (of_reading calls stores holds stamped old new heard) m new
   again_turn old new heard had m s last f =
@@ -81,7 +81,7 @@ module _ {T E W : Type 0} (calls : E → Option (List ToldCall)) (stores : T →
   reads old new (inl own) m s last had f = record { spans = same_to m own.1 s last tt f; own = sym f.keeps.reading ∙ own.0 ∙ f.at }
   reads old new (inr moves) m s last had f = again_turn old new moves.1 had.0 m s last f
 
-  -- a reading is no load
+  -- a clock reading is not a load
   reads_loaded : (old new : RoundLauncher T E W) → Reads calls stores holds stamped old new → new.has_loaded ≡ old.has_loaded
   reads_loaded old new (inl own) = ap (λ (r : RoundLauncher T E W). r.has_loaded) own.1
   reads_loaded old new (inr moves) = moves.1.loaded
@@ -91,7 +91,7 @@ module _ {T E W : Type 0} (calls : E → Option (List ToldCall)) (stores : T →
       (λ s last had f. (reads old new r (mind known old) s last had f).spans)
   missed false old new is = same is
 
-  -- a reading that is taken, and handed in or spared
+  -- a clock reading that is taken, and delivered or spared
   news : (first begun new : RoundLauncher T E W) → ReadsClock calls stores holds stamped first begun → (n : HandsNews calls stores holds stamped begun new) →
       Keeps (of_news calls stores holds stamped n.is_news begun new n.handed) first new
   news first begun new r n = λ known s last had f.

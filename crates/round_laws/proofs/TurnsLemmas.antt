@@ -1,4 +1,4 @@
--- What rounds do to a launcher is a list of turns, between which only the edge was asked.
+-- What passes do to a launcher is a list of turns, between which only the edge was asked.
 use Rattle.std.proofs.Common.{◌≡◌, inl, inr, ℕ, Bool, true, false, List, [], ◌∷◌, ◌++◌, Option, Some, None, refl, sym, ap, subst, ◌∙◌}
 use Rattle.std.proofs.lemmas.List.{append-nil}
 use Rattle.std.specs.Prelude.{Result, Ok, Err}

@@ -1,4 +1,4 @@
--- What an edge is called for in rounds: within each turn for what the turn says, and between turns for questions alone.
+-- What an edge is called for in passes: within each turn for what the turn says, and between turns for questions alone.
 use Rattle.std.specs.Prelude.{◌≡◌, ℕ, Bool, true, false, List, [], ◌∷◌, Option}
 use Rattle.std.specs.List.{AllByRecursion}
 use Rattle.child_edge.specs.Calls.{Tells, ToldCall}

@@ -1,4 +1,4 @@
--- Starts that are due at the reading of a round, and the turn in which they are ordered.
+-- Starts that are due at the clock reading of a pass, and the turn in which they are ordered.
 use Rattle.std.specs.Prelude.{◌≡◌, ◌⊎◌, ℕ, [], Bool, ◌+◌, true, false, List, ◌∷◌, ◌++◌, map, Option, Some, None, Result, ⊤}
 use Rattle.std.specs.List.{AllByRecursion, filter, flat_map}
 use Rattle.history_model.specs.declared.Act.{Act}
@@ -34,7 +34,7 @@ use Rattle.jobd.specs.declared.round_launcher.RoundLauncher.{RoundLauncher}
 use Rattle.round_laws.specs.Marks.{turns_in}
 use Rattle.round_laws.specs.RoundMarks.{launcher, marks_of, of_missed}
 
--- the label's job, with this past, needs no event, and is wanted and free from a moment on that the reading is not before
+-- the label's job, with this past, needs no event, and is wanted and free from a time on that the clock reading is not before
 pub record IsDueAt (s : State) (label : Label) (past : History) (at : Reading) : Type 0 where
   pub loaded : past_of s label ≡ Some past
   pub period : HasPeriod past
@@ -59,7 +59,7 @@ pub record OrdersStart {T : Type 0} (label : Label) (past : History) (turn : Tur
   pub accepted : turn.refusal ≡ None
   pub order : first (filter (is_for label) are.reply.orders) ≡ Some (start_of label past)
 
--- one of these turns is that of the reading, and orders a start of the job
+-- one of these turns is that of the clock reading, and orders a start of the job
 pub record IsStartedIn {T : Type 0} (label : Label) (past : History) (at : Reading) (turns : List (Turn T)) : Type 0 where
   pub before : List (Turn T)
   pub turn : Turn T
@@ -68,8 +68,8 @@ pub record IsStartedIn {T : Type 0} (label : Label) (past : History) (at : Readi
   pub reads : turn.incoming ≡ Some (happened (journaled.Clock at))
   pub starts : OrdersStart label past turn
 
--- The machine s came by these turns to one for which the table stands; and of that one each job of which a start is due at the reading
--- is started in the later turns.
+-- The machine s came by these turns to one that the table represents. Each job of that machine whose start is due at
+-- the clock reading is started in the later turns.
 pub record StartsAllDue {T : Type 0} (s : State) (turns : List (Turn T)) (table : Table) (at : Reading) (later : List (Turn T)) : Type 0 where
   pub parts : List Part
   pub are_parts : AreParts turns parts
@@ -79,13 +79,14 @@ pub record StartsAllDue {T : Type 0} (s : State) (turns : List (Turn T)) (table 
   pub starts : (label : Label) (past : History) →
       IsDueAt (run (map machine_event (events_in parts)) s) label past at → IsStartedIn label past at later
 
--- the first that these orders tell of the job is its start; or they tell nothing of it, and it is started in the later turns
+-- the first of these orders for the job is its start; or there is none for it, and it is started in the later turns
 abbrev pub IsStartedBy : {T : Type 0} → Label → History → List (Label × Act) → Reading → List (Turn T) → Type 0
 IsStartedBy label past orders at later = (first (filter (is_for label) orders) ≡ Some (start_of label past))
     ⊎ ((filter (is_for label) orders ≡ []) × IsStartedIn label past at later)
 
--- The machine s came by some turns to one for which the table stands. Each of its jobs of which a start is due at the reading is started in
--- the turns that came then, or in the later ones, if the events of the former leave it alone.
+-- The machine s came by some turns to one that the table represents. Each of its jobs whose start is due at the clock
+-- reading is started if the events of the next turns leave it alone. It is started in those turns, or in the later
+-- ones.
 pub record StartsWhatWaits {T : Type 0} (s : State) (turns : List (Turn T)) (table : Table) (meanwhile : List (Turn T)) (at : Reading) (later : List (Turn T)) : Type 0 where
   pub parts : List Part
   pub are_parts : AreParts turns parts
@@ -99,7 +100,7 @@ pub record StartsWhatWaits {T : Type 0} (s : State) (turns : List (Turn T)) (tab
 module _ {T E W : Type 0} (calls : E → Option (List ToldCall)) (stores : T → Option (List StoreCall))
     (holds : T → List Setting → Type 0) (stamped : T → List Stamp → Type 0) (Finds : ℕ → Option (ℕ × ℕ) → E → E → Type 0) (Looks : List ℕ → Result Obs EdgeFault → E → E → Type 0)
     (Accepts : ℕ → E → E → Type 0) (Holds : ℕ → ℕ → List ℕ → Bool → E → E → Type 0) where
-  -- the turns of some rounds, and of the next one those before its clocks are read: that of a reading for which memory was wanting
+  -- the turns of some passes, and of the next one those before its clocks are read: that of a clock reading for which memory was wanting
   abbrev pub turns_before : {first mid last : Left (RoundLauncher T E W)} → AreRounds (launcher calls stores holds stamped Finds Looks Accepts Holds) first mid →
       IsRound (launcher calls stores holds stamped Finds Looks Accepts Holds) mid last → List (Turn T)
   turns_before more round = turns_in (marks_of calls stores holds stamped Finds Looks Accepts Holds more

@@ -1,4 +1,4 @@
--- What becomes of each client of a job's socket, from its coming to its number, over any rounds.
+-- What becomes of each client of a job's socket, from its coming to its number, over any passes.
 use mathlib.Core.Logic.{inl, inr}
 use Rattle.std.specs.Prelude.{◌≡◌, ◌==◌, ◌+◌, ℕ, List, [], ◌∷◌, ◌++◌, Option, Some, None, if◌then◌else◌, ⊤}
 use Rattle.job_clients.specs.Callers.{Coming, GrowsFrom, IsShort, MayComeIn}
@@ -6,8 +6,9 @@ use Rattle.job_clients.specs.declared.caller.Origin.{Origin}
 use Rattle.live_loop.specs.declared.loop_host.HandedIn.{HandedIn}
 use Rattle.live_loop.specs.Rounds.{AreRounds, Desk, Gathers, Launcher, Left, LetsGo, MayGrow, nobody, asked, taken, heard, went, came, no_round, one_round}
 
--- What happened to a client, under the key under which it is held meanwhile: it was taken at these sockets; some bytes of its request came; it was
--- let go; or it was handed in, under a number, for a job, with a request. With the launcher before and after that.
+-- What happened to a client, under the key under which it is held meanwhile. It was taken at these sockets; or some
+-- bytes of its request came; or it was disconnected; or it was delivered, under a number, for a job, with a request.
+-- With the launcher before and after that.
 pub data Deed (H : Type 0) : Type 0 where
   Took : (key : ℕ) → Origin → (old new : H) → Deed H
   Sent : (key : ℕ) → List ℕ → Deed H
@@ -19,8 +20,8 @@ abbrev pub with_more : List ℕ → Option Coming → Option Coming
 with_more bytes None = None
 with_more bytes (Some client) = Some (record { origin = client.origin; request = client.request ++ bytes })
 
--- The client that is held under the key after all this, which has the newest first: the last one that was taken under it, if it is there still, with
--- all bytes that came of its request since then, joined in their order.
+-- The client that is held under the key after all this, which has the newest first. It is the last one that was taken
+-- under it, if it is there still. It has all bytes that came of its request since then, joined in their order.
 abbrev pub held_under : {H : Type 0} → ℕ → List (Deed H) → Option Coming
 held_under key [] = None
 held_under key (Took its origin old new ∷ past) = if its == key then Some (record { origin = origin; request = [] }) else held_under key past
@@ -28,7 +29,7 @@ held_under key (Sent its bytes ∷ past) = if its == key then with_more bytes (h
 held_under key (LetGo its ∷ past) = if its == key then None else held_under key past
 held_under key (Handed its conn job request answer old new ∷ past) = if its == key then None else held_under key past
 
--- as many were handed in
+-- how many were delivered
 abbrev pub how_many : {H : Type 0} → List (Deed H) → ℕ
 how_many [] = 0
 how_many (Took key origin old new ∷ past) = how_many past
@@ -41,8 +42,8 @@ abbrev pub IsItsOwn : ℕ → List ℕ → Option Coming → Type 0
 IsItsOwn job request None = ⊥
 IsItsOwn job request (Some client) = (job ≡ client.origin.job) × (request ≡ client.request) × IsShort request
 
--- Each client was taken by a call of the launcher, at a socket of the job for which it is held, under a key that was free. Each that was handed in
--- was held, and was handed in for that job, with all bytes that came of its request and no others, under the next number, from 1 on.
+-- Each client was taken by a call of the launcher, at a socket of the job for which it is held, under a key that was free. Each that was delivered
+-- was held, and was delivered for that job, with all bytes that came of its request and no others, under the next number, from 1 on.
 abbrev pub AreFollowed : {H : Type 0} → Launcher H → List (Deed H) → Type 0
 AreFollowed it [] = ⊤
 AreFollowed it (Took key origin old new ∷ past) = it.Taken origin.job old new × (held_under key past ≡ None) × AreFollowed it past
@@ -51,7 +52,7 @@ AreFollowed it (LetGo key ∷ past) = AreFollowed it past
 AreFollowed it (Handed key conn job request answer old new ∷ past) = it.Came conn job request answer old new
     × (conn ≡ how_many past + 1) × IsItsOwn job request (held_under key past) × AreFollowed it past
 
--- ---- what happened, read off rounds
+-- ---- what happened, read off passes
 
 abbrev pub gone_by : {H : Type 0} {old new : ℕ → Option Coming} → LetsGo old new → List (Deed H) → List (Deed H)
 gone_by (inl same) past = past
@@ -70,7 +71,7 @@ grown_by (inl same) past = past
 grown_by {old = old} {new = new} (inr grown) past = grown_from grown.0 (old grown.0) old new grown.1 past
 
 module _ {H : Type 0} (it : Launcher H) where
-  -- those of a round, behind what happened before
+  -- those of a pass, after what happened before
   abbrev pub deeds_in : {first : Desk} {from : H} {desk : Desk} {new : H} → Gathers it.Asked it.Taken it.Came first from desk new → List (Deed H) → List (Deed H)
   deeds_in nobody past = past
   deeds_in (asked more asks) past = deeds_in more past
@@ -81,7 +82,7 @@ module _ {H : Type 0} (it : Launcher H) where
   deeds_in (came {key = key} {client = client} {answer = answer} {desk = desk} {mid = mid} {new = new} more is set comes) past =
       Handed key desk.conn client.origin.job client.request answer mid new ∷ deeds_in more past
 
-  -- those of all rounds, the newest first
+  -- those of all passes, the newest first
   abbrev pub deeds_of : {first last : Left H} → AreRounds it first last → List (Deed H)
   deeds_of no_round = []
   deeds_of (one_round more round) = deeds_in round.serves.gathers (deeds_of more)

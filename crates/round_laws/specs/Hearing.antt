@@ -1,4 +1,4 @@
--- What a launcher decides that is spared of something, beside a machine that hears all of it.
+-- What a launcher decides that is spared of something, compared with a machine that hears all of it.
 use Rattle.std.specs.Prelude.{◌≡◌, false, ⊤, List, [], ◌∷◌, ◌++◌, map, Option, Some}
 use Rattle.std.specs.List.{AllByRecursion}
 use Rattle.history_model.specs.declared.Refusal.{Refusal}
@@ -12,7 +12,7 @@ use Rattle.launcher.specs.LoadTurns.{is_memory}
 use Rattle.launcher_laws.specs.TurnRuns.{Part, AreParts, outcomes_in}
 use Rattle.round_laws.specs.Marks.{Mark, Turned, Spared, turns_in}
 
--- All that happened to the machine, in order: of each turn its events, which were handed in; and what it was spared.
+-- All that happened to the machine, in order: of each turn its events, which were delivered; and what it was spared.
 abbrev pub lines_of : {T : Type 0} → List (Mark T) → List Part → List Line
 lines_of [] parts = []
 lines_of (Turned turn ∷ marks) [] = []
@@ -24,12 +24,12 @@ pub record DecideAsOne {T : Type 0} (s : State) (marks : List (Mark T)) (parts :
   pub same : outcomes_in parts ≡ outcomes_handed (lines_of marks parts) s
   pub silent : AllByRecursion (λ (out : Outcome). out.orders ≡ []) (outcomes_left (lines_of marks parts) s)
 
--- memory was not wanting, if this was a reading of the clocks
+-- memory was not wanting, if this was a clock reading
 abbrev pub HadMemory : Option Incoming → Option Refusal → Type 0
 HadMemory (Some (happened (journaled.Clock at))) refusal = is_memory refusal ≡ false
 HadMemory _ refusal = ⊤
 
--- so at each reading that was handed in
+-- so at each clock reading that was delivered
 abbrev pub HeardReadings : {T : Type 0} → List (Mark T) → Type 0
 HeardReadings [] = ⊤
 HeardReadings (Turned turn ∷ marks) = HadMemory turn.incoming turn.refusal × HeardReadings marks

@@ -1,4 +1,4 @@
--- What a launcher heard in rounds, and what it was spared.
+-- What a launcher heard in passes, and what it was spared.
 use Rattle.std.specs.Prelude.{ℕ, List, [], ◌∷◌, Option}
 use Rattle.history_model.specs.declared.Refusal.{Refusal}
 use Rattle.history_model.specs.declared.event.Event as journal
@@ -9,7 +9,7 @@ use Rattle.launcher.specs.Inputs.{Incoming}
 use Rattle.launcher.specs.Hosts.{stands}
 use Rattle.launcher_laws.specs.TurnRuns.{Snapshot, Turn}
 
--- a turn that the launcher made; or a reading, or a sight, of which it heard nothing
+-- a turn that the launcher made; or a clock reading, or an observation, of which it heard nothing
 pub data Mark (T : Type 0) : Type 0 where
   Turned : Turn T → Mark T
   Spared : journal.Event → Mark T
@@ -21,7 +21,7 @@ turns_in (Turned turn ∷ marks) = turn ∷ turns_in marks
 turns_in (Spared event ∷ marks) = turns_in marks
 
 module _ {T E W : Type 0} (calls : E → Option (List ToldCall)) (stores : T → Option (List StoreCall)) where
-  -- how a launcher stands, with its store
+  -- the state of a launcher, with its store
   abbrev pub snapshot : Host T E W → Snapshot T
   snapshot host = record { stands = stands calls stores host; store = host.store }
 

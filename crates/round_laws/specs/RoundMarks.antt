@@ -1,4 +1,4 @@
--- The marks of rounds: each turn that they made, in order, and each reading and sight of which the launcher heard nothing.
+-- The marks of passes: each turn that they made, in order, and each clock reading and observation of which the launcher heard nothing.
 use mathlib.Core.Logic.{inl, inr}
 use Rattle.std.specs.Prelude.{ℕ, Bool, true, false, List, [], ◌∷◌, ◌++◌, Option, Some, None, Result, Ok, Err}
 use Rattle.history_model.specs.declared.Ended.{Ended}
@@ -26,7 +26,7 @@ module _ {T E W : Type 0} (calls : E → Option (List ToldCall)) (stores : T →
     (Finds : ℕ → Option (ℕ × ℕ) → E → E → Type 0)
     (Looks : List ℕ → Result Obs EdgeFault → E → E → Type 0) (Accepts : ℕ → E → E → Type 0)
     (Holds : ℕ → ℕ → List ℕ → Bool → E → E → Type 0) where
-  -- what a round asks of the launcher of `jobd`, and hands in to it
+  -- what a pass asks of the launcher of `jobd`, and delivers to it
   abbrev pub launcher : rounds.Launcher (RoundLauncher T E W)
   launcher = record {
     round_up = λ round. round.at.up;
@@ -42,9 +42,9 @@ module _ {T E W : Type 0} (calls : E → Option (List ToldCall)) (stores : T →
 
 module _ {T E W : Type 0} (calls : E → Option (List ToldCall)) (stores : T → Option (List StoreCall))
     (holds : T → List Setting → Type 0) (stamped : T → List Stamp → Type 0) where
-  -- ---- readings
+  -- ---- clock readings
 
-  -- a reading that was handed in
+  -- a clock reading that was delivered
   abbrev pub of_reading : (old new : RoundLauncher T E W) → HeardReading calls stores holds stamped old new → List (Mark T)
   of_reading old new heard =
       turned calls stores (Some (happened (journaled.Clock old.at))) heard.refusal heard.words old.host new.host ∷ []
@@ -58,7 +58,7 @@ module _ {T E W : Type 0} (calls : E → Option (List ToldCall)) (stores : T →
   of_missed true old new reads = of_reads old new reads
   of_missed false old new same = []
 
-  -- a reading that is no news is spared
+  -- a clock reading that is not news is spared
   abbrev pub of_news : (is_news : Bool) (old new : RoundLauncher T E W) →
       HeardIf calls stores holds stamped is_news old new → List (Mark T)
   of_news true old new heard = of_reading old new heard
@@ -68,7 +68,7 @@ module _ {T E W : Type 0} (calls : E → Option (List ToldCall)) (stores : T →
   of_begins old new begins = of_missed old.is_refused (record old { is_active = false }) begins.first begins.missed
       ++ of_news begins.news.is_news begins.begun new begins.news.handed
 
-  -- ---- what is handed in behind the reading of the round
+  -- ---- what is delivered after the clock reading of the pass
 
   abbrev pub of_gives : (event : Option Incoming) (refusal : Option Refusal) (words : List ℕ) (old new : RoundLauncher T E W) →
       Gives calls stores holds stamped event refusal words old new → List (Mark T)
@@ -101,7 +101,7 @@ module _ {T E W : Type 0} (calls : E → Option (List ToldCall)) (stores : T →
 
   -- ---- paths
 
-  -- a sight that is what was handed in last is spared
+  -- an observation that is what was delivered last is spared
   abbrev pub of_sight : (Looks : List ℕ → Result Obs EdgeFault → E → E → Type 0) (path : List ℕ) (seen : Option Obs) (old : RoundLauncher T E W) (known : looks.Known) (new : RoundLauncher T E W) (known' : looks.Known) →
       looks.TakesIf (DoesPath calls stores holds stamped Looks) path seen old known new known' → List (Mark T)
   of_sight Looks path None old known new known' none = []
@@ -142,7 +142,7 @@ module _ {T E W : Type 0} (calls : E → Option (List ToldCall)) (stores : T →
   of_clients Accepts Holds (rounds.came {client = client} {answer = answer} {desk = desk} {mid = mid} {new = new} gathers is set comes) =
       of_clients Accepts Holds gathers ++ of_client comes.label client.origin.job desk.conn answer (lent comes.edge mid) new comes.handed
 
-  -- ---- whole rounds
+  -- ---- whole passes
 
   module _ (Finds : ℕ → Option (ℕ × ℕ) → E → E → Type 0) (Looks : List ℕ → Result Obs EdgeFault → E → E → Type 0)
       (Accepts : ℕ → E → E → Type 0) (Holds : ℕ → ℕ → List ℕ → Bool → E → E → Type 0) where
@@ -158,7 +158,7 @@ module _ {T E W : Type 0} (calls : E → Option (List ToldCall)) (stores : T →
         ++ (of_looks round.polled old round.looked new round.looks
         ++ (of_serves round.serves.serves ++ (of_clients Accepts Holds round.serves.gathers ++ of_serves round.serves.again))))
 
-    -- all that they hand in, round after round
+    -- all that they deliver, pass after pass
     abbrev pub marks_of : {first last : rounds.Left (RoundLauncher T E W)} →
         rounds.AreRounds (launcher calls stores holds stamped Finds Looks Accepts Holds) first last → List (Mark T)
     marks_of rounds.no_round = []

@@ -1,5 +1,5 @@
-//! What holds of a launcher over any list of rounds. The functions do nothing: their contracts are the laws. A round is what
-//! `live_loop::round` promises of it; each begins with what the one before left.
+//! What holds of a launcher over any list of passes of the event loop. The functions do nothing: their contracts are
+//! the laws. A pass is what `live_loop::round` promises of it; each begins with what the one before left.
 
 ghost use Rattle.std.specs.Prelude.{◌≡◌, false, List, Option};
 ghost use Rattle.child_edge.specs.Calls.{ToldCall};
@@ -30,7 +30,8 @@ use jobd::{RoundEdge, RoundLauncher};
 use outside::SettingStore;
 use std::io::Write;
 
-/// Any rounds are turns, one after another, between which only the edge was asked: those of what each round found, in its order.
+/// Any passes are turns, one after another, between which only the edge was asked. They are the turns of what each pass
+/// found, in its order.
 pub fn rounds_are_turns<T: SettingStore, E: RoundEdge, W: Write>(round: &RoundLauncher<T, E, W>)
     ensures { (first last : Left (Launcher T E W)) →
         (rounds : AreRounds (launcher E.told T.told T.holds T.stamped E.Finds E.Looks E.Accepts E.Holds) first last) →
@@ -41,9 +42,9 @@ pub fn rounds_are_turns<T: SettingStore, E: RoundEdge, W: Write>(round: &RoundLa
     let _ = round;
 }
 
-/// Over any rounds the edge is called within turns, for what each turn says, and else for questions alone: it is asked after a child, a path or
-/// the clocks, or closes a connection (that of a client that was refused, by `TellsCame` of `jobd`). By no round is a child started or signalled, or a
-/// socket bound or given up, but by a turn.
+/// Over any passes, the edge is called within turns for what each turn says. Between turns it gets questions alone,
+/// about a child, a path or the clocks. Or it closes a connection: that of a client that was refused, by `TellsCame` of
+/// `jobd`. Only a turn starts or signals a child, and binds or gives up a socket.
 pub fn between_turns_are_questions<T: SettingStore, E: RoundEdge, W: Write>(
     round: &RoundLauncher<T, E, W>,
 )
@@ -56,8 +57,8 @@ pub fn between_turns_are_questions<T: SettingStore, E: RoundEdge, W: Write>(
     let _ = round;
 }
 
-/// The turns of a launcher that was spared readings and sights decide as if all of them had been handed in, if each that it was spared may be
-/// left out.
+/// A launcher was not given some clock readings and observations, each of which may be left out. Its turns decide as if
+/// all of them had been delivered.
 pub fn what_was_spared_changes_nothing<T: SettingStore>(store: &T)
     ensures { (header : Header) (calls : Option (List ToldCall)) (stores : Option (List StoreCall))
         (journal : JournalState) (first last : Snapshot T) (marks : List (Mark T)) →
@@ -70,9 +71,10 @@ pub fn what_was_spared_changes_nothing<T: SettingStore>(store: &T)
     let _ = store;
 }
 
-/// Any rounds of a new launcher, to which no sight was handed in yet, decide as if each reading and each sight had been handed in, in the
-/// order of the rounds. Each reading that it was spared was no news; each sight that it was spared, each job that lists the path saw so
-/// last; and all else was handed in at the last reading. Memory was not wanting at a reading.
+/// Take any passes of a new launcher, to which no observation was delivered yet. They decide as if each clock reading
+/// and each observation had been delivered, in the order of the passes. No clock reading that was left out was news.
+/// Where an observation was left out, each job that lists the path had last seen the same. All else was delivered at
+/// the last clock reading. The condition: memory was not wanting at a clock reading.
 pub fn rounds_decide_as_one<T: SettingStore, E: RoundEdge, W: Write>(round: &RoundLauncher<T, E, W>)
     ensures { (header : Header) (calls : Option (List ToldCall)) (stores : Option (List StoreCall))
         (journal : JournalState) (before : T) (first last : Left (Launcher T E W)) →
@@ -86,10 +88,10 @@ pub fn rounds_decide_as_one<T: SettingStore, E: RoundEdge, W: Write>(round: &Rou
     let _ = round;
 }
 
-/// Over any rounds of a new loop each client of a job's socket is followed from its coming to its number. The edge took it at a socket of its
-/// job. It was handed in at most once: for that job, with all that was read of its request in between and nothing else, at most 65,536 bytes, and
-/// under the number behind that of the client before. The edge was given its connection under that number, and then the job heard of it, as
-/// `ComesIn` says.
+/// Over any passes of a new loop each client of a job's socket is followed from its coming to its number. The edge took
+/// it at a socket of its job. It was delivered at most once, for that job, under the number after that of the client
+/// before. It came with all that was read of its request in between and nothing else, at most 65,536 bytes. The edge
+/// was given its connection under that number, and then the job heard of it, as `ComesIn` says.
 pub fn each_client_is_followed<T: SettingStore, E: RoundEdge, W: Write>(
     round: &RoundLauncher<T, E, W>,
 )
@@ -101,9 +103,10 @@ pub fn each_client_is_followed<T: SettingStore, E: RoundEdge, W: Write>(
     let _ = round;
 }
 
-/// A job that is wanted and free from a moment on, and needs no event, is ordered to start in the first round whose reading is not before
-/// that moment. The reading is handed in, and the start is ordered in its turn. So it is of each machine for which the table stands when the
-/// clocks were read, if it accepts the reading. Memory was not wanting at a reading.
+/// A job is wanted and free from some time on, and needs no event. It is ordered to start in the first pass whose clock
+/// reading is not before that time. That clock reading is delivered, and the start is ordered in its turn. This holds
+/// of each machine that the table represented when the clocks were read, if it accepts the clock reading. The
+/// condition: memory was not wanting at a clock reading.
 pub fn a_due_start_is_ordered_in_its_round<T: SettingStore, E: RoundEdge, W: Write>(
     round: &RoundLauncher<T, E, W>,
 )
@@ -115,7 +118,7 @@ pub fn a_due_start_is_ordered_in_its_round<T: SettingStore, E: RoundEdge, W: Wri
         (label : Label) (past : History) → IsDueAt s label past round.begins.begun.at →
         IsStartedIn label past round.begins.begun.at
         (turns_in (of_round E.told T.told T.holds T.stamped E.Finds E.Looks E.Accepts E.Holds old new round)) }
-    // So it is in each round of a new launcher, which takes no reading that the machine refuses.
+    // This holds in each pass of a new launcher: it takes only clock readings that the machine accepts.
     ensures each { (header : Header) (calls : Option (List ToldCall)) (stores : Option (List StoreCall))
         (journal : JournalState) (before : T) (first old new : Left (Launcher T E W)) →
         (opened : IsNew header calls stores journal (stands E.told T.told first.host.host)
@@ -127,8 +130,8 @@ pub fn a_due_start_is_ordered_in_its_round<T: SettingStore, E: RoundEdge, W: Wri
         StartsAllDue opened.machine (turns_before E.told T.told T.holds T.stamped E.Finds E.Looks E.Accepts E.Holds more round)
         round.begins.begun.host.table round.begins.begun.at
         (turns_in (of_round E.told T.told T.holds T.stamped E.Finds E.Looks E.Accepts E.Holds old new round)) }
-    // And a job that waits so after any rounds is started in the rounds that come then, or in the first one whose reading is late enough, if nothing
-    // happens to it meanwhile but that the clocks are read.
+    // And a job may wait so after any passes. It is started in the passes that come then, or in the first one whose
+    // clock reading is late enough. This holds if nothing happens to it meanwhile but that the clocks are read.
     ensures waits { (header : Header) (calls : Option (List ToldCall)) (stores : Option (List StoreCall))
         (journal : JournalState) (before : T) (first from old new : Left (Launcher T E W)) →
         (opened : IsNew header calls stores journal (stands E.told T.told first.host.host)

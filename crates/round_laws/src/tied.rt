@@ -1,4 +1,4 @@
-//! The rounds of the program are those of which the laws speak.
+//! The passes of the program are those of which the laws speak.
 
 ghost use Rattle.std.specs.Prelude.{OnOk};
 ghost use Rattle.live_loop.specs.Kept.{left_in};
@@ -11,7 +11,7 @@ use outside::SettingStore;
 use std::alloc::Global;
 use std::io::Write;
 
-/// A round of a live loop over the launcher of `jobd`, as `live_loop::round` makes it.
+/// A pass of a live loop over the launcher of `jobd`, as `live_loop::round` makes it.
 pub fn round<R: System, T: SettingStore, E: RoundEdge, W: Write>(
     rt: &R,
     alloc: Global,

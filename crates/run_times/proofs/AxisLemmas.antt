@@ -4,7 +4,7 @@ use Rattle.std.proofs.Math.Nat.{mul-le-mul_right, div-le_of_le-mul, le_trans}
 use Rattle.std.proofs.lemmas.Nat.{mul-le}
 use Rattle.run_times.specs.Axis.{HasBegun, IsPlace}
 
--- a part of the span stands within the places
+-- a part of the span is within the places
 pub place_fits : (m w d : ℕ) → m ≤ d → m * w / d ≤ w
 place_fits m w d h = div-le_of_le-mul d (mul-le-mul_right w h)
 
@@ -18,7 +18,7 @@ begun_later from until places at later place h begun =
     let gone : at - from ≤ later - from = omega (arith, h) in
     le_trans begun (mul-le-mul_right places gone)
 
--- what lies between two seconds of one place stands there too
+-- what is between two seconds of one place is there too
 pub between : (from until places first last at place : ℕ) → first ≤ at → at ≤ last → IsPlace from until places first place
     → IsPlace from until places last place → IsPlace from until places at place
 between from until places first last at place h k (fits, begun, _) (_, _, least) = (

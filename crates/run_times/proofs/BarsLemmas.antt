@@ -29,7 +29,7 @@ added_one_more bars at other was before now there earlier added =
 pub added_all : (bars : List Bar) (at was now : ℕ) → length bars ≤ at → now ≡ was + runs_in (take at bars) → now ≡ was + runs_in bars
 added_all bars at was now over added = added ∙ ap (λ b. was + runs_in b) (take_all at bars over)
 
--- bars lie whole in a place if the first second of them stands there, and the last
+-- bars are whole in a place if the first second of them is there, and the last
 pub lie_together : (axis : Axis) (last next : Bar) (first until behind far begin end : ℕ) → first ≡ min last.from next.from → until ≡ max last.until next.until
     → behind ≡ max until last.from → far ≡ max behind next.from → begin ≡ end → IsPlace axis.from axis.until axis.places first begin
     → IsPlace axis.from axis.until axis.places (max first far) end → LiesIn axis begin last × LiesIn axis begin next

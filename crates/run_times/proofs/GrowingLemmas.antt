@@ -1,4 +1,4 @@
--- What is written stays, and what is written after it stands behind it.
+-- What is written stays, and what is written after it follows it.
 use Rattle.std.proofs.Common.{◌≡◌, ◌≢◌, ◌++◌, [], ◌∙◌, ap, sym, ℕ, List, true, false, true≢false, append-nil, append_assoc, string_bytes}
 use Rattle.run_times.specs.declared.ink.Ink.{Ink}
 use Rattle.run_times.specs.Written.{Adds, Grows}

@@ -1,4 +1,5 @@
--- A reading so many seconds later makes the spawn due by the clock alone, or by a calendar entry; and the least such number.
+-- A clock reading that is a number of seconds later makes the spawn due by the clock alone, or by a calendar entry; and the
+-- least such number.
 use Rattle.std.proofs.Common.{◌≡◌, ℕ, ◌+◌, ◌*◌, ◌<◌, ◌≤◌, Bool, true, false, not, ◌&&◌, ◌||◌, cond, List, [], ◌∷◌, length, ◌==◌, ap, Option, Some, None, unwrap_or, refl, sym, ◌∙◌, nat_lt, nat_le, arith}
 use Rattle.std.specs.Prelude.{◌-◌, max, IfSome}
 use Rattle.std.specs.List.{list_any}
@@ -32,7 +33,7 @@ apart false false false true true = refl
 apart false false false true false = refl
 apart false false false false free = refl
 
--- the throttle's end that is told decides at every later moment
+-- the throttle's end in the reasons decides at every later time
 free-told : (t : History) (up : ℕ) → (now t).up ≤ up → nat_le (free_from t) up ≡ nat_le (unwrap_or (throttled_until t) 0) up
 free-told t up rising = go (is_throttled t) (free-at (now t).up t) where
   go : (b : Bool) → nat_lt (now t).up (free_from t) ≡ b → nat_le (free_from t) up ≡ nat_le (unwrap_or (cond b (Some (free_from t)) None) 0) up

@@ -1,4 +1,5 @@
--- When the run of a bar lived, which bars stand together, and how many runs the bars of a row stand for.
+-- When the run of a bar was running, which bars are kept together, and how many runs the bars of a row are
+-- for.
 use Rattle.std.specs.Prelude.{ℕ, List, [], ◌∷◌, ◌++◌, ◌≡◌, ◌≤◌, ◌+◌, ◌⊎◌, max}
 use Rattle.std.specs.List.{sum_by}
 use Rattle.run_times.specs.declared.picture.axis.Axis.{Axis}
@@ -7,7 +8,7 @@ use Rattle.run_times.specs.declared.picture.chart.End.{End}
 use Rattle.run_times.specs.declared.picture.chart.End.TheVariants.{Lives}
 use Rattle.run_times.specs.Axis.{IsPlace}
 
--- a run that began and ended at these seconds, or that lives, was there at the second
+-- a run that began and ended at these seconds, or that is running, was there at the second
 abbrev pub WasThere : End → ℕ → ℕ → ℕ → Type 0
 WasThere Lives begun ended at = begun ≤ at
 WasThere _ begun ended at = (begun ≤ at) × (at ≤ ended)
@@ -16,7 +17,8 @@ WasThere _ begun ended at = (begun ≤ at) × (at ≤ ended)
 abbrev pub Covers : Bar → ℕ → Type 0
 Covers bar at = (bar.from ≤ at) × (at ≤ bar.until)
 
--- the second at which the bar of a run ends: that of the run's end, or of the axis's end if the run lives
+-- the second at which the bar of a run ends: that of the run's end, or of the axis's end if the run is
+-- running
 abbrev pub bar_end : End → ℕ → ℕ → ℕ
 bar_end Lives last ended = last
 bar_end _ last ended = ended
@@ -50,6 +52,6 @@ pub record IsJoined (axis : Axis) (bar : Bar) (old new : List Bar) : Type 0 wher
   pub is : new ≡ others ++ both ∷ []
   pub joins : Joins axis last bar both
 
--- a bar was added: it stands behind the others, or it is joined to the last of them
+-- a bar was added: it follows the others, or it is joined to the last of them
 abbrev pub IsAdded : Axis → Bar → List Bar → List Bar → Type 0
 IsAdded axis bar old new = (new ≡ old ++ bar ∷ []) ⊎ IsJoined axis bar old new

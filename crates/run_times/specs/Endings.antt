@@ -6,7 +6,7 @@ use Rattle.std.specs.declared.io.ErrorKind.{ErrorKind}
 use Rattle.std.specs.declared.io.ErrorKind.TheVariants.{OutOfMemory, BrokenPipe}
 use Rattle.exit_status.specs.declared.TheConstants.{NO_MEMORY, READER_GONE, BAD_OUTPUT}
 
--- the exit status: memory was refused, the reader of the standard output has gone, or else the
+-- the exit status: memory was refused, the reader of the standard output has closed it, or else the
 -- standard output failed
 abbrev pub status_of_end : ErrorKind → ℕ
 status_of_end OutOfMemory = NO_MEMORY

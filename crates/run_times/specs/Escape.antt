@@ -3,7 +3,7 @@ use Rattle.std.specs.Prelude.{ℕ, Bool, List, ◌||◌, ◌==◌, if◌then◌e
 use Rattle.std.specs.List.{flat_map}
 use Rattle.plain_text.specs.Plain.{is_hidden}
 
--- whether the character is hidden in a text of others, or may not stand in XML
+-- whether the character is hidden in a text of others, or is not allowed in XML
 abbrev pub is_unwritable : ℕ → Bool
 is_unwritable c = is_hidden c || c == 0xFFFE || c == 0xFFFF
 

@@ -12,11 +12,11 @@ piece_text (Text part) = part.now
 piece_text (Number number) = decimal number
 piece_text (TwoDigits number) = decimal (number / 10 % 10) ++ decimal (number % 10)
 
--- the bytes of the pieces, one behind the other
+-- the bytes of the pieces, one after the other
 abbrev pub pieces_text : List Piece → List ℕ
 pieces_text pieces = flat_map piece_text pieces
 
--- this stands behind what was written before, unless memory was refused; and a refusal stays
+-- this follows what was written before, unless memory was refused; and a refusal stays
 pub record Adds (text : List ℕ) (old new : Ink) : Type 0 where
   pub kept : new.is_refused ≡ false → old.is_refused ≡ false
   pub added : new.is_refused ≡ false → string_bytes new.text ≡ string_bytes old.text ++ text

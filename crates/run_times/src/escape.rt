@@ -6,8 +6,8 @@ ghost use Rattle.run_times.specs.Escape.{is_unwritable, escaped, escaped_text};
 use plain_text::is_hidden;
 use std::alloc::{AllocError, Global};
 
-/// The text as it is written within XML or HTML, in an attribute or outside: `&`, `<`, `>`, `"` and `'` by their names, control
-/// characters, marks of direction and what XML can't hold as U+FFFD.
+/// The text as it is written within XML or HTML, in an attribute or outside: `&`, `<`, `>`, `"` and `'` by their names. Control characters,
+/// bidirectional control characters and what XML can't hold become U+FFFD.
 pub fn escaped(alloc: Global, text: &str) -> Result<String, AllocError>
     ensures { IfOk result (λ written. string_bytes written ≡ escaped_text (chars text.now)) }
 {
@@ -32,7 +32,7 @@ fn add_char(written: &mut String, c: char) -> Result<(), AllocError>
     }
 }
 
-// Whether the character is hidden in a text of others, or may not stand in XML.
+// Whether the character is hidden in a text of others, or is not allowed in XML.
 fn is_unwritable(c: char) -> bool
     ensures { result ≡ is_unwritable c }
 {

@@ -22,8 +22,8 @@ pub enum Piece<'a> {
     TwoDigits(u64),
 }
 
-/// A text that is written piece by piece. A refusal of memory is kept, and told once the text is taken: so those who write it have
-/// one way out.
+/// A text that is written piece by piece. It keeps a refusal of memory, and returns it when the text is taken. So those who write it have one
+/// way out.
 #[derive(Drop)]
 pub struct Ink {
     /// What is written.
@@ -53,7 +53,8 @@ impl Ink {
         self.is_refused = self.is_refused || !is_put;
     }
 
-    /// Adds a text of others, if there is memory for it: control characters and marks of direction as U+FFFD, any other character as it is.
+    /// Adds a text of others, if there is memory for it. Control characters and bidirectional control characters become U+FFFD; any other
+    /// character stays as it is.
     pub fn put_plain(&mut self, part: &str)
         ensures added { self.new.is_refused ≡ false → string_bytes self.new.text ≡ string_bytes self.old.text ++ plain_text (chars part.now) }
         ensures kept { self.new.is_refused ≡ false → self.old.is_refused ≡ false }
@@ -90,7 +91,7 @@ impl Ink {
         }
     }
 
-    /// Adds the form, in which each `$` stands for the next of the pieces, a text as by `put_plain`. Pieces for which there is no `$` are left
+    /// Adds the form, in which each `$` is for the next of the pieces, a text as by `put_plain`. Pieces for which there is no `$` are left
     /// out.
     pub fn fill(&mut self, form: &str, pieces: &[Piece<'_>]) {
         let mut parts = form.split('$');
@@ -105,7 +106,7 @@ impl Ink {
         }
     }
 
-    // What stands in a hole may be a text of others.
+    // A hole may be filled with a text of others.
     fn put_hole(&mut self, piece: &Piece<'_>) {
         match *piece {
             Piece::Text(part) => self.put_plain(part),
@@ -148,7 +149,7 @@ impl Ink {
         }
     }
 
-    /// Adds the moment as a clock in the zone shows it.
+    /// Adds the time as a clock in the zone shows it.
     pub fn put_moment(&mut self, alloc: Global, zone: &Zone, at: u64)
         ensures kept { self.new.is_refused ≡ false → self.old.is_refused ≡ false }
     {

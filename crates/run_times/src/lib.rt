@@ -1,5 +1,5 @@
-//! The times of jobs' runs: when a job runs next by the clocks alone, moments and spans of time as texts for people, with what such texts are
-//! written by, and pictures of runs over time.
+//! The times of jobs' runs: when time alone starts a job next, and times and durations as texts for people. It has what such texts are
+//! written by too, and pictures of runs over time.
 #![tactic(auto)]
 
 mod escape;

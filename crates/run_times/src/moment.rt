@@ -46,8 +46,8 @@ pub fn time_text(alloc: Global, zone: &Zone, second: u64) -> Result<String, Allo
     ink.into_text()
 }
 
-// How far the minute that is shown at the second is from that of UTC: behind or ahead, and by how many minutes. Both are counted from the
-// beginning of the second last day before that of UTC. An offset is less than two days, so the weekdays tell it; UTC's first was a Thursday.
+// How far the minute that is shown at the second is from that of UTC: earlier or later, and by how many minutes. Both are counted from the
+// beginning of the second last day before that of UTC. An offset is less than two days, so the weekdays give it; UTC's first was a Thursday.
 fn offset_of(at: &CivilMinute, second: u64) -> (&'static str, u64) {
     let utc_days = ((second / 86_400) % 7) as u32;
     let days = (u32::from(at.weekday) + 12 - utc_days) % 7;

@@ -1,4 +1,4 @@
-//! When a job runs next by the clocks alone, if both run alike: one number of seconds, of throttle, interval and calendar together.
+//! When time alone starts a job next, if both clocks run alike: one number of seconds, of throttle, interval and calendar together.
 
 ghost use Rattle.std.specs.Prelude.{◌≡◌, ◌≤◌, ◌+◌, ◌*◌, ℕ, nat_le, not, ◌&&◌, ◌||◌, Option, None, unwrap_or, IfSome};
 ghost use Rattle.history_model.specs.declared.TheConstants.{CALENDAR_REACH, MAX_UP, MAX_WALL, SECOND};
@@ -13,12 +13,12 @@ ghost use Rattle.run_times.specs.Told.{IsTold, ComesAt};
 use calendar_due::{Calendar, Zone};
 use history_model::{CALENDAR_REACH, Entry, MAX_UP, MAX_WALL, Reading, Reasons, SECOND};
 
-/// The least number of whole seconds after which a reading makes the job's spawn due, if nothing else happens and both clocks
-/// run alike: `wall` goes on by a second with every 1,000 milliseconds of `up`. At most `within` seconds are looked ahead, at
-/// most 400 days, and no further than a reading may go. None if there is no such number.
+/// The least number of whole seconds after which a clock reading makes the job's spawn due, if nothing else happens and both clocks run alike.
+/// Then `wall` goes on by a second with every 1,000 milliseconds of `up`. It looks ahead `within` seconds at most, 400 days at most, and no
+/// further than a clock reading may go. None if there is no such number.
 ///
-/// `reasons` and `spawns_from` are what a job answers at the reading `now`, and `entries` those of its definition. Takes no
-/// memory. The calendar is looked through by days, and by minutes about those that an entry is on: `within` bounds the time.
+/// `reasons` and `spawns_from` are what a job answers at the clock reading `now`, and `entries` those of its definition. It takes no memory.
+/// It looks through the calendar by days, and by minutes about those that an entry is on: `within` bounds the time.
 pub fn next_run(
     reasons: &Reasons,
     spawns_from: Option<u64>,
@@ -31,7 +31,7 @@ pub fn next_run(
     requires wall { now.wall ≤ MAX_WALL }
     ensures least { (past : History) → IsTold reasons.now spawns_from entries.now now past →
         IsNextRun (minute_at zone.now) past (looked_ahead now within) result }
-    // A later reading, of those that are looked ahead to, makes it due too.
+    // A later clock reading, of those that are looked ahead to, makes it due too.
     ensures from { (past : History) → IsTold reasons.now spawns_from entries.now now past →
         (d : ℕ) → d ≤ looked_ahead now within →
         spawns_after (minute_at zone.now) past d ≡ has_come result d }
@@ -41,7 +41,7 @@ pub fn next_run(
     at_most(found, ahead)
 }
 
-/// The number, if it is no greater than the bound.
+/// The number, if it is not greater than the bound.
 fn at_most(found: Option<u64>, bound: u64) -> Option<u64>
     ensures from { (d : ℕ) → d ≤ bound → has_come result d ≡ has_come found d }
     ensures bound { IfSome result (λ d. d ≤ bound) }
@@ -52,7 +52,7 @@ fn at_most(found: Option<u64>, bound: u64) -> Option<u64>
     }
 }
 
-/// The least number of seconds after which the clock alone starts the job, or a calendar entry has fired and nothing else keeps it.
+/// The least number of seconds after which time alone starts the job (`spawns_from`), or a calendar entry has fired and nothing else keeps it.
 fn first_second(
     reasons: &Reasons,
     spawns_from: Option<u64>,
@@ -75,7 +75,7 @@ fn first_second(
     sooner(of_clock, of_calendar)
 }
 
-/// The least number of seconds after which the moment is over, if there is one.
+/// The least number of seconds after which this `up` is reached, if there is one.
 fn by_clock(moment: Option<u64>, up: u64) -> Option<u64>
     ensures { (d : ℕ) → has_come result d ≡ has_come moment (up + SECOND * d) }
 {
@@ -98,7 +98,7 @@ fn looked_ahead(now: Reading, within: u64) -> u64
     within.min(CALENDAR_REACH).min(of_up.min(of_wall))
 }
 
-/// The least number of seconds after which the moment is over.
+/// The least number of seconds after which this `up` is reached.
 fn seconds_until(moment: u64, up: u64) -> u64
     ensures { (d : ℕ) → nat_le moment (up + SECOND * d) ≡ nat_le result d }
 {
@@ -110,8 +110,8 @@ fn seconds_until(moment: u64, up: u64) -> u64
     }
 }
 
-/// The second of `wall` at which a moment of `up` is over, if both clocks go on alike from the reading on: by whole seconds, and no later than
-/// a reading may be. The reading's own second if the moment is over.
+/// The second of `wall` at which this `up` is reached, if both clocks go on alike from the clock reading on. It goes by whole seconds, and no
+/// later than a clock reading may be. It is the clock reading's own second if this `up` is past.
 pub fn coming_second(now: Reading, up: u64) -> u64
     ensures { ComesAt now up result }
 {
@@ -152,7 +152,7 @@ fn by_calendar(
     }
 }
 
-/// Whether a reason holds that no reading ends.
+/// Whether a reason holds that clock readings don't end.
 pub fn needs_event(reasons: &Reasons) -> bool
     ensures { result ≡ needs_event reasons.now }
 {

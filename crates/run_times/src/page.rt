@@ -1,4 +1,4 @@
-//! A text that grows by forms with holes, and the clock by which it tells moments.
+//! A text that grows by forms with holes, and the clock by which it shows times.
 
 ghost use Rattle.run_times.specs.Written.{Grows};
 
@@ -10,14 +10,14 @@ use calendar_due::Zone;
 use history_model::{MAX_WALL, Reading};
 use std::alloc::{AllocError, Global};
 
-/// A text, the zone in which it shows moments, and the reading as of which it speaks.
+/// A text, the zone in which it shows times, and the clock reading as of which it speaks.
 #[derive(Drop)]
 pub struct Page<'a> {
     pub ink: Ink,
     pub now: Reading,
     pub alloc: Global,
     pub zone: &'a Zone,
-    /// The reading's moment whole.
+    /// The whole time of the clock reading.
     moment: Ink,
 }
 
@@ -29,13 +29,13 @@ pub enum Filling<'a> {
     /// A text as it is written within XML or HTML.
     Escaped(&'a str),
     Number(u64),
-    /// The present reading's moment, with weekday and offset.
+    /// The time of the present clock reading, with weekday and offset.
     Now,
-    /// The moment of a second of `wall`, with weekday and offset.
+    /// The date and time of a second of `wall`, with weekday and offset.
     Moment(u64),
-    /// The time of the day of a second of `wall`; the moment whole, if its day or its offset is not that of the present reading.
+    /// The time of the day of a second of `wall`. It is the whole time, if its day or its offset is not that of the present clock reading.
     Time(u64),
-    /// As `Time`, of a moment of `up` that comes, if both clocks go on alike.
+    /// As `Time`, of a coming instant of `up`, if both clocks go on alike.
     Coming(u64),
     /// The date and the minute of a second of `wall`, with weekday and offset.
     Minute(u64),
@@ -43,23 +43,23 @@ pub enum Filling<'a> {
     Span(u64),
 }
 
-/// How a moment is shown.
+/// How a time is shown.
 #[derive(Clone, Copy)]
 enum MomentLook {
     Whole,
-    /// The time of the day alone, if all else is as of the present reading.
+    /// Only the time of the day, if all else is as of the present clock reading.
     Short,
     Minute,
 }
 
-// Whether two moments differ in the time of the day alone.
+// Whether two times differ only in the time of the day.
 fn is_same_day(one: &str, other: &str) -> bool {
     let is_same_date = one.get(..15) == other.get(..15);
     let is_same_offset = one.get(23..) == other.get(23..);
     is_same_date && is_same_offset
 }
 
-// Which hole the `$` before this part of a form stands for, if the next one is that, and what stands behind it.
+// The number of the hole for the `$` before this part of a form, and what follows it. `next` is the hole if the `$` names none.
 fn place_in(part: &str, next: usize) -> (usize, &str) {
     match part.as_bytes() {
         [digit @ b'0'..=b'9', ..] => (usize::from(*digit - b'0'), part.get(1..).unwrap_or("")),
@@ -95,8 +95,8 @@ impl<'a> Page<'a> {
         ink.into_text()
     }
 
-    /// Adds the form, in which each `$` stands for the next of the holes or, with a digit behind it, for the hole of that number, from 0.
-    /// Holes for which there is no `$` are left out. What is written stays.
+    /// Adds the form. Each `$` in it is for the next of the holes or, with a digit after it, for the hole of that number, from 0. Holes for
+    /// which there is no `$` are left out. What is written stays.
     pub fn add(&mut self, form: &str, holes: &[Filling<'_>])
         ensures grows { Grows self.old.ink self.new.ink }
     {

@@ -1,5 +1,5 @@
-//! A chart of jobs' runs over time, and its three pictures: SVG, a page that stands alone, and blocks of a terminal. It knows
-//! no journal: what is drawn is handed in.
+//! A chart of jobs' runs over time, and its three pictures: SVG, a page in one file, and blocks of a terminal. It knows nothing of
+//! journals: the caller gives it what to draw.
 
 mod axis;
 mod blocks;

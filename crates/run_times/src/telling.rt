@@ -1,4 +1,4 @@
-//! What a run writes and tells.
+//! What a run writes and reports.
 
 ghost use Rattle.std.specs.Prelude.{◌≡◌, ◌↔◌, [], IsErr, IfOk, OnErr, OnOk};
 ghost use Rattle.std.specs.Io.KnownBytes.{Appends};
@@ -57,8 +57,8 @@ pub fn put_made(host: &HostRuntime, made: Result<String, AllocError>) -> io::Res
     }
 }
 
-/// Writes what a subcommand came to, and answers its exit status. An error if its text could not be written, or if there was no
-/// memory for it. For each writer that tells what it holds, the text was then written whole.
+/// Writes what a subcommand came to, and returns its exit status. An error if its text could not be written, or if there was no memory for
+/// it. If the writer's contract says what it holds, the text was then written whole.
 pub fn put_outcome<W: Write>(writer: &mut W, made: Result<Outcome, AllocError>) -> io::Result<u8>
     ensures status { IfOk made (λ outcome. IfOk result (λ status. status ≡ outcome.status)) }
     ensures written { IfOk made (λ outcome. OnOk result (Appends (W.contents writer.old)
@@ -86,7 +86,7 @@ pub fn tell_line(host: &HostRuntime, line: Ink) {
     }
 }
 
-/// Tells a fault, or what is to be known, of the file in one line. Without memory nothing is told.
+/// Reports a fault of the file, or a note on it, in one line. Without memory it prints nothing.
 pub fn tell_of<D: Display>(host: &HostRuntime, path: &str, told: &D) {
     let alloc = host.alloc();
     let mut line = Ink::new(alloc);
@@ -104,7 +104,7 @@ pub fn tell_of<D: Display>(host: &HostRuntime, path: &str, told: &D) {
     tell_line(host, line);
 }
 
-/// Tells what kept a file from being read. An error for want of memory, which is not told here.
+/// Reports what kept a file from being read. An error for want of memory, which it does not report.
 pub fn tell_error(host: &HostRuntime, path: &str, error: &io::Error) -> Result<(), AllocError>
     ensures { IsErr result ↔ (error_kind error.now ≡ OutOfMemory) }
 {
@@ -115,7 +115,7 @@ pub fn tell_error(host: &HostRuntime, path: &str, error: &io::Error) -> Result<(
     Ok(())
 }
 
-/// Tells that memory was refused, and answers the exit status for it.
+/// Reports that memory was refused, and returns the exit status for it.
 pub fn want_memory(host: &HostRuntime) -> u8
     ensures { result ≡ statuses.NO_MEMORY }
 {
@@ -123,8 +123,8 @@ pub fn want_memory(host: &HostRuntime) -> u8
     NO_MEMORY
 }
 
-/// Tells what kept a run from its end, memory or the standard output, and answers the exit status for it. That the reader of the
-/// standard output has gone is not told.
+/// Reports what kept a run from its end, memory or the standard output, and returns the exit status for it. It does not report that the
+/// reader of the standard output has closed it.
 pub fn tell_end(host: &HostRuntime, error: &io::Error) -> u8
     ensures { result ≡ status_of_end (error_kind error.now) }
 {

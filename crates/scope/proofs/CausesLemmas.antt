@@ -97,7 +97,7 @@ rises_last : (b : Bool) → RisesFrom 13 (when b NotWanted)
 rises_last true = (omega arith, tt)
 rises_last false = tt
 
--- ---- the lists one behind the other, from the right
+-- ---- the lists one after the other, from the right
 
 right6 : (a b c d e f : List JobCause) → ((((a ++ b) ++ c) ++ d) ++ e) ++ f ≡ a ++ (b ++ (c ++ (d ++ (e ++ (f)))))
 right6 a b c d e f =
@@ -155,7 +155,7 @@ rises_wanting : (r : Reasons) → RisesFrom 6 (wanting r.wants)
 rises_wanting r =
     rises_when r.wants.demand Demand 6 _ (omega arith) (rises_when (nat_lt 0 r.wants.connections) (Connections r.wants.connections) 7 _ (omega arith) (rises_when r.wants.keep_alive KeepAlive 8 _ (omega arith) (rises_when r.wants.successful_exit SuccessfulExit 9 _ (omega arith) (rises_when r.wants.crashed Crashed 10 _ (omega arith) (rises_when r.wants.path_state PathState 11 _ (omega arith) (rises_when r.wants.queue_directories QueueDirectories 12 _ (omega arith) (rises_last (not (some_want r.wants)))))))))
 
--- six lists and one behind them, one behind the other
+-- six lists and one after them, one after the other
 in_a_row : (a b c d e f w : List JobCause) → (a ++ (b ++ (c ++ (d ++ (e ++ f))))) ++ w ≡ a ++ (b ++ (c ++ (d ++ (e ++ (f ++ w)))))
 in_a_row a b c d e f w =
     append_assoc a (b ++ (c ++ (d ++ (e ++ f)))) w

@@ -1,4 +1,5 @@
--- What a table tells of a job are the facts of each machine that it keeps, and so of the one that heard the lines.
+-- What a table says of a job are the facts of each machine that it keeps, and so of the one that received the
+-- lines.
 use Rattle.std.proofs.Common.{ℕ, List, [], ◌∷◌, map, Option, Some}
 use Rattle.history_model.specs.Labels.{Label}
 use Rattle.history_model.specs.Machine.{State, past_of}

@@ -21,7 +21,7 @@ keeps_on old new line (header ∷ lines) next (s, opens, keeps) =
     ap (λ es. run es s) (map-append event_in lines (line ∷ [])) ∙ run_one (map event_in lines) (event_in line) s in
     (s, opens, subst (KeepsState new) (sym all) (next (run (map event_in lines) s) keeps))
 
--- the journal that was open heard a line that is no header
+-- the journal that was open received a line that is not a header
 pub hears_on : (at : Option OpenJournal) (old new : OpenJournal) (line : List ℕ) (is_header : Bool) → at ≡ Some old → is_header ≡ false → IsNextTable (event_in line) old.table new.table
     → HearsLine StandsAfter at line is_header (Some new)
 hears_on at old new line is_header is later next = λ lines stands.

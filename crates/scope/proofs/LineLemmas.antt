@@ -17,7 +17,7 @@ lines_more (c ∷ cs) cause text more (first, others, rest, is) =
       ap (λ t. t ++ line) is ∙ append_assoc (front_of c) (first ++ 10 ∷ others) line ∙ ap (λ t. front_of c ++ t) (append_assoc first (10 ∷ others) line),
     )
 
--- a line more behind those of the causes up to a place
+-- a line more after those of the causes up to a place
 pub told_more : (at : ℕ) (causes : List JobCause) (other : JobCause) (a b c : Ink) → at < length causes → TellsEach (take at causes) a b
     → ((more : List ℕ) × Adds (front_of (get_or causes at other) ++ (more ++ 10 ∷ [])) b c) → TellsEach (take (at + 1) causes) a c
 told_more at causes other a b c there (text, lines, before) (more, added) =

@@ -21,7 +21,7 @@ more_more (c ∷ cs) cause text one (first, others, so, rest, whole) is =
       ap (λ t. t ++ object) whole ∙ append_assoc (codes ",") (first ++ others) object ∙ ap (λ t. codes "," ++ t) (append_assoc first others object),
     )
 
--- an object more behind those of the causes up to a place
+-- an object more after those of the causes up to a place
 pub told_more : (at : ℕ) (causes : List JobCause) (other : JobCause) (a b c d : Ink) → at < length causes → TellsMore (take at causes) a b
     → Adds (codes ",") b c → TellsCause (get_or causes at other) c d → TellsMore (take (at + 1) causes) a d
 told_more at causes other a b c d there (text, mores, before) comma (one, is, added) =
@@ -40,6 +40,6 @@ told_all causes at a b over told = subst (λ cs. TellsMore cs a b) (take_all at 
 pub told_first : (first : JobCause) (more : List JobCause) (a b c : Ink) → TellsCause first a b → TellsMore more b c → TellsCauses (first ∷ more) a c
 told_first first more a b c (one, is, added) (others, are, on) = (one ++ others, (one, others, is, are, refl), adds_on one others a b c added on)
 
--- by the word of its kind
+-- by the name of its kind
 pub cause_of : (cause : JobCause) (kind : List ℕ) (fields : List Field) (a b : Ink) → kind ≡ kind_text cause → TellsObject (codes "kind") kind fields a b → TellsCause cause a b
 cause_of cause kind fields a b same (text, is, added) = (text, (fields, subst (λ k. IsObject (codes "kind") k fields text) same is), added)

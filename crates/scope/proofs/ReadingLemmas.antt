@@ -7,7 +7,7 @@ use Rattle.ctl_protocol.proofs.CutLemmas.{lines_joined, rest_joined}
 use Rattle.scope.specs.Journals.{HearsLines, Drains, IsFed, HasHeard, HearsPiece, feed_behind}
 use Rattle.scope.specs.declared.journal.lines.JournalLines.{JournalLines}
 
--- a piece was taken behind those that had come, and its lines were handed on
+-- a piece was taken after those that had come, and its lines were passed on
 pub piece_heard : {A : Type 0} (stands : A → List (List ℕ) → Type 0) (unread rest : Option (List ℕ)) (piece : List ℕ) (old mid new : JournalLines) (before after : A) → Consumes unread rest piece → IsFed old piece mid
     → HearsLines stands mid.count before mid.feed.lines after → Drains mid new → HearsPiece stands unread rest old before new after
 piece_heard stands unread rest piece old mid new before after came taken hears drains = λ bytes had.
@@ -35,7 +35,7 @@ nothing_heard stands unread rest old new hearer came same = λ bytes had. (
 pub none_heard : {A : Type 0} (stands : A → List (List ℕ) → Type 0) (unread : Option (List ℕ)) (lines : JournalLines) (hearer : A) → HearsPiece stands unread unread lines hearer lines hearer
 none_heard stands unread lines hearer = nothing_heard stands unread unread lines lines hearer (Consumes-nil unread) refl
 
--- one piece behind the other
+-- one piece after the other
 pub heard_on : {A : Type 0} (stands : A → List (List ℕ) → Type 0) (unread mid rest : Option (List ℕ)) (a b c : JournalLines) (x y z : A) → HearsPiece stands unread mid a x b y → HearsPiece stands mid rest b y c z
     → HearsPiece stands unread rest a x c z
 heard_on stands unread mid rest a b c x y z first second = λ bytes had.

@@ -1,8 +1,8 @@
--- What the clocks make due behind a last event.
+-- What the clocks make due after a last event.
 use Rattle.std.specs.Prelude.{◌≡◌, ℕ, nat_le, Bool, true, false, Option, Some, None, if◌then◌else◌}
 use Rattle.history_model.specs.declared.reasons.Reasons.{Reasons}
 
--- a moment that is still to come at this `up`
+-- an `up` that is still to come at this `up`
 abbrev pub still_coming : Option ℕ → ℕ → Option ℕ
 still_coming None up = None
 still_coming (Some until) up = if nat_le until up then None else Some until
@@ -11,8 +11,8 @@ still_coming (Some until) up = if nat_le until up then None else Some until
 abbrev pub reasons_then : Reasons → ℕ → Reasons
 reasons_then r up = record r { throttled_until = still_coming r.throttled_until up }
 
--- an order that may be given at these moments of `up` came due after the last reading and up to now:
--- its moment; none if it may not be given now, or might have been then
+-- An order that may be given at these values of `up` came due after the last clock reading and up to
+-- now: its `up`. None if it may not be given now, or might have been then.
 abbrev pub ComesSince : (ℕ → Bool) → ℕ → ℕ → Option ℕ → Type 0
 ComesSince may last now None = may now ≡ true → may last ≡ true
 ComesSince may last now (Some at) =

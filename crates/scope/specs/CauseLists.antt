@@ -1,5 +1,5 @@
--- The causes of a job one behind the other, as they are added. What the list comes to is
--- `AreCauses` of `Causes`.
+-- The causes of a job one after the other, as they are added. What the list comes to is `AreCauses`
+-- of `Causes`.
 use Rattle.std.specs.Prelude.{ℕ, Bool, true, false, not, List, [], ◌∷◌, ◌++◌, Option, Some, None, nat_lt}
 use Rattle.history_model.specs.declared.Act.{Act}
 use Rattle.history_model.specs.declared.reasons.Wants.{Wants}

@@ -9,7 +9,7 @@ use Rattle.scope.specs.declared.journal.telling.JobCause.{JobCause}
 use Rattle.scope.specs.declared.journal.telling.JobCause.TheVariants.{Removing, Child, Awaited, LaunchSpent, RunsSpent, Throttled, NotWanted, Demand, Connections, KeepAlive, SuccessfulExit, Crashed, PathState, QueueDirectories}
 use Rattle.scope.specs.Causes.{AreCauses}
 
--- the word of a cause
+-- the name of a cause
 abbrev pub kind_text : JobCause → List ℕ
 kind_text Removing = codes "removing"
 kind_text (Child child) = codes "running"
@@ -30,7 +30,7 @@ kind_text QueueDirectories = codes "queue_directories"
 abbrev pub IsCause : JobCause → List ℕ → Type 0
 IsCause cause text = (fields : List Field) × IsObject (codes "kind") (kind_text cause) fields text
 
--- an object for each of the causes, in order, each behind a comma
+-- an object for each of the causes, in order, each after a comma
 abbrev pub AreMore : List JobCause → List ℕ → Type 0
 AreMore [] text = text ≡ []
 AreMore (cause ∷ causes) text =

@@ -1,4 +1,4 @@
--- What `why` tells of a job: a cause for each thing that the table's reasons say, and none besides.
+-- What `why` shows of a job: a cause for each thing that the table's reasons say, and none besides.
 use Rattle.std.specs.Prelude.{◌≡◌, ◌⊎◌, ◌≤◌, ◌<◌, ◌+◌, ℕ, true, false, List, [], ◌∷◌, Some}
 use Rattle.history_model.specs.declared.reasons.Reasons.{Reasons}
 use Rattle.history_model.specs.Reasons.{some_want}
@@ -22,7 +22,7 @@ Says r PathState = r.wants.path_state ≡ true
 Says r QueueDirectories = r.wants.queue_directories ≡ true
 Says r NotWanted = some_want r.wants ≡ false
 
--- where a cause is told: what keeps the job from a start, then what wants it, or that nothing does
+-- where a cause is shown: what keeps the job from a start, then what wants it, or that nothing does
 abbrev pub place : JobCause → ℕ
 place Removing = 0
 place (Child child) = 1
@@ -54,7 +54,7 @@ abbrev pub RisesFrom : ℕ → List JobCause → Type 0
 RisesFrom least [] = Unit {0}
 RisesFrom least (first ∷ others) = (least ≤ place first) × RisesFrom (place first + 1) others
 
--- each cause that the reasons say is among these, and no other; and each stands there once, in the
+-- each cause that the reasons say is among these, and no other; and each is there once, in the
 -- order of the places
 pub record AreCauses (r : Reasons) (causes : List JobCause) : Type 0 where
   pub all : (cause : JobCause) → Says r cause → IsAmong cause causes

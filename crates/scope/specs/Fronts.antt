@@ -24,13 +24,13 @@ abbrev pub front_of_child : StandingChild → List ℕ
 front_of_child child =
     (codes "  Run " ++ decimal child.run) ++ (codes " lives, process " ++ decimal child.pid)
 
--- of so many connections
+-- of this many connections
 abbrev pub front_of_connections : ℕ → List ℕ
 front_of_connections count =
     if count == 1 then codes "  It is wanted: a connection waits."
     else codes "  It is wanted: " ++ decimal count ++ codes " connections wait."
 
--- the words by which the line of a cause begins, with its numbers
+-- how the line of a cause begins, with its numbers
 abbrev pub front_of : JobCause → List ℕ
 front_of Removing = codes "  It is being removed"
 front_of (Child child) = front_of_child child
@@ -47,14 +47,14 @@ front_of Crashed = codes "  It is wanted: KeepAlive Crashed is "
 front_of PathState = codes "  It is wanted: KeepAlive PathState, and "
 front_of QueueDirectories = codes "  It is wanted: QueueDirectories, and "
 
--- a line for each of the causes, in order: the words by which that of its cause begins, and more
+-- a line for each of the causes, in order: how that of its cause begins, and more
 abbrev pub AreLines : List JobCause → List ℕ → Type 0
 AreLines [] text = text ≡ []
 AreLines (cause ∷ causes) text =
     (more : List ℕ) × (others : List ℕ) × AreLines causes others
     × (text ≡ front_of cause ++ (more ++ 10 ∷ others))
 
--- a line for each of the causes stands behind what was written before
+-- a line for each of the causes follows what was written before
 abbrev pub TellsEach : List JobCause → Ink → Ink → Type 0
 TellsEach causes old new = (text : List ℕ) × AreLines causes text × Adds text old new
 

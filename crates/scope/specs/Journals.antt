@@ -33,12 +33,12 @@ KeepsLines (header ∷ lines) None = ⊥
 KeepsLines (header ∷ lines) (Some table) =
     (s : State) × Opens header s × KeepsState table (run (map event_in lines) s)
 
--- the lines with one more; a header begins anew
+-- the lines with one more; a header begins a new list
 abbrev pub with_line : Bool → List (List ℕ) → List ℕ → List (List ℕ)
 with_line true lines line = line ∷ []
 with_line false lines line = lines ++ line ∷ []
 
--- what stood for some lines stands for them with this one
+-- what represented some lines represents them with this one
 abbrev pub HearsLine : {A : Type 0} → (A → List (List ℕ) → Type 0) → A → List ℕ → Bool → A → Type 0
 HearsLine stands old line is_header new =
     (lines : List (List ℕ)) → stands old lines → stands new (with_line is_header lines line)
@@ -51,7 +51,7 @@ table_of journal = option_map (λ j. j.table) journal
 abbrev pub StandsAfter : Option OpenJournal → List (List ℕ) → Type 0
 StandsAfter journal lines = KeepsLines lines (table_of journal)
 
--- what stood for some lines, none if none was counted, stands for them and these
+-- what represented some lines, none if none was counted, represents them and these
 abbrev pub HearsLines : {A : Type 0} → (A → List (List ℕ) → Type 0) → ℕ → A → List (List ℕ) → A →
     Type 0
 HearsLines stands count old done new =
@@ -71,7 +71,7 @@ HandsOn stands true old before new after =
 
 -- ---- what is read
 
--- each line that the feed had was handed on, and none was too long
+-- each line that the feed had was passed on, and none was too long
 pub record Drains (old new : JournalLines) : Type 0 where
   pub feed : new.feed ≡ record old.feed { lines = [] }
   pub short : old.is_long ≡ false
@@ -83,7 +83,7 @@ IsFed old piece new =
     (new.count ≡ old.count)
     × (new.is_long ≡ false → (takes old.feed piece ≡ true) × (new.feed ≡ fed old.feed piece))
 
--- a feed that has handed on each line of these bytes
+-- a feed that has passed on each line of these bytes
 abbrev pub feed_behind : List ℕ → Feed
 feed_behind bytes =
     record { lines = []; rest = rest_of bytes; limit = line_limit; refusing = false }
@@ -96,7 +96,7 @@ pub record HasHeard {A : Type 0} (stands : A → List (List ℕ) → Type 0) (by
   pub counted : count ≡ 0 → lines_of bytes ≡ []
   pub heard : stands hearer (lines_of bytes)
 
--- a piece of what the reader had was taken behind those that had come, and so it is heard
+-- a piece of what the reader had was taken after those that had come, and so its lines are received
 abbrev pub HearsPiece : {A : Type 0} → (A → List (List ℕ) → Type 0) → Option (List ℕ) →
     Option (List ℕ) → JournalLines → A → JournalLines → A → Type 0
 HearsPiece stands unread rest old before new after =

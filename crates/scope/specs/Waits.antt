@@ -5,9 +5,9 @@ use Rattle.history_model.specs.Reasons.{some_want, waits_alone}
 use Rattle.scope.specs.declared.journal.waiting.Wait.{Wait}
 use Rattle.scope.specs.declared.journal.waiting.Wait.TheVariants.{Leaves, Unwanted, Throttled, Other}
 
--- it left exactly if it is not loaded; it waits for the end of its throttle exactly if nothing else
--- keeps it from a start; and nothing wants it exactly if no want holds and no answer is awaited: a
--- start that was ordered at once has used up its demand
+-- It left exactly if it is not loaded. It waits for the end of its throttle exactly if nothing else keeps it
+-- from a start. Nothing wants it exactly if no want holds and no answer is awaited: a start that was ordered at
+-- once has used up its start request.
 abbrev pub WaitsFor : Option Reasons → Wait → Type 0
 WaitsFor None Leaves = Unit {0}
 WaitsFor None Unwanted = ⊥

@@ -1,4 +1,4 @@
-//! As of which moment a journal is told, and how old that is.
+//! The time as of which a journal is reported, and how long ago that was.
 
 use crate::writer::Writer;
 use history_model::{Reading, SECOND};
@@ -6,7 +6,7 @@ use run_times::Filling::{Moment, Number, Time};
 use run_times::Page;
 use status_page::{gone_on, within_limits};
 
-/// As of which moment a journal is told.
+/// The time as of which a journal is reported.
 #[derive(Clone, Copy)]
 pub(crate) enum AsOf {
     /// Its end, whatever the clock shows now.
@@ -17,8 +17,8 @@ pub(crate) enum AsOf {
     Moment { second: u64, is_end: bool },
 }
 
-/// The reading as of which it is told, if this is that of its last event: the clocks went on while a launcher wrote nothing, and stood still with
-/// one that is gone.
+/// The clock reading as of which a journal is reported, if `last` is that of its last event. The clocks went on while a running launcher wrote
+/// nothing. If the launcher has exited, they stay at the last event.
 pub(crate) fn reading_as_of(as_of: AsOf, last: Reading) -> Reading {
     match as_of {
         AsOf::Seen(second, Some(Writer::Process(_))) => gone_on(within_limits(last), second),
@@ -27,7 +27,7 @@ pub(crate) fn reading_as_of(as_of: AsOf, last: Reading) -> Reading {
     }
 }
 
-/// The reading that the clocks show then, if they went on alike, whether a launcher looked at them or not.
+/// The clock reading that the clocks show then, if they went on alike, whether a launcher looked at them or not.
 pub(crate) fn clock_as_of(as_of: AsOf, last: Reading) -> Reading {
     match as_of {
         AsOf::Seen(second, _) => gone_on(within_limits(last), second),
@@ -35,7 +35,7 @@ pub(crate) fn clock_as_of(as_of: AsOf, last: Reading) -> Reading {
     }
 }
 
-/// Adds the head of what is told: the moment of the last event, how long ago that was, and who writes the journal now.
+/// Adds the head of a report: when the last event was, how long ago that was, and who writes the journal now.
 pub(crate) fn add_head(page: &mut Page<'_>, as_of: AsOf, last: Reading) {
     match as_of {
         AsOf::End => page.add("As of $:\n", &[Moment(last.wall)]),

@@ -1,4 +1,4 @@
-//! A journal up to a moment.
+//! Reads a journal up to a given time.
 
 ghost use Rattle.std.specs.Prelude.{None, OnOk};
 ghost use Rattle.scope.specs.Journals.{HearsAll, StandsAfter};
@@ -15,12 +15,12 @@ use moment_words::Moment;
 use std::alloc::Global;
 use std::io::Read;
 
-/// What finds the last event of a journal that is not behind a second of `wall`.
+/// Finds the last event of a journal that is not later than a second of `wall`.
 #[derive(Drop)]
 struct MomentFinder<'a> {
     listener: JournalListener<'a>,
     until: u64,
-    /// How many bytes the lines have that were heard, and those up to that event.
+    /// How many bytes the received lines have, and those up to that event.
     read: u64,
     found: u64,
 }
@@ -49,16 +49,17 @@ impl Hears for MomentFinder<'_> {
 /// Where a journal is cut.
 #[derive(Clone, Copy)]
 struct Cut {
-    /// So many of its bytes are read.
+    /// How many of its bytes are read.
     bytes: u64,
     /// Whether these are all.
     is_end: bool,
-    /// The number of a line that is too long, behind which nothing is read.
+    /// The number of a line that is too long. Nothing after it is read.
     long: Option<u64>,
 }
 
-/// Those of several journals that are told up to the moment, which is this second: all but those behind that begin later, and the first in each case. The
-/// moment speaks of the last one, as `read_up_to` has it. None, if there is one journal or none, or if the last can't be read: that is told where it is read.
+/// Which of several journals are read up to this time, and the second that the time means. Journals at the end of the list that begin later are
+/// dropped; the first one is always kept. The time is read as of the last journal, as in `read_up_to`. None: there are fewer than two journals, or
+/// the second can't be found in the last one. Whoever reads the last one reports that.
 pub(crate) fn begun_by<'a>(
     host: &HostRuntime,
     alloc: Global,
@@ -86,7 +87,7 @@ pub(crate) fn begun_by<'a>(
     Some((told, second))
 }
 
-// A journal that can't be read is not told as one that begins later.
+// A journal that can't be read does not count as one that begins later.
 fn begins_behind(
     host: &HostRuntime,
     alloc: Global,
@@ -100,9 +101,9 @@ fn begins_behind(
     }
 }
 
-/// Reads the journal of the path up to its last event that is not behind the moment, and answers as of when it is told: of the moment, or of the
-/// journal's end if that is before. The moment is as of `now`, or as of the journal's last event if that is none. For this it is read twice, and
-/// once more if its zone or its last event has to be known.
+/// Reads the journal at the path up to its last event that is not later than the given time. It returns as of when the journal is reported: as of
+/// that time, or as of the journal's end if the end is earlier. The time is read as of `now`; if `now` is `None`, as of the journal's last event. The
+/// journal is read twice for this, and once more if its zone or its last event must be known.
 pub(crate) fn read_up_to(
     host: &HostRuntime,
     alloc: Global,
@@ -129,7 +130,7 @@ pub(crate) fn read_up_to(
     }
 }
 
-// Reads so many bytes of the journal.
+// Reads this many bytes of the journal.
 fn read_front_of<H: Hears>(
     host: &HostRuntime,
     path: &str,
@@ -170,7 +171,7 @@ fn cut_at(
     })
 }
 
-// The second of the moment, by the journal's zone if it is none already.
+// The second that the time means. The journal's zone decides, unless the time is a second already.
 fn second_of(
     host: &HostRuntime,
     alloc: Global,
@@ -205,7 +206,7 @@ fn finder_of(alloc: Global, of: &ScopeCommand, until: u64) -> MomentFinder<'_> {
     }
 }
 
-// Reads the journal to its end, or to a line that is too long, whose number it answers.
+// Reads the journal to its end, or to a line that is too long, and returns the number of that line.
 fn scan(
     host: &HostRuntime,
     alloc: Global,

@@ -1,7 +1,8 @@
-//! What is told of a launcher by its own file on how it stands: the table of `status`, why each job runs or not, and when each starts next.
+//! What a launcher's status file reports: the table of `status`, why each job runs or not, and when each starts next.
 
 use crate::clock::now;
 use crate::journal::source::{NONE_NAMED, finds_journal, stands_in};
+use crate::left::left_running;
 use crate::objects::status::status_objects;
 use crate::objects::why::standing_objects;
 use crate::texts::standing::{failing_in, standing_text};
@@ -23,9 +24,12 @@ use std::io;
 /// The status if a job fails.
 pub(crate) const FAILS: u8 = DIFFERS;
 
-/// The path of the file that is asked of, if one is. Of `status` and `metrics` it is that of the words, else that of `JOBD_STATUS_FILE`, else the package's;
-/// of `why` that of the words, else that of `JOBD_STATUS_FILE`, if neither a journal nor a moment of one is named; of `next` the same, if besides no journal
-/// is found. Of both it is then that of the package in the place of a terminal, if no journal is found there, which is told.
+/// The path of the status file to read, if one is to be read.
+///
+/// `status` and `metrics` read the file of the arguments, else that of `JOBD_STATUS_FILE`, else the package's. `why` reads the file of the arguments.
+/// Without one, it reads that of `JOBD_STATUS_FILE`, unless the arguments name a journal, a time or `--all`. `next` does the same, but reads that of
+/// `JOBD_STATUS_FILE` only if it finds no journal. If no file is named, no journal is found, and standard input is a terminal, both read the
+/// package's file and print a note.
 pub(crate) fn file_asked(host: &HostRuntime, of: &ScopeCommand) -> io::Result<Option<String>> {
     let (may_be_journal, is_next) = match of.task {
         Task::Status | Task::Metrics => (false, false),
@@ -49,7 +53,7 @@ pub(crate) fn file_asked(host: &HostRuntime, of: &ScopeCommand) -> io::Result<Op
     }
 }
 
-// Whether the words name a journal, or ask what no status file holds.
+// Whether the arguments name a journal, or ask for what a status file does not hold.
 fn names_journal(of: &ScopeCommand) -> bool {
     !of.journals.as_slice().is_empty() || of.moments.at.is_some() || of.is_all
 }
@@ -68,7 +72,7 @@ fn packages(host: &HostRuntime) -> io::Result<Option<String>> {
     Ok(Some(String::from_str(host.alloc(), packages_file(host))?))
 }
 
-/// What is wrong with words that name both a launcher's file and a journal, or what the file does not hold, if they do.
+/// The error, if the arguments name a status file and also a journal, or what the file does not hold.
 pub(crate) fn clash_of(of: &ScopeCommand) -> Option<&'static str> {
     if of.status_file.is_none() {
         return None;
@@ -92,8 +96,8 @@ pub(crate) fn clash_of(of: &ScopeCommand) -> Option<&'static str> {
     }
 }
 
-/// Writes what is asked of the file at the path. 65 if it can't be read, is not whole or is no status file, or if it has no job of a label that is
-/// named; 2 if failing jobs are asked for, and there is one; 71 if the clock can't be read.
+/// Writes what the arguments ask of the file at the path. The exit status is 65 if the file can't be read, is not whole or is not a status file, or
+/// if it has no job of a named label. It is 2 if failing jobs are asked for, and there is one; 71 if the clock can't be read.
 pub(crate) fn tell_by_file(
     host: &HostRuntime,
     alloc: Global,
@@ -128,7 +132,10 @@ fn tell(
     let labels = of.words.as_slice();
     let status = match of.task {
         Task::Why if of.is_json => {
-            let (text, count) = standing_objects(alloc, standing, of, second)?;
+            let left = left_running(host, alloc, standing, labels)?;
+            let made = standing_objects(alloc, standing, of, second, left.as_slice());
+            drop(left);
+            let (text, count) = made?;
             put_made(host, Ok(text))?;
             if of.is_failing && count > 0 { FAILS } else { 0 }
         }
@@ -138,10 +145,10 @@ fn tell(
             if count > 0 { FAILS } else { 0 }
         }
         Task::Why => {
-            put_made(
-                host,
-                standing_text(alloc, standing, labels, of.is_utc, second),
-            )?;
+            let left = left_running(host, alloc, standing, labels)?;
+            let text = standing_text(alloc, standing, labels, of.is_utc, second, left.as_slice());
+            drop(left);
+            put_made(host, text)?;
             0
         }
         Task::Next => {
@@ -191,7 +198,8 @@ fn put_next(
     put_made(host, Ok(text))
 }
 
-// Tells each of the labels that the file has no job of, and that means no definition which the boot left out. It answers the exit status, which is 65 then.
+// Reports each of the labels that the file has no job of and that does not mean a definition which the boot left out. It returns the exit status,
+// which is 65 then.
 fn tell_unknown(
     host: &HostRuntime,
     alloc: Global,

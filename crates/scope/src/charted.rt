@@ -29,7 +29,7 @@ pub(crate) struct HeardMarks<'a> {
 }
 
 impl HeardMarks<'_> {
-    /// Nothing is heard yet of the jobs with these labels, or of all.
+    /// Nothing is known yet of the jobs with these labels, or of all.
     pub(crate) fn new(alloc: Global, labels: &[Text]) -> HeardMarks<'_> {
         HeardMarks {
             labels,
@@ -41,7 +41,7 @@ impl HeardMarks<'_> {
         }
     }
 
-    /// Takes in what the journal's last line gave at this second.
+    /// Takes what the journal's last line gave at this second.
     pub(crate) fn hear(&mut self, at: u64, news: &[News]) -> Result<(), AllocError> {
         self.from = self.from.min(at.max(self.since));
         self.until = self.until.max(at);
@@ -56,7 +56,7 @@ impl HeardMarks<'_> {
         Ok(())
     }
 
-    /// A launcher ended at this second: the runs that lived are drawn to there.
+    /// A launcher exited at this second: the bars of its running runs end there.
     pub(crate) fn end(&mut self, past: &Past, at: u64) -> Result<(), AllocError> {
         let axis = Axis::new(at.saturating_sub(1), at, PLACES);
         for (label, job) in &past.jobs {
@@ -108,7 +108,7 @@ fn mark_of(what: &What) -> Option<MarkKind> {
     }
 }
 
-/// The bar of a run: from its begin to its end, or to the end of the axis if it lives. None for one that did not begin: its order is
+/// The bar of a run: from its begin to its end, or to the end of the axis if it is running. None for a run that did not begin: its order is
 /// not answered, or was refused.
 pub(crate) fn bar_of(axis: &Axis, run: &JobRun) -> Option<Bar>
     ensures begin { IfSome result (λ bar. bar.from ≡ run.now.begun.wall) }
@@ -165,7 +165,7 @@ pub(crate) fn chart_of(
     }
 }
 
-// The rows of a chart, and where the row of each job stands, by the job's serial number.
+// The rows of a chart, and the index of each job's row, by the job's serial number.
 #[derive(Drop)]
 struct Rows {
     chart: Chart,
@@ -197,7 +197,7 @@ impl Rows {
         Ok(self.chart.rows.push(row)?)
     }
 
-    // What was gathered of a job. That of one which was forgotten meanwhile counts among what is missing.
+    // Adds what was gathered of a job. If the job was forgotten meanwhile, it counts among what is missing.
     fn add_gathered(&mut self, of: &Gathered) -> Result<(), AllocError> {
         let axis = self.chart.axis;
         let place = place_of(self.places.as_slice(), of.job).unwrap_or(usize::MAX);
@@ -209,7 +209,7 @@ impl Rows {
         Ok(())
     }
 
-    // The runs that live.
+    // Adds the runs that are running.
     fn add_living(&mut self, past: &Past, from: u64) -> Result<(), AllocError> {
         for (_, job) in &past.jobs {
             if let Some(run) = &job.record.current {
@@ -230,7 +230,7 @@ impl Rows {
     }
 }
 
-// Where the row of the job stands.
+// The index of the job's row.
 fn place_of(places: &[(u64, usize)], serial: u64) -> Option<usize> {
     let (Ok(at) | Err(at)) = places.binary_search(&(serial, 0));
     match places.get(at) {

@@ -28,7 +28,7 @@ struct Placed {
     is_disabled: bool,
 }
 
-/// How a file's definition stands to what is loaded.
+/// How a file's definition compares to what is loaded.
 #[derive(Clone, Copy)]
 enum Standing<'a> {
     /// The two are one JSON value.
@@ -39,22 +39,22 @@ enum Standing<'a> {
     New,
     /// Nothing of its label is loaded, since a setting or its own `Disabled` says so.
     Disabled,
-    /// Nothing of its label is loaded, but this label is, which no file has, by a definition that differs in the label alone.
+    /// Nothing of its label is loaded, but this label is, which no file has. The two definitions differ only in the label.
     Renamed(&'a str),
     /// A file before it has the same label.
     Twice,
 }
 
-/// What is told: lines for people, or objects.
+/// The report: lines for people, or objects.
 #[derive(Drop)]
 struct Report<'a> {
     page: Page<'a>,
     is_json: bool,
 }
 
-/// A line for each file, in order, and then one for each loaded job that no file has: how it stands, its label, the file, and the keys that
-/// differ or the label that it had, with tabs between; or an object for each. What can't be read, or is no definition, is told. The status is 65 if there is such a
-/// file, else 2 if anything differs, else 0.
+/// Writes a line for each file, in order, and then one for each loaded job that no file has. Tabs part its fields: how the file compares, the label,
+/// the file, and the keys that differ or the former label. With `--json` each line is an object. It reports each file that can't be read or is not a
+/// definition. The exit status is 65 if there is such a file, else 2 if anything differs, else 0.
 pub(crate) fn drift_of(
     host: &HostRuntime,
     alloc: Global,
@@ -273,7 +273,7 @@ fn put_compared<'x>(
     Ok(differs)
 }
 
-// How a file stands of whose label nothing is loaded. If a loaded job is renamed by it, its label is added.
+// How a file compares if nothing is loaded under its label. If it renames a loaded job, that job's label is added to `renamed`.
 fn absent<'a>(
     alloc: Global,
     journal: &OpenJournal,
@@ -297,7 +297,7 @@ fn absent<'a>(
     Ok(Standing::New)
 }
 
-// Whether the file's definition differs from the loaded one in the label alone.
+// Whether the file's definition differs from the loaded one only in the label.
 fn is_renamed(alloc: Global, file: &Placed, job: &Placed) -> Result<bool, AllocError> {
     let keys = changed_keys(alloc, &file.def, &job.def)?;
     let is_label = match keys.as_slice() {
@@ -352,7 +352,7 @@ fn put_jobs(
     differs
 }
 
-// Puts how a job stands: the word for it, its label, the file, the keys that differ, and the label that it had.
+// Puts one result: how the file compares, the label, the file, the keys that differ, and the former label.
 fn put_told(
     word: &'static str,
     label: &str,

@@ -15,7 +15,7 @@ use run_times::telling::put_outcome;
 use std::alloc::Global;
 use std::io;
 
-/// Writes what a check of the files says, and answers its exit status. An error is of memory, or of the standard output.
+/// Writes what a check of the files says, and returns its exit status. An error is of memory, or of the standard output.
 pub fn check_ended<S: DefinitionSource>(
     host: &HostRuntime,
     alloc: Global,
@@ -31,7 +31,7 @@ pub fn check_ended<S: DefinitionSource>(
     put_outcome(&mut host.stdout(), made)
 }
 
-/// Writes so many coming starts of the files' definitions, and answers the exit status. An error is of memory, or of the standard output.
+/// Writes a number of coming starts of the files' definitions, and returns the exit status. An error is of memory, or of the standard output.
 pub fn next_ended<S: DefinitionSource>(
     host: &HostRuntime,
     alloc: Global,
@@ -47,7 +47,7 @@ pub fn next_ended<S: DefinitionSource>(
     put_outcome(&mut host.stdout(), made)
 }
 
-/// Writes the definitions that are made of the lines of a crontab, and answers the exit status. An error is of memory, or of the standard output.
+/// Writes the definitions that are made of the lines of a crontab, and returns the exit status. An error is of memory, or of the standard output.
 pub fn cron_ended<K: LineKeeper>(
     host: &HostRuntime,
     alloc: Global,
@@ -62,8 +62,8 @@ pub fn cron_ended<K: LineKeeper>(
     put_outcome(&mut host.stdout(), made)
 }
 
-/// Writes the property lists at the paths as definitions, into the folder if there is one, and answers the exit status. An error is of
-/// memory, or of the standard output.
+/// Writes the property lists at the paths as definitions, into the folder if there is one, and returns the exit status. An error is of memory, or
+/// of the standard output.
 pub fn plist_ended<S: DefinitionSource>(
     host: &HostRuntime,
     alloc: Global,

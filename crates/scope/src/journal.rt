@@ -1,5 +1,5 @@
-//! A journal, read line by line into the table of jobs. Beside it is kept, bounded, what is told of the past: the runs of each
-//! job, what was asked of it, and how long it was up.
+//! A journal, read line by line into the table of jobs. With it a bounded history is kept: the runs of each job, what clients asked of it,
+//! and how long it was up.
 
 pub(crate) mod facts;
 pub(crate) mod fault;

@@ -1,4 +1,4 @@
-//! One run of `jobscope`: its words, over the files that they name.
+//! One run of `jobscope`: its arguments, applied to the files that they name.
 #![tactic(auto)]
 
 mod age;
@@ -9,6 +9,7 @@ mod clock;
 mod drift;
 mod ended;
 mod journal;
+mod left;
 mod listener;
 mod log;
 mod objects;

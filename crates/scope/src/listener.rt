@@ -16,8 +16,8 @@ use run_times::{Page, utc};
 use std::alloc::{AllocError, Global};
 use std::mem;
 
-/// What hears each line of a journal: it is taken in by the journal; for a picture the marks of a chart are kept, and for a log its lines are
-/// shown. Else the journal's end says all.
+/// Receives each line of a journal, and applies it to the journal's table. For a picture it keeps the marks of a chart, and for a log it
+/// shows the lines. Other tasks need only the journal's end.
 #[derive(Drop)]
 pub(crate) struct JournalListener<'a> {
     alloc: Global,
@@ -32,7 +32,7 @@ pub(crate) struct JournalListener<'a> {
 }
 
 impl JournalListener<'_> {
-    /// Nothing is heard yet of what the command asks for.
+    /// No line is received yet for what the command asks for.
     pub(crate) fn new(alloc: Global, of: &ScopeCommand, window: Window) -> JournalListener<'_> {
         JournalListener {
             alloc,
@@ -59,7 +59,7 @@ impl JournalListener<'_> {
         }
     }
 
-    // Takes in the line, and says whether it is an event, or the header.
+    // Applies the line, and returns whether it is an event, or the header.
     fn take(&mut self, line: &[u8], is_header: bool) -> Result<bool, JournalFault>
         ensures { IfOk result (λ _.
             HearsLine StandsAfter self.old.journal line.now is_header self.new.journal) }
@@ -142,7 +142,7 @@ fn is_within(told: Told, second: u64) -> bool {
     told.since <= second && second <= told.until
 }
 
-// Adds the lines for what the journal's last line gave. Behind the header's line stands that a launcher began.
+// Adds the lines for what the journal's last line gave. After the header's line it adds that a launcher began.
 fn add_shown(
     alloc: Global,
     of: &ScopeCommand,

@@ -10,7 +10,7 @@ use std::sync::Wait;
 use std::time::Duration;
 use std::{io, mem, thread};
 
-/// So many milliseconds lie between two looks at a file that may grow.
+/// The milliseconds between two looks at a file that may grow.
 const PAUSE: u64 = 250;
 
 /// Shows the journal as it grows, and from the beginning if a new launcher has emptied it. A file that is away for a while, as when a new

@@ -1,4 +1,4 @@
-//! The coming starts that stand on a page.
+//! The coming starts on a page.
 
 use crate::journal::reader::OpenJournal;
 use definition_files::calendar_after;

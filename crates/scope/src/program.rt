@@ -19,13 +19,15 @@ use std::alloc::Global;
 use std::io;
 use std::sync::Wait;
 
-/// How many starts are shown where the words do not say it.
+/// How many starts are shown if the arguments do not say it.
 const COUNT: u64 = 10;
 
-/// Does what the words ask, the program's own name being the first, and answers the exit status. What is asked for goes to the
-/// standard output; a fault is one line on the standard error. 64 for words that are no command, 65 for a file, 71 for the clock,
-/// 74 for the standard output, 1 for want of memory or of a check that found faults; if the standard output's reader has gone, nothing
-/// is told and the status is 141. Both `host` and `waits` are the runtime of `main`: only what takes it as `waits` may wait.
+/// Does what the arguments ask, and returns the exit status. The first argument is the program's own name. What is asked for goes to the standard
+/// output; a fault is one line on the standard error.
+///
+/// The exit status is 64 for invalid arguments, 65 for a file, 71 for the clock and 74 for the standard output. It is 1 for want of memory, or of a
+/// check that found faults. If the standard output's reader has closed it, nothing is reported and the status is 141. Both `host` and `waits` are the
+/// runtime of `main`: only what takes it as `waits` may wait.
 pub fn jobscope<W: Wait>(host: &HostRuntime, waits: &W, alloc: Global, words: &[String]) -> u8 {
     let ended = match read_scope_words(alloc, words) {
         Ok(Meaning::Command(command)) => {
@@ -81,7 +83,7 @@ fn run<W: Wait>(
     }
 }
 
-// What is wrong with the words of `next`, if something is: what goes with definitions alone stands without one, or what goes with loaded jobs beside one.
+// The error in the arguments of `next`, if there is one: an option for definitions without a definition, or one for loaded jobs with a definition.
 fn clash_of_next(of: &ScopeCommand) -> Option<&'static str> {
     match of.task {
         Task::Next => {}
@@ -101,7 +103,7 @@ fn clash_of_next(of: &ScopeCommand) -> Option<&'static str> {
     }
 }
 
-// The definitions that are made of the lines which the words give; the one word `-` stands for those of standard input.
+// Makes the definitions from the lines in the arguments; the single argument `-` means the lines of standard input.
 fn by_lines(host: &HostRuntime, alloc: Global, of: &ScopeCommand) -> io::Result<u8> {
     match of.words.as_slice() {
         [only] if only.as_str() == "-" => match lines_of(host, alloc)? {
@@ -139,7 +141,7 @@ fn named(folder: &Option<Text>) -> Option<&str> {
     }
 }
 
-// The property lists that the words name, as JSON.
+// The property lists that the arguments name, as JSON.
 fn of_lists(host: &HostRuntime, alloc: Global, of: &ScopeCommand) -> io::Result<u8> {
     let mut source = HostFiles { host };
     let paths = of.words.as_slice();
@@ -147,7 +149,7 @@ fn of_lists(host: &HostRuntime, alloc: Global, of: &ScopeCommand) -> io::Result<
     plist_ended(host, alloc, &mut source, paths, LINE_LIMIT, into)
 }
 
-// What is told of definitions in the zone that the words name, as of the second that they name, or of now.
+// Reports on definitions in the zone of the arguments, as of their second, or of now.
 fn by_zone(host: &HostRuntime, alloc: Global, of: &ScopeCommand) -> io::Result<u8> {
     let Some(named) = zone_of(host, alloc, &of.zone, of.is_utc)? else {
         return Ok(BAD_FILE);
@@ -192,7 +194,7 @@ fn ended_by(
     ended
 }
 
-// The help goes to the standard output, and what is wrong with the words to the standard error.
+// The help goes to the standard output, and what is wrong with the arguments to the standard error.
 fn explain(host: &HostRuntime, alloc: Global, words: &[String]) -> io::Result<u8> {
     let explanation = explain_scope(alloc, words)?;
     let text = explanation.text.as_str();

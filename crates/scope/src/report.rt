@@ -1,5 +1,6 @@
-//! What is told of a journal: its events, as they are read or as they come, and once it was read to its end why each job stands as it
-//! does, also as of a moment before, what its runs came to, and their picture, the definitions that are loaded, and how files differ from them.
+//! Reports on a journal: its events, as they are read or as they come. Once the journal is read to its end, or to an earlier time, the reports on
+//! jobs follow. They are why each job is in its state, what its runs came to and their picture, the loaded definitions, and how files differ from
+//! them.
 
 use crate::age::{AsOf, clock_as_of, reading_as_of};
 use crate::at::{begun_by, read_up_to};
@@ -43,17 +44,18 @@ use std::io;
 use std::io::IsTerminal;
 use std::sync::Wait;
 
-/// How many starts are shown where the words do not say it, if all are asked for.
+/// How many starts are shown if all are asked for and the arguments do not say it.
 const COUNT: u64 = 10;
 
-/// What is told where a journal would be waited for at a terminal.
+/// The message if the journal would have to come from a terminal.
 const NOT_NAMED: &str =
     "a terminal gives no journal: name one by --journal PATH, or export JOBD_JOURNAL";
 
-/// Writes what is told of the jobs of the journal, or of those that are named; of a log the events from the command's second on, each in a
-/// line. If the command follows, it goes on as the journal's file grows; only this may wait. 65 if the journal can't be read, if a line is no
-/// event or too long, if nothing has a label that `why` is asked of, or if the journal begins behind the moment that is asked of; 71 if the
-/// clock can't be read.
+/// Writes the report on the jobs of the journal, or on those that are named. A log has the events from the command's second on, a line each. If the
+/// command follows the journal, it goes on as the file grows; only this may wait.
+///
+/// The exit status is 65 if the journal can't be read, or if a line is not an event or is too long. It is 65 too if nothing has a label that `why` is
+/// asked for, or if the journal begins after the time that is asked for. It is 71 if the clock can't be read.
 pub(crate) fn report<W: Wait>(
     host: &HostRuntime,
     waits: &W,
@@ -81,7 +83,8 @@ pub(crate) fn report<W: Wait>(
     status
 }
 
-// Of several journals the last is the present launcher's; each of the others is read whole before. Up to a moment those that begin behind it are left out.
+// Of several journals the last is the present launcher's; each of the others is read whole before it. If a time is given, journals that begin later
+// are left out.
 fn report_on<W: Wait>(
     host: &HostRuntime,
     waits: &W,
@@ -112,7 +115,7 @@ fn report_on<W: Wait>(
     }
 }
 
-// The journals that are told up to the moment of the words, if there is one; it is a second then.
+// The journals to read up to the time of the arguments, if there is one. In the window, that time is a second then.
 fn up_to_moment<'a>(
     host: &HostRuntime,
     alloc: Global,
@@ -132,7 +135,7 @@ fn up_to_moment<'a>(
     }
 }
 
-// Reads each journal whole, and tells what is at fault in it. It answers the greatest exit status.
+// Reads each journal whole, and reports the faults in it. It returns the greatest exit status.
 fn read_before(
     host: &HostRuntime,
     alloc: Global,
@@ -176,7 +179,7 @@ fn report_by(
     let is_quiet = is_quiet(listener.of.task);
     let (read, as_of) = match read_as_of(host, alloc, path, is_quiet, lines, listener) {
         Ok(as_of) => (tell_bad(host, name, lines), as_of),
-        // What came before that line is told.
+        // What came before that line is reported.
         Err(JournalFault::LongLine(line)) => (tell_long(host, name, line), AsOf::End),
         Err(fault) => return tell_fault(host, name, fault),
     };
@@ -186,7 +189,7 @@ fn report_by(
     }
 }
 
-// Reads the journal, and answers as of which moment it is told.
+// Reads the journal, and returns the time as of which it is reported.
 fn read_as_of(
     host: &HostRuntime,
     alloc: Global,
@@ -206,7 +209,7 @@ fn read_as_of(
     }
 }
 
-// The journal's end, seen now. Who writes it is looked at once it was read: a launcher that ended meanwhile is gone.
+// The journal's end, seen now. The writer is looked for only after the read: a launcher that exited meanwhile does not count as running.
 fn seen_now(
     host: &HostRuntime,
     alloc: Global,
@@ -286,7 +289,7 @@ fn put_failing(
     Ok(unknown.max(if count > 0 { FAILS } else { 0 }))
 }
 
-// Why each job stands as it does, as objects. The exit status is 2 if failing jobs are asked for, and there is one.
+// Why each job is in its state, as objects. The exit status is 2 if failing jobs are asked for, and there is one.
 fn put_objects(
     host: &HostRuntime,
     alloc: Global,
@@ -324,7 +327,7 @@ fn put_runs(
     put_made(host, made)
 }
 
-// The coming starts, behind the second as of which the journal's end is seen.
+// The coming starts, after the second as of which the journal's end is seen.
 fn put_next(
     host: &HostRuntime,
     alloc: Global,
@@ -355,8 +358,8 @@ fn put_next(
     put_made(host, Ok(text))
 }
 
-// Why what a start needs may not be there: its last start was refused, or its last run ended with the code by which a shell, or a word
-// before the program, says that it can't be run (126) or is not there (127). None otherwise.
+// Why what a start needs may be missing: its last start was refused, or its last run exited with 126 or 127. A shell or a wrapper command exits with
+// 126 if it can't run the program, and with 127 if the program is missing. None otherwise.
 fn why_sought(record: &Record) -> Option<&'static str> {
     match (&record.refused, &record.last) {
         (Some(_), _) => Some("whose last start was refused"),
@@ -373,8 +376,7 @@ fn why_sought(record: &Record) -> Option<&'static str> {
     }
 }
 
-// What is seen now of what a start of a job needs, of each that may lack it. It comes last: a path on a file system that hangs silences
-// nothing that the journal tells.
+// Checks what a start of each such job needs now. It comes last: a path on a file system that hangs must not hold up what the journal says.
 fn put_now(
     host: &HostRuntime,
     alloc: Global,
@@ -397,7 +399,7 @@ fn put_now(
     Ok(())
 }
 
-// Tells each of the labels that nothing in the journal has. It answers the exit status, which is 65 then.
+// Reports each of the labels that nothing in the journal has. It returns the exit status, which is 65 then.
 fn tell_unknown(
     host: &HostRuntime,
     alloc: Global,
@@ -418,7 +420,7 @@ fn tell_unknown(
     Ok(status)
 }
 
-// Tells each of the labels that is not loaded. It answers the exit status, which is 65 then.
+// Reports each of the labels that is not loaded. It returns the exit status, which is 65 then.
 fn tell_absent(
     host: &HostRuntime,
     name: &str,
@@ -439,7 +441,7 @@ fn tell_absent(
     Ok(status)
 }
 
-// A named label that the journal has no load of is told. This is no fault.
+// A named label that the journal has no load of is reported. This is not a fault.
 fn paint(
     host: &HostRuntime,
     alloc: Global,
@@ -489,7 +491,7 @@ fn paint_page(
     put_pieces(host, alloc, zone, chart, beside.as_ref())
 }
 
-// Writes the page with what stands beside the picture, or the picture alone: piece by piece, so that its whole text is never held.
+// Writes the page around the picture, or the picture alone, piece by piece, so that its whole text is never held.
 fn put_pieces(
     host: &HostRuntime,
     alloc: Global,

@@ -1,4 +1,4 @@
-//! The texts that are written of a journal: why each job stands as it does, what its runs came to, and the journal for people.
+//! The texts that are written of a journal: why each job is in its state, what its runs came to, and the journal for people.
 
 pub(crate) mod by_facts;
 pub(crate) mod cause_lines;

@@ -1,4 +1,4 @@
-//! Which part of a journal is told: the moments of the words, and the seconds that they mean by a journal's zone.
+//! Which part of a journal is reported: the times of the arguments, and the seconds that they mean by a journal's zone.
 
 use crate::clock::now;
 use crate::journal::fault::JournalFault;
@@ -8,14 +8,14 @@ use history_model::{MAX_WALL, Text};
 use launchctl_words::{ScopeCommand, Task};
 use moment_words::{Moment, WANTED, read_moment, second_of};
 
-/// The moments of the words.
+/// The times of the arguments.
 #[derive(Clone, Copy)]
 pub(crate) struct Window {
     /// That which is asked of.
     at: Option<Moment>,
     since: Option<Moment>,
     until: Option<Moment>,
-    /// The second that is now, of which those of `since` and `until` speak.
+    /// The second that is now, for the times of `since` and `until`.
     pub(crate) now: u64,
 }
 
@@ -27,14 +27,14 @@ pub(crate) const WHOLE: Window = Window {
     now: 0,
 };
 
-/// The seconds of Unix time between which a journal is told.
+/// The seconds of Unix time between which a journal is reported.
 #[derive(Clone, Copy)]
 pub(crate) struct Told {
     pub(crate) since: u64,
     pub(crate) until: u64,
 }
 
-/// The moments that the words name. An exit status if a text is none, or if the clock can't be read; this was told.
+/// The times that the arguments name. If one is not a time, or if the clock can't be read, it reports that and returns the exit status.
 pub(crate) fn window_of(host: &HostRuntime, of: &ScopeCommand) -> Result<Window, u8> {
     let words = &of.moments;
     let at = moment_of(host, "--at", &words.at)?;
@@ -71,8 +71,8 @@ fn moment_of(host: &HostRuntime, option: &str, text: &Option<Text>) -> Result<Op
 }
 
 impl Window {
-    /// The moment behind which a journal is not read for the task, if there is one, and the second that is now for it: where that is none, the one
-    /// of the journal's last event.
+    /// The time after which a journal is not read for the task, if there is one, and the second that is now for it. None for that second: the
+    /// second of the journal's last event.
     pub(crate) fn end(&self, task: Task) -> Option<(Moment, Option<u64>)> {
         match (self.at, self.until, task) {
             (Some(moment), _, _) => Some((moment, None)),
@@ -97,7 +97,7 @@ impl Window {
         Ok(Told { since, until })
     }
 
-    // The second of the moment, or the other one if there is none.
+    // The second of the time, or the other one if there is none.
     fn second(&self, moment: Option<Moment>, zone: &Zone, other: u64) -> Result<u64, JournalFault> {
         match moment {
             Some(moment) => meant(moment, zone, self.now),
@@ -106,7 +106,7 @@ impl Window {
     }
 }
 
-/// The second of Unix time that the moment means at this second.
+/// The second of Unix time that `moment` means at this second.
 pub(crate) fn meant(moment: Moment, zone: &Zone, now: u64) -> Result<u64, JournalFault> {
     match second_of(moment, zone, now.min(MAX_WALL)) {
         Some(second) => Ok(second),

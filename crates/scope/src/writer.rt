@@ -1,5 +1,5 @@
-//! Who writes a journal, as the system tells it to those who only look: by the lock on its file and by the process that holds it. The lock is
-//! never taken here.
+//! Who writes a journal, as the system shows it to other processes: by the lock on its file and by the process that holds it. Nothing here takes the
+//! lock.
 
 use files_and_process::path_files::read_front;
 use std::alloc::Global;
@@ -11,7 +11,7 @@ use std::os::unix::fs::MetadataExt;
 /// Where Linux lists the locks of all files, one in a line: `4: FLOCK  ADVISORY  WRITE 812 08:01:1234 0 EOF`.
 const LOCKS: &str = "/proc/locks";
 
-/// So many bytes of that list are looked at.
+/// How many bytes of that list are looked at.
 const MOST: usize = 4_194_304;
 
 /// Who writes a journal.
@@ -21,7 +21,7 @@ pub(crate) enum Writer {
     Process(u32),
     /// No process holds it.
     Nobody,
-    /// The system does not tell.
+    /// The system does not show it.
     Unknown,
 }
 
@@ -37,8 +37,8 @@ pub(crate) fn writer_of(host: &HostRuntime, alloc: Global, path: &str) -> Writer
     }
 }
 
-// The process that the list names for the lock on the file. Where layers of an overlayfs lie on several file systems, a file tells another device than the
-// list, and its folder that of the list.
+// The process that the list names for the lock on the file. If the layers of an overlayfs are on several file systems, a file reports another device
+// than the list. Its folder reports that of the list.
 fn holder_of(host: &HostRuntime, alloc: Global, path: &str) -> io::Result<Option<u32>> {
     let data = metadata(host, path)?;
     let mut bytes = Vec::new(alloc);
@@ -91,7 +91,7 @@ fn holder_in(list: &str, mark: &str) -> Option<u32> {
     None
 }
 
-// The process of a line that tells of a lock on this file which excludes all others. A line of who waits for a lock has an arrow before its kind.
+// The process of a line about an exclusive lock on this file. A line about a process that waits for a lock has an arrow before its kind.
 fn holder_by(line: &str, mark: &str) -> Option<u32> {
     let mut words = line.split_whitespace();
     let _number = words.next()?;
@@ -107,7 +107,7 @@ fn holder_by(line: &str, mark: &str) -> Option<u32> {
     }
 }
 
-// Whether the process lives. Where not even the first process is shown, the system hides those of others, and the lock alone tells.
+// Whether the process is running. If not even the first process is shown, the system hides those of others, and only the lock counts.
 fn lives(host: &HostRuntime, alloc: Global, pid: u32) -> bool {
     match format!(in alloc; "/proc/{pid}") {
         Ok(folder) => {

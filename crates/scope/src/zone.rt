@@ -1,4 +1,4 @@
-//! The zone that words name, or else that of the machine.
+//! The zone that the arguments name, or else that of the machine.
 
 use calendar_due::{LONGEST_FILE, Zone, ZoneFault};
 use files_and_process::path_files::read_file;
@@ -8,24 +8,24 @@ use run_times::utc;
 use std::alloc::{AllocError, Global};
 use std::fs::metadata;
 
-/// Where the zone of this machine stands.
+/// Where the zone of this machine is.
 const LOCAL: &str = "/etc/localtime";
 
-/// The zone in which calendar entries are looked at, and the line that names it; the line is empty if the words choose the zone.
+/// The zone in which calendar entries are looked at, and the line that names it. The line is empty if the arguments choose the zone.
 pub(crate) struct Named {
     pub(crate) zone: Zone,
     pub(crate) line: &'static str,
 }
 
-// for the proof: who lets it go calls this, in place of letting each part go
+// for the proof: whoever drops it calls this, in place of dropping each part
 impl Drop for Named {
     fn drop(self) {
         let Named { zone: _, line: _ } = self;
     }
 }
 
-/// The zone that the words name; with `is_utc`, UTC if they name none, and else that of the machine. None: the rule or the file tells
-/// no zone, and this was told.
+/// The zone that the arguments name. If they name none, UTC with `is_utc`, else that of the machine. If the rule or the file does not give
+/// a zone, it reports that and returns None.
 pub(crate) fn zone_of(
     host: &HostRuntime,
     alloc: Global,

@@ -2,7 +2,7 @@
 use Rattle.startup.specs.declared.medium.Medium.{Medium}
 use Rattle.startup.specs.declared.medium.Medium.TheVariants.{Plain, Copied}
 
--- what the one or the other tells
+-- what the one or the other says
 abbrev pub told : {F C T : Type 0} → (F → T) → (C → T) → Medium F C → T
 told plain copied (Plain file) = plain file
 told plain copied (Copied copy) = copied copy

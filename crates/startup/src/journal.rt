@@ -12,8 +12,8 @@ use std::fs::{File, Files};
 use std::io;
 use std::io::{BufWriter, Error, ErrorKind};
 
-/// The journal's file, made or as it is, and held by this launcher, if one is named. Status 8 if it can't be opened, is no plain
-/// file, is held by another launcher, or is another place of this one.
+/// The journal's file, made or as it is, and held by this launcher, if one is named. Status 8 if it can't be opened, is
+/// not a plain file, is held by another launcher, or is another place of this one.
 pub fn journal_at<R: AllocGlobal + Files<File = File> + Eprint>(
     rt: &R,
     alloc: Global,
@@ -78,7 +78,7 @@ fn emptied(alloc: Global, file: File) -> io::Result<BufWriter<File>> {
     BufWriter::new(alloc, file)
 }
 
-/// Tells that `jobd replay` can't read the journal, if its first line is too long for that: it holds all settings.
+/// Reports that `jobd replay` can't read the journal, if its first line is too long for that: it holds all settings.
 pub fn tell_long_header(
     rt: &impl Eprint,
     alloc: Global,

@@ -1,6 +1,7 @@
-//! What `jobd serve` stands on, looked at and opened step by step before it serves: the process itself, the zone, the system with its
-//! clock, the control socket, the journal, the store and the spool. Each fault is told in one line on standard error, and its
-//! exit status is given. The list of the stored settings is here too, since it opens the same store.
+//! What `jobd serve` needs, checked and opened step by step before it serves. This is the process itself, the zone, the
+//! system with its clock, the control socket, the journal, the store and the spool. Each fault is printed in one line
+//! on standard error, and the call gives its exit status. The list of the stored settings is here too, since it opens
+//! the same store.
 #![tactic(auto)]
 
 mod connections;

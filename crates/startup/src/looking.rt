@@ -1,4 +1,4 @@
-//! Whether a file is a store of overrides, found out without a write: a copy of it in memory is looked at.
+//! Whether a file is a store of settings, found out without a write: this module checks a copy of it in memory.
 
 use crate::connections::{Media, MediaConnection, Task, connection_over, over_files};
 use crate::medium::Medium;
@@ -11,8 +11,8 @@ use std::fs::{File, OpenOptions};
 use std::io::{ErrorKind, Read};
 use std::{fs, io};
 
-/// A store's file has at most so many bytes, and so has the log beside it. No launcher writes one with more: each label takes two pages of
-/// 4,096 bytes at most, and few labels get a setting (`MOST_LABELS` of `override_store`).
+/// The most bytes that a store's file has, and the log next to it. No launcher writes one with more: each label takes
+/// two pages of 4,096 bytes at most, and few labels get a setting (`MOST_LABELS` of `override_store`).
 const MOST_BYTES: u64 = 1_073_741_824;
 
 /// How many pages of the copy are kept a second time.
@@ -27,7 +27,7 @@ pub(crate) enum Found {
     Store,
 }
 
-/// Looks at the plain file at the path, with the log beside it. Neither is written to.
+/// Checks the plain file at the path, with the log next to it. Neither is written to.
 pub(crate) fn look<R: AllocGlobal + fs::Files<File = File>>(
     rt: &R,
     alloc: Global,
@@ -39,7 +39,7 @@ pub(crate) fn look<R: AllocGlobal + fs::Files<File = File>>(
     }
 }
 
-/// A connection to a copy in memory of the database in the plain file at the path, with the log beside it.
+/// A connection to a copy in memory of the database in the plain file at the path, with the log next to it.
 pub(crate) fn copied_connection<R: AllocGlobal + fs::Files<File = File>>(
     rt: &R,
     alloc: Global,
@@ -126,7 +126,7 @@ fn copies(alloc: Global, file: Vec<u8>, log: Vec<u8>) -> io::Result<Media> {
     }
 }
 
-/// Looks through the copy: at its tables first, and if they are a store's, at all settings.
+/// Reads the copy: its tables first, and if they are a store's, all settings.
 struct LookThrough {
     alloc: Global,
 }

@@ -1,6 +1,6 @@
-//! Whether two places of a start are one file, told by device and inode. A journal is emptied, the files of locks are removed at the
-//! end and a spool is cleared, so none of these files may be another place's. What is put in the place of the status file is told by its path
-//! too (`status_file`), since it may not be there yet.
+//! Whether two places of a start are one file, by device and inode. A journal is emptied, the files of locks are
+//! removed at the end, and a spool is cleared. So none of these files may be another place's. The file that replaces
+//! the status file may not be there yet, so its path counts too (`status_file`).
 
 use crate::plan::{Places, Plan};
 use std::alloc::Global;
@@ -8,7 +8,7 @@ use std::fs::{Files, Metadata};
 use std::os::unix::fs::MetadataExt;
 use std::{fs, io};
 
-/// What SQLite puts behind a store's path: the names of its log, of its rollback journal and of its index of the log.
+/// What SQLite puts after a store's path: the names of its log, of its rollback journal and of its index of the log.
 pub(crate) const BESIDE_STORE: [&str; 3] = ["-wal", "-journal", "-shm"];
 
 /// Which file one is: the number of its device, and that of the file on it.
@@ -30,7 +30,8 @@ impl FileMark {
         self.device == other.device && self.inode == other.inode
     }
 
-    /// Whether the file is at the path, or a link that leads to it. If the system does not tell what is there, it is not.
+    /// Whether the file is at the path, or a link that leads to it. If the system does not say what is there, it is
+    /// not.
     pub(crate) fn is_at<R: Files>(self, rt: &R, path: &str) -> bool {
         match fs::metadata(rt, path) {
             Ok(data) => self.is(FileMark::of(&data)),
@@ -57,7 +58,8 @@ pub(crate) fn taken_for_journal<R: AllocGlobal + Files>(
     taken_for_any(rt, alloc, &plan.places, path, own)
 }
 
-/// Why the store's file can't be the store: which other place it is, if any. The journal, which is opened before, is looked at there.
+/// Why the store's file can't be the store: which other place it is, if any. The journal is open before that, and is
+/// checked there.
 pub(crate) fn taken_for_store<R: AllocGlobal + Files>(
     rt: &R,
     alloc: Global,
@@ -95,7 +97,7 @@ fn taken_for_any<R: AllocGlobal + Files>(
     Ok(None)
 }
 
-// Whether the file is one that SQLite has beside the store, wherever a link at the store's path leads.
+// Whether the file is one that SQLite has next to the store, wherever a link at the store's path leads.
 fn is_beside<R: AllocGlobal + Files>(
     rt: &R,
     alloc: Global,

@@ -13,7 +13,8 @@ use std::alloc::Global;
 use std::io;
 
 /// Prints `LABEL`, `enabled` or `disabled`, and the second of Unix time in which that was set, with a tab between them.
-/// A store that is not there is not made: status 5, as for one that can't be read. A file that is no store is not written to.
+/// A store that is not there is not made: status 5, as for one that can't be read. A file that is not a store is not
+/// written to.
 pub fn list_store(rt: &HostRuntime, alloc: Global, path: &str) -> u8 {
     let read = match look(rt, alloc, path) {
         Ok(Found::Store) => over_store(rt, path, Listing { alloc }),
@@ -26,7 +27,7 @@ pub fn list_store(rt: &HostRuntime, alloc: Global, path: &str) -> u8 {
     }
 }
 
-/// Reads all settings, and lets the store go.
+/// Reads all settings, and drops the store.
 struct Listing {
     alloc: Global,
 }
@@ -46,7 +47,7 @@ impl Task for Listing {
     }
 }
 
-/// The settings that the database has, and the second in which each was set. The database is then let go.
+/// The settings that the database has, and the second in which each was set. The database is then closed.
 pub(crate) fn read_settings<S: Alter + Drop>(
     alloc: Global,
     conn: Connection<S>,

@@ -1,4 +1,4 @@
-//! What the launcher stands on beside its files: the system with its clock, and the control socket.
+//! What the launcher needs besides its files: the system with its clock, and the control socket.
 
 use crate::plan::Plan;
 use crate::reporting::{Level, refuse, tell};
@@ -52,7 +52,7 @@ fn first_reading<R: System>(plan: &Plan, edge: &mut OsEdge<R>) -> Result<Reading
     edge.read()
 }
 
-/// Tells that the first reading is refused.
+/// Reports that the first clock reading is refused.
 pub fn no_clock(rt: &impl Eprint, level: Level) -> u8 {
     tell(rt, level, "clock", "it can't be read, or is past its limit");
     CLOCK_OR_WAITING

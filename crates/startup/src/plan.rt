@@ -1,5 +1,5 @@
-//! What a start goes by: the places that the words name, what the environment asks for, and what the system says of this
-//! process.
+//! What a start goes by: the places that the arguments name, what the environment asks for, and what the system says of
+//! this process.
 
 use crate::reporting::{Level, refuse, report};
 use crate::status_file::check_status_file;
@@ -12,7 +12,7 @@ use std::env::VarError;
 use std::fs::{File, Files};
 use std::rt::Env;
 
-/// The paths that the words name.
+/// The paths that the arguments name.
 #[derive(Drop)]
 pub struct Places {
     pub socket: Text,
@@ -24,12 +24,12 @@ pub struct Places {
 /// What the environment asks for.
 #[derive(Clone, Copy)]
 pub struct Wishes {
-    /// `JOBD_LOG=runs`: starts, ends, TERM and KILL are told too.
+    /// `JOBD_LOG=runs`: the launcher also logs starts, exits, TERM and KILL.
     pub logs_runs: bool,
     pub level: Level,
 }
 
-/// What a start goes by, and what is held as long as the launcher lives.
+/// What a start goes by, and what is held as long as the launcher is running.
 #[derive(Drop)]
 pub struct Plan {
     pub places: Places,
@@ -70,7 +70,7 @@ pub fn plan_of<R: AllocGlobal + Env + Eprint + Files<File = File>>(
     }
 }
 
-// What stands in `JOBD_LOG` and `JOURNAL_STREAM`. Another word than `runs` is told, and asks for nothing.
+// What `JOBD_LOG` and `JOURNAL_STREAM` are set to. Another value than `runs` is reported, and asks for nothing.
 fn read_wishes<R: AllocGlobal + Env + Eprint>(rt: &R) -> Result<Wishes, AllocError> {
     let level = match env::var(rt, "JOURNAL_STREAM") {
         Err(VarError::OutOfMemory) => return Err(AllocError),

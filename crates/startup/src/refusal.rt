@@ -1,4 +1,4 @@
-//! Why a store can't be used, and how that is told.
+//! Why a store can't be used, and how that is reported.
 
 use crate::reporting::{Level, refuse, report};
 use exit_status::{NO_MEMORY, STORE};
@@ -22,7 +22,51 @@ pub(crate) enum StoreRefusal {
     Settings(StoreFault),
 }
 
+// As `StoreRefusal::number`, of a disk that has no room, and of one that fails.
+const FULL: u32 = 1;
+
+const FAILED: u32 = 2;
+
+/// What an error of the system adds to its number: at the store's file, and at its log.
+const AT_FILE: u32 = 10_000;
+
+const AT_LOG: u32 = 20_000;
+
+/// As `StoreRefusal::number`, for a fault of a store that is open.
+pub(crate) fn number_of(fault: StoreFault) -> u32 {
+    match fault {
+        StoreFault::Full => FULL,
+        StoreFault::Refused => FAILED,
+        StoreFault::NoMemory => 3,
+        StoreFault::Foreign => 4,
+    }
+}
+
+// Of an error of the system.
+fn system_number(error: &io::Error, at: u32) -> u32 {
+    let number = error.raw_os_error().unwrap_or(0);
+    at.saturating_add(u32::try_from(number).unwrap_or(0))
+}
+
 impl StoreRefusal {
+    /// A number above 0, another one for each reason.
+    pub(crate) fn number(&self) -> u32 {
+        match self {
+            StoreRefusal::System("store", error) | StoreRefusal::Files(OpenError::Io(error)) => {
+                system_number(error, AT_FILE)
+            }
+            StoreRefusal::System(_, error) => system_number(error, AT_LOG),
+            StoreRefusal::Files(OpenError::OutOfMemory) => 3,
+            StoreRefusal::Foreign => 4,
+            StoreRefusal::Taken(_) => 5,
+            StoreRefusal::Files(OpenError::Busy) => 6,
+            StoreRefusal::Files(OpenError::HotJournal) => 7,
+            StoreRefusal::Settings(fault) => number_of(*fault).saturating_add(10),
+            StoreRefusal::Database(Error::SqliteFailure(code)) => code_number(*code),
+            StoreRefusal::Database(_) => 8,
+        }
+    }
+
     /// Whether its disk had no room.
     pub(crate) fn is_full(&self) -> bool {
         match self {
@@ -39,7 +83,21 @@ impl StoreRefusal {
     }
 }
 
-/// The status of the refusal, which is told unless memory was wanting.
+// As `StoreRefusal::number`, of a database.
+fn code_number(code: ErrorCode) -> u32 {
+    match code {
+        ErrorCode::DiskFull => FULL,
+        ErrorCode::SystemIoFailure => FAILED,
+        ErrorCode::OutOfMemory => 3,
+        ErrorCode::NotADatabase => 20,
+        ErrorCode::DatabaseCorrupt => 21,
+        ErrorCode::CannotOpen => 22,
+        ErrorCode::DatabaseBusy => 23,
+        _ => 24,
+    }
+}
+
+/// Reports the refusal, unless memory ran out, and gives its status.
 pub(crate) fn refuse_store(
     rt: &impl Eprint,
     level: Level,

@@ -1,4 +1,4 @@
-//! How a fault is told: one line on standard error, with the path and the reason.
+//! How a fault is reported: one line on standard error, with the path and the reason.
 
 use exit_status::NO_MEMORY;
 use std::fmt::Display;
@@ -11,7 +11,7 @@ pub struct Level {
 }
 
 impl Level {
-    /// No level is told.
+    /// No level is printed.
     pub const NONE: Level = Level { is_told: false };
 
     pub fn warning(self) -> &'static str {
@@ -19,19 +19,19 @@ impl Level {
     }
 }
 
-/// Tells what is at fault, and why.
+/// Reports what is at fault, and why.
 pub fn tell(rt: &impl Eprint, level: Level, part: &str, reason: &str) {
     let front = level.warning();
     let _written = eprintln!(rt; "{front}jobd: {part}: {reason}");
 }
 
-/// Tells what of the program failed, at which path, and why.
+/// Reports what of the program failed, at which path, and why.
 pub fn report(rt: &impl Eprint, level: Level, part: &str, path: &str, reason: &impl Display) {
     let front = level.warning();
     let _written = eprintln!(rt; "{front}jobd: {part} {path}: {reason}");
 }
 
-/// The status for an error of the system, which is told unless memory was wanting.
+/// Reports an error of the system, unless memory ran out, and gives its status.
 pub fn refuse(
     rt: &impl Eprint,
     level: Level,

@@ -8,9 +8,9 @@ use files_and_process::own_files::{LockFile, check_folder};
 use std::alloc::Global;
 use std::io;
 
-/// Takes the folder for this launcher, by a lock on its file `jobd.lock`, and removes what a launcher that was killed left in
-/// it. Status 10 if another launcher holds it, or others may write in it. A folder that is not there, or that the system
-/// refuses, is told, and is not held: jobs without sockets don't need it.
+/// Takes the folder for this launcher, by a lock on its file `jobd.lock`, and removes what a launcher that was killed
+/// left in it. Status 10 if another launcher holds it, or others may write in it. A folder that is not there, or that
+/// the system refuses, is reported, and is not held: jobs without sockets don't need it.
 pub fn hold_spool<R: System>(rt: &R, alloc: Global, plan: &Plan) -> Result<Option<LockFile>, u8> {
     let (folder, level) = (plan.places.spool.as_str(), plan.wishes.level);
     match held(rt, alloc, folder, plan.standing.user) {

@@ -1,4 +1,4 @@
-//! Whether a process can serve as it was started, and what is told of its limits and ignored signals.
+//! Whether a process can serve as it was started, and what it reports of its limits and ignored signals.
 
 use crate::plan::Plan;
 use crate::reporting::{Level, report, tell};
@@ -8,7 +8,8 @@ use files_and_process::own_process::{Signal, Standing, sees_children};
 use std::alloc::Global;
 use std::io;
 
-/// Status 9 if too few descriptors are allowed, or the ends of children can't be seen. A shell that can't be started is told.
+/// Status 9 if too few descriptors are allowed, or the exits of children can't be seen. It reports a shell that can't
+/// be started.
 pub fn check_standing<R: System>(rt: &R, alloc: Global, plan: &Plan) -> Result<(), u8> {
     let level = plan.wishes.level;
     if room_for(plan.standing.descriptors, 0) == 0 {
@@ -40,7 +41,8 @@ fn refuse_serving(rt: &impl Eprint, level: Level, part: &str, why: &str) -> u8 {
     CLOCK_OR_WAITING
 }
 
-/// Tells the limit on the size of files, if the system ends who goes past it, and the signals that each job will ignore.
+/// Reports the limit on the size of files, if the system ends who goes past it, and the signals that each job will
+/// ignore.
 pub fn tell_standing(rt: &impl Eprint, plan: &Plan) {
     let (standing, level) = (&plan.standing, plan.wishes.level);
     if standing.file_size.is_some() && !standing.ignores(Signal::Xfsz) {

@@ -1,4 +1,5 @@
-//! The status file is no other place's file: something is put in its place again and again, and the file of its lock is removed at the end.
+//! The status file is not another place's file: something is put in its place again and again, and the file of its lock
+//! is removed at the end.
 
 use crate::one_file::{BESIDE_STORE, FileMark, name_of};
 use crate::plan::Places;
@@ -13,7 +14,7 @@ use std::{env, fs};
 /// What names the status file.
 const STATUS_FILE: &str = "JOBD_STATUS_FILE";
 
-/// What its files have behind its path: itself, what is written before it is put in place, and its lock.
+/// What its files have after its path: itself, what is written before it is put in place, and its lock.
 const OWN: [&str; 3] = ["", ".new", ".lock"];
 
 /// A file, by its path without links and, if it is there, by its number.
@@ -23,7 +24,8 @@ struct OneFile {
     mark: Option<FileMark>,
 }
 
-/// Another place's file, as its path has it and what stands behind that: the exit status if the status file is this one, and why.
+/// Another place's file, as its path has it and what comes after that: the exit status if the status file is this one,
+/// and why.
 #[derive(Clone, Copy)]
 struct Other<'a> {
     path: &'a str,
@@ -68,7 +70,7 @@ fn taken_for<R: AllocGlobal + Files>(
     places: &Places,
     path: &str,
 ) -> Result<Option<(u8, &'static str)>, AllocError> {
-    // What stands beside the store stands where a link at its path leads.
+    // What is next to the store is where a link at its path leads.
     let store = real_of(rt, alloc, places.store.as_str())?;
     for end in OWN {
         let own = file_at(rt, alloc, path, end)?;
@@ -149,7 +151,7 @@ fn place<'a>(path: &'a str, end: &'static str, status: u8, why: &'static str) ->
     }
 }
 
-// The file at the path and what stands behind that, wherever links lead.
+// The file at the path with this end, wherever links lead.
 fn file_at<R: AllocGlobal + Files>(
     rt: &R,
     alloc: Global,

@@ -1,11 +1,13 @@
-//! The store of a launcher: opened, served from, and settled once the launcher has let go of it.
+//! The store of a launcher: opened, served from, and settled once the launcher has released it.
+
+ghost use Rattle.std.specs.Prelude.{None};
 
 use crate::connections::{Media, MediaConnection, Task, connection_over, over_files};
 use crate::looking::{Found, copied_connection, look};
 use crate::medium::Medium;
 use crate::one_file::taken_for_store;
 use crate::plan::Plan;
-use crate::refusal::{StoreRefusal, refuse_store};
+use crate::refusal::{StoreRefusal, number_of, refuse_store};
 use crate::reporting::{Level, report};
 use files_and_process::own_files::make_private;
 use history_model::Setting;
@@ -14,14 +16,18 @@ use override_store::{LastingSettings, StoreFault, StoreNews, StorePlace, Telling
 use sqlite::{Alter, Connection, Files, Options, Unknown};
 use sqlite_std_file::OpenError;
 use std::alloc::Global;
+use std::cell::Cell;
 use std::hash::{BuildHasher, RandomState};
 use std::io;
 
-/// As many pages of the store are kept in memory.
+/// How many pages of the store are kept in memory.
 const CACHE_PAGES: usize = 64;
 
-/// The log beside the store is moved into the store once it has so many pages, which is a megabyte.
+/// How many pages the log next to the store has when it is moved into the store: a megabyte.
 const LOG_PAGES: usize = 256;
+
+/// Of so many reasons at most each is logged once, until the store takes a setting.
+const REASONS: usize = 8;
 
 /// What is done with a store that was opened, and with the settings that it holds.
 pub trait StoreUser {
@@ -29,13 +35,19 @@ pub trait StoreUser {
     fn use_store<T: SettingStore + Drop>(self, store: T, settings: Vec<Setting>) -> Result<u8, u8>;
 }
 
-/// Opens the store at the path, which is made, for this user alone, if it is not there, and has it used. A setting that its disk refuses
-/// shuts it, and the next one opens it anew. At the end it is opened once more, and what its files have otherwise than it was told is
-/// written again, which is told; then what the log beside it holds is moved into its file. That this is refused is told, unless another
-/// launcher has the store by then. A store whose disk is full, so that it can't be opened, is used shut, if a copy of it in memory can be read: its
-/// settings hold, and the next setting opens it. That is told. Status 5, with the user given back, if it is no store or can't be opened otherwise, as
-/// while another launcher has it open, if its tables or its settings are refused, or if its file is the lock of another place or one that the
-/// clearing of the spool may remove.
+/// Opens the store at the path, and has the user use it. The store is made, for this user alone, if it is not there. A
+/// setting that its disk refuses shuts it, and the next one opens it again.
+///
+/// At the end it is opened once more. Settings that its files do not have as the launcher set them are written again,
+/// which is reported. Then the contents of the log next to it are moved into its file. A refusal of this is reported,
+/// unless another launcher has the store by then.
+///
+/// A store whose disk is full, so that it can't be opened, is used shut, if a copy of it in memory can be read. Its
+/// settings then hold, and the next setting opens it. This is reported.
+///
+/// Status 5, with the user given back, if it is not a store, or can't be opened otherwise, as while another launcher
+/// has it open. Status 5 too if its tables or its settings are refused, or if its file is the lock of another place.
+/// The same holds for a file that the clearing of the spool may remove.
 pub fn with_store<U: StoreUser>(
     rt: &HostRuntime,
     alloc: Global,
@@ -43,7 +55,12 @@ pub fn with_store<U: StoreUser>(
     user: U,
 ) -> Result<u8, (u8, U)> {
     let (path, level) = (plan.places.store.as_str(), plan.wishes.level);
-    let place = StoreFiles { rt, level, path };
+    let place = StoreFiles {
+        rt,
+        level,
+        path,
+        told: Cell::new([0; REASONS]),
+    };
     let found = match look_at_own(rt, alloc, plan) {
         Ok(found) => found,
         Err(refusal) => return Err((refuse_store(rt, level, path, refusal), user)),
@@ -81,6 +98,7 @@ fn used_over<U: StoreUser>(
         rt: place.rt,
         level: place.level,
         path: place.path,
+        told: Cell::new([0; REASONS]),
     };
     let opened = match source {
         Source::Files => connection_at(place.rt, place.path),
@@ -98,7 +116,8 @@ fn used_over<U: StoreUser>(
     }
 }
 
-// The settings at the place. What the connection stood on goes, if it is refused: over any store, since a real one would be let go part by part.
+// The settings at the place. If it is refused, what is under the connection is dropped. This is over any store, since a
+// real one would be dropped part by part.
 fn settings_of<S: Alter + Drop, P: StorePlace<Connection<S>> + Drop>(
     alloc: Global,
     place: P,
@@ -128,22 +147,45 @@ fn look_at_own(rt: &HostRuntime, alloc: Global, plan: &Plan) -> Result<Found, St
     }
 }
 
-// Makes the file, if it is not there, and tells which other place it is, if any.
+// Makes the file, if it is not there, and says which other place it is, if any.
 fn private_file(rt: &HostRuntime, alloc: Global, plan: &Plan) -> io::Result<Option<&'static str>> {
     make_private(rt, plan.places.store.as_str())?;
     taken_for_store(rt, alloc, plan)
 }
 
-/// Where a launcher's store stands among the files of the system.
+/// Where a launcher's store is among the files of the system.
 #[derive(Drop)]
 struct StoreFiles<'a> {
     rt: &'a HostRuntime,
     level: Level,
     path: &'a str,
+    // The numbers of the reasons that were logged since `StoreNews::Anew`, and then 0.
+    told: Cell<[u32; REASONS]>,
+}
+
+impl StoreFiles<'_> {
+    // Whether the reason with this number is logged now: it was not yet, and it is among the first `REASONS`. It is noted.
+    fn is_new(&self, number: u32) -> bool {
+        let mut told = self.told.get();
+        for one in told.iter_mut() {
+            if *one == number {
+                return false;
+            }
+            if *one == 0 {
+                *one = number;
+                self.told.set(told);
+                return true;
+            }
+        }
+        false
+    }
 }
 
 impl StorePlace<MediaConnection> for StoreFiles<'_> {
-    fn open(&self, _alloc: Global, telling: Telling) -> Result<MediaConnection, StoreFault> {
+    // What is asked of the system is not told.
+    ghost asked = { λ s. None };
+
+    fn open(&mut self, _alloc: Global, telling: Telling) -> Result<MediaConnection, StoreFault> {
         match private_connection_at(self.rt, self.path) {
             Ok(conn) => Ok(conn),
             Err(refusal) => Err(fault_of(self, telling, refusal)),
@@ -165,16 +207,22 @@ impl StorePlace<MediaConnection> for StoreFiles<'_> {
             StoreNews::TooMany => "16,384 labels have a setting, and no other may have one",
             StoreNews::Mended =>
                 "its files had not the last settings of all labels: they are written again",
+            StoreNews::Anew => return self.told.set([0; REASONS]),
         };
-        report(self.rt, self.level, "store", self.path, &why);
+        let is_told = match news {
+            StoreNews::Refused(fault) => self.is_new(number_of(fault)),
+            _ => true,
+        };
+        if is_told {
+            report(self.rt, self.level, "store", self.path, &why);
+        }
     }
 }
 
-// Why the store was not opened, which is told as it is asked for.
+// Why the store was not opened. It reports that as `telling` says.
 fn fault_of(place: &StoreFiles<'_>, telling: Telling, refusal: StoreRefusal) -> StoreFault {
     let is_told = match telling {
-        Telling::Nothing => false,
-        Telling::All => true,
+        Telling::New => place.is_new(refusal.number()),
         Telling::AllButBusy => !matches!(refusal, StoreRefusal::Files(OpenError::Busy)),
     };
     if is_told {

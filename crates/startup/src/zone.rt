@@ -1,4 +1,4 @@
-//! The zone that the words name, as the header of a journal tells it.
+//! The zone that the arguments name, as the header of a journal has it.
 
 use crate::reporting::{Level, refuse, report};
 use calendar_due::{Zone, ZoneFault};
@@ -10,11 +10,11 @@ use launchctl_words::ZoneWords;
 use std::alloc::Global;
 use std::fs::{File, Files};
 
-/// A zone file has at most so many bytes.
+/// How many bytes a zone file has at most.
 const MOST_BYTES: u64 = 65_536;
 
-/// The zone of calendar entries. Status 7 for a rule or a file that tells no zone, and for a file that can't be read or is no plain file: it waits
-/// at no FIFO.
+/// The zone of calendar entries. Status 7 for a rule or a file that does not describe a zone, and for a file that can't
+/// be read or is not a plain file. It does not wait at a FIFO.
 pub fn zone_of<R: Files<File = File> + Eprint>(
     rt: &R,
     alloc: Global,

@@ -1,4 +1,4 @@
--- What a table tells of a job are the facts of each machine that it keeps.
+-- What a table says of a job are the facts of each machine that it keeps.
 use Rattle.std.proofs.Common.{◌≡◌, ℕ, Option, Some, None, IfSome, refl, subst}
 use Rattle.std.specs.Option.{option_map}
 use Rattle.history_model.specs.Items.{History}
@@ -16,7 +16,7 @@ pub told : (at : Option History) (facts : JobFacts) → Some facts.reasons ≡ o
 told None facts reasons moments spawns demand path = absurd moments
 told (Some past) facts reasons moments spawns demand path = record { reasons = value_in facts.reasons (Some (reasons_of past)) reasons; moments = moments; spawns = spawns; demand = demand; path = path }
 
--- of a job that is not loaded nothing is told
+-- nothing is said of a job that is not loaded
 pub untold : (at : Option History) → None ≡ option_map reasons_of at → HasFacts at None
 untold None none = tt
 untold (Some past) none = absurd (cc)

@@ -1,4 +1,4 @@
--- What is told of a label holds beside what is known of its line.
+-- What is said of a label holds besides what is known of its line.
 use Rattle.std.proofs.Common.{◌≡◌, ℕ, List, Option, Some, None, IfSome, subst, sym}
 use Rattle.std.specs.Borrow.{Bor}
 use Rattle.json.specs.Token.{Token}
@@ -9,7 +9,7 @@ both : (is_json : Type 0) (ts : List Token) (found : Option (Bor (List ℕ))) �
 both is_json ts None holds named = tt
 both is_json ts (Some label) holds named = (holds, named)
 
--- what was read of tokens is told of the line that has them
+-- what was read of tokens holds of the line that has them
 pub told : (is_json : Type 0) (read ts : List Token) (found : Option (Bor (List ℕ))) → read ≡ ts → is_json →
     IfSome found (λ label. BeginsWithLabel read label.now) →
     (found ≡ None → (label : List ℕ) → BeginsWithLabel read label → ⊥) →

@@ -15,7 +15,7 @@ use Rattle.status_file.specs.Lines.{Adds, Puts, line_of}
 pub nothing : (line : Line) → Puts [] line line
 nothing line = record { kept = λ well. well; before = refl; added = λ well. sym (append-nil line.writer.tokens) }
 
--- so of what is told clause by clause
+-- the same from its clauses
 pub puts : (ts : List Token) (x y : Line) → (y.is_refused ≡ false → x.is_refused ≡ false) → y.writer.before ≡ x.writer.before →
     (y.is_refused ≡ false → y.writer.tokens ≡ x.writer.tokens ++ ts) → Puts ts x y
 puts ts x y kept before added = record { kept = kept; before = before; added = added }
@@ -50,7 +50,7 @@ one_entry_more es at other x y z is_there first second =
     ∙ ap (λ last. front ++ last) (append-nil (entry_tokens entry)) in
     subst (λ ts. Puts ts x z) (sym more) (followed front (entry_tokens entry) x y z first second)
 
--- a line that was begun behind a text, and ended with these tokens
+-- a line that was begun after a text, and ended with these tokens
 pub ended : (ts : List Token) (old new : StatusText) (x y : Line) →
     x.is_refused ≡ old.is_refused → x.writer.before ≡ old.bytes.items → x.writer.tokens ≡ [] → Puts ts x y →
     (new.is_refused ≡ false → new.bytes.items ≡ y.writer.before ++ line_of y.writer.tokens) →

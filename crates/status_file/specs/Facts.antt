@@ -1,4 +1,4 @@
--- What is told of a job: the facts of its past.
+-- What is reported of a job: the facts of its past.
 use Rattle.std.specs.Option.{option_map}
 use Rattle.std.specs.Prelude.{◌≡◌, Option, Some, None}
 use Rattle.history_model.specs.Items.{History}
@@ -7,8 +7,8 @@ use Rattle.history_model.specs.Demands.{latest_demand}
 use Rattle.job_core.specs.JobMoments.{AreMoments}
 use Rattle.status_file.specs.declared.facts.JobFacts.{JobFacts}
 
--- the facts of the job with this past: its reasons, the moments of its next orders, from when on a
--- reading starts it, what made its demand, and which path holds it wanted
+-- The facts of the job with this past: its reasons, when its next orders are due, and from when on
+-- a clock reading starts it. Then come what made its start request, and which path holds it wanted.
 pub record AreFacts (past : History) (facts : JobFacts) : Type 0 where
   pub reasons : facts.reasons ≡ reasons_of past
   pub moments : AreMoments past facts.moments

@@ -26,14 +26,14 @@ text_of line = line_of (job_tokens line.job line.calendar)
 abbrev pub disabled_in : State → Label → Option Bool
 disabled_in s label = option_map (λ past. is_disabled s label (definition_of past).disabled) (past_of s label)
 
--- What is told of a job holds of the job with its own label, by this machine: its facts, and whether it is disabled.
+-- What is reported of a job holds of the job with its own label, by this machine: its facts, and whether it is disabled.
 abbrev pub Tells : State → JobStatus → Type 0
 Tells s job = HasFacts (past_of s job.label.now) (Some job.facts) × (disabled_in s job.label.now ≡ Some (is_some job.disabled))
 
 abbrev pub IsOf : State → JobLine → Type 0
 IsOf s line = Tells s line.job
 
--- Some lines stand behind the text of before, unless memory was refused. Of each machine that the table keeps, each tells the facts of its own job.
+-- Some lines follow the text of before, unless memory was refused. For each machine that the table keeps, each line has the facts of its own job.
 pub record AddsJobs (table : Table) (old new : StatusText) : Type 0 where
   pub kept : new.is_refused ≡ false → old.is_refused ≡ false
   pub added : new.is_refused ≡ false → (lines : List JobLine)

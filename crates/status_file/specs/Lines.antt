@@ -5,7 +5,7 @@ use Rattle.json.specs.Print.{print}
 use Rattle.status_file.specs.declared.line.Line.{Line}
 use Rattle.status_file.specs.declared.line.StatusText.{StatusText}
 
--- These tokens stand behind those of before, unless memory was refused; and a refusal stays.
+-- These tokens follow those of before, unless memory was refused; and a refusal stays.
 pub record Puts (tokens : List Token) (old new : Line) : Type 0 where
   pub kept : new.is_refused ≡ false → old.is_refused ≡ false
   pub before : new.writer.before ≡ old.writer.before
@@ -15,7 +15,7 @@ pub record Puts (tokens : List Token) (old new : Line) : Type 0 where
 abbrev pub line_of : List Token → List ℕ
 line_of tokens = print tokens ++ 10 ∷ []
 
--- The line of these tokens stands behind the text of before, unless memory was refused.
+-- The line of these tokens follows the text of before, unless memory was refused.
 pub record Adds (tokens : List Token) (old new : StatusText) : Type 0 where
   pub kept : new.is_refused ≡ false → old.is_refused ≡ false
   pub added : new.is_refused ≡ false → new.bytes.items ≡ old.bytes.items ++ line_of tokens

@@ -60,7 +60,7 @@ abbrev pub flag_token : Option Bool → Token
 flag_token None = null
 flag_token (Some flag) = boolean flag
 
--- ---- words
+-- ---- names
 
 abbrev pub demand_text : DemandKind → List ℕ
 demand_text kinds.Load = codes "load"
@@ -89,19 +89,19 @@ abbrev pub disabled_token : Option DisabledBy → Token
 disabled_token None = null
 disabled_token (Some by) = string (disabled_text by)
 
--- ---- readings
+-- ---- clock readings
 
 abbrev pub reading_tokens : Reading → List Token
 reading_tokens at =
     begin_object ∷ key (codes "up") ∷ number (decimal at.up)
     ∷ key (codes "wall") ∷ number (decimal at.wall) ∷ end_object ∷ []
 
--- a reading under its key, null if there is none
+-- a clock reading under its key, null if there is none
 abbrev pub moment_tokens : List ℕ → Option Reading → List Token
 moment_tokens name None = key name ∷ null ∷ []
 moment_tokens name (Some at) = key name ∷ reading_tokens at
 
--- ---- what the table tells
+-- ---- what the table says
 
 abbrev pub child_pid : Option StandingChild → Option ℕ
 child_pid None = None
@@ -168,7 +168,7 @@ reasons_tokens r =
     held_tokens r
     ++ (child_tokens r.child ++ (awaited_tokens r.awaited ++ (wants_tokens r.wants ++ end_object ∷ [])))
 
--- its moments
+-- when its next orders are due
 abbrev pub times_tokens : Moments → Option ℕ → List Token
 times_tokens m spawn =
     key (codes "moments") ∷ begin_object
@@ -178,7 +178,7 @@ times_tokens m spawn =
     ∷ key (codes "spawn") ∷ count_token spawn
     ∷ end_object ∷ []
 
--- what made its demand, and which path holds it wanted
+-- what made its start request, and which path holds it wanted
 abbrev pub wanted_tokens : Option DemandKind → Option (Bor (List ℕ)) → List Token
 wanted_tokens demand path =
     key (codes "demand") ∷ demand_token demand ∷ key (codes "path") ∷ text_token path ∷ []
@@ -186,7 +186,7 @@ wanted_tokens demand path =
 abbrev pub moments_tokens : JobFacts → List Token
 moments_tokens f = times_tokens f.moments f.spawns_from ++ wanted_tokens f.demand f.path
 
--- ---- what is kept beside the table
+-- ---- what is kept next to the table
 
 abbrev pub name_tokens : List ℕ → JobState → List Token
 name_tokens label state =

@@ -7,16 +7,16 @@ ghost use Rattle.status_file.specs.Facts.{HasFacts};
 use history_model::{DemandKind, Reasons};
 use job_table::{JobTable, Moments};
 
-/// What the table says of a job that is loaded. Moments are milliseconds of `up`.
+/// What the table says of a job that is loaded. Times are milliseconds of `up`.
 #[derive(Clone, Copy)]
 pub struct JobFacts<'a> {
     /// What keeps it from a start, and what wants it.
     pub reasons: Reasons,
     /// From when on TERM and KILL are due for its run, and when its interval is over.
     pub moments: Moments,
-    /// From when on a reading starts it, if no entry of its calendar fires.
+    /// From which `up` on a clock reading starts it, if no entry of its calendar fires.
     pub spawns_from: Option<u64>,
-    /// What made the pending demand.
+    /// What made the pending start request.
     pub demand: Option<DemandKind>,
     /// Which path holds it wanted.
     pub path: Option<&'a str>,

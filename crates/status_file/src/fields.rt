@@ -1,4 +1,4 @@
-//! The members of an object of a line, each by its key and kind. The first fault is kept and told at the end: so those who read have one way out.
+//! The members of an object of a line, each by its key and kind. The first fault is kept and returned at the end: so those who read have one way out.
 
 use crate::read::StatusFault;
 use history_model::Reading;
@@ -25,7 +25,7 @@ impl<'a> Fields<'a> {
         }
     }
 
-    // What stands under the key. A key that is absent is a fault.
+    // The value of the key. A key that is absent is a fault.
     fn found(&mut self, key: &'static str) -> Option<&'a Value> {
         let object = self.object?;
         let found = object.get(key);
@@ -35,7 +35,7 @@ impl<'a> Fields<'a> {
         found
     }
 
-    // What stands under the key and is not null.
+    // The value of the key, if it is not null.
     fn filled(&mut self, key: &'static str) -> Option<&'a Value> {
         let value = self.found(key)?;
         if value.is_null() { None } else { Some(value) }
@@ -50,7 +50,7 @@ impl<'a> Fields<'a> {
         count
     }
 
-    /// The number under the key; 0 beside a fault.
+    /// The number under the key; 0 after a fault.
     pub(crate) fn count(&mut self, key: &'static str) -> u64 {
         let count = match self.found(key) {
             Some(value) => value.as_u64(),
@@ -110,14 +110,14 @@ impl<'a> Fields<'a> {
         text
     }
 
-    // What stands under the key is of another kind.
+    // Notes a fault, if the value of the key is of another kind.
     fn present(&mut self, key: &'static str, is_found: bool) {
         if !is_found {
             self.fail(StatusFault::Wrong(key));
         }
     }
 
-    /// Whether something stands under the key. That nothing does is no fault.
+    /// Whether the key is present. It is not a fault if it is absent.
     pub(crate) fn has(&self, key: &str) -> bool {
         match self.object {
             Some(object) => object.get(key).is_some(),
@@ -143,12 +143,12 @@ impl<'a> Fields<'a> {
         })
     }
 
-    /// The faults of an object inside this one, behind its own.
+    /// Takes the first fault of an object inside this one, which began with this one's faults.
     pub(crate) fn with(&mut self, inside: Fields<'a>) {
         self.fault = inside.fault;
     }
 
-    /// The reading: `up` and `wall`.
+    /// The clock reading: `up` and `wall`.
     pub(crate) fn reading(&mut self) -> Reading {
         Reading {
             up: self.count("up"),
@@ -156,12 +156,12 @@ impl<'a> Fields<'a> {
         }
     }
 
-    /// The words under a key are none of those that may stand there.
+    /// The value of the key is not one of the allowed names.
     pub(crate) fn refuse(&mut self, key: &'static str) {
         self.fail(StatusFault::Wrong(key));
     }
 
-    /// The members of the list under the key; none beside a fault.
+    /// The members of the list under the key; None after a fault.
     pub(crate) fn list(&mut self, key: &'static str) -> Option<&'a [Value]> {
         let list = match self.found(key) {
             Some(value) => value.as_array(),

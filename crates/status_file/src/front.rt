@@ -1,4 +1,4 @@
-//! The labels of lines, told without a tree of what they say.
+//! The labels of lines, found without a tree of what they say.
 
 ghost use Rattle.std.specs.Prelude.{◌≡◌, ◌∷◌, ℕ, List, true, false, None, IfOk, IfSome};
 ghost use Rattle.json.specs.Token.{Token, begin_object, key};
@@ -21,8 +21,8 @@ impl LineRoom {
         }
     }
 
-    /// The label of the job of a line, without its newline: of one that is JSON and begins as the launcher writes it. None tells nothing of another line:
-    /// it has to be read. An error for want of memory.
+    /// The label of the job of a line without its newline, if the line is JSON and begins as the launcher writes it. None: the line is another one,
+    /// and must be read. An error for want of memory.
     pub fn label_in<'a>(&'a mut self, line: &'a str) -> Result<Option<&'a str>, AllocError>
         ensures named { IfOk result (λ found. IfSome found (λ label. IsLineOf line.now label.now)) }
         ensures unnamed { IfOk result (λ found. found ≡ None → (label : List ℕ) →

@@ -17,10 +17,10 @@ use job_table::JobTable;
 use std::alloc::{AllocError, Global};
 use std::cmp::Ordering;
 
-/// As many numbers are asked for. A table gives a job the least number that is free, and a job that is gone has its own until the next event.
+/// How many job numbers are asked for. A table gives a job the least number that is free. A removed job keeps its number until the next event.
 pub(crate) const NUMBERS: JobNo = 2048;
 
-/// How many jobs are loaded: `add_jobs` adds so many lines. It takes no memory.
+/// How many jobs are loaded, and so how many lines `add_jobs` adds. It takes no memory.
 pub fn job_count(table: &JobTable) -> u64 {
     let mut count: u64 = 0;
     for job in 0..NUMBERS {
@@ -31,7 +31,7 @@ pub fn job_count(table: &JobTable) -> u64 {
     count
 }
 
-// Whether the number is that of a loaded job, and of none that is just gone.
+// Whether the number is that of a loaded job, and not of one that was just removed.
 pub(crate) fn is_loaded(table: &JobTable, job: JobNo) -> bool {
     match job_of(table, job) {
         Some((label, _)) => table.moments(label).is_some(),
@@ -39,7 +39,8 @@ pub(crate) fn is_loaded(table: &JobTable, job: JobNo) -> bool {
     }
 }
 
-/// The label and the definition of the job with this number, also of one that is just gone; None for a number that no job has. It takes no memory.
+/// The label and the definition of the job with this number, also of one that was just removed; None for a number that no job has. It takes no
+/// memory.
 pub(crate) fn job_of(table: &JobTable, job: JobNo) -> Option<(&str, &Def)> {
     let step = table.last_step();
     let label = step.label(job);
@@ -49,7 +50,7 @@ pub(crate) fn job_of(table: &JobTable, job: JobNo) -> Option<(&str, &Def)> {
     Some((label, step.def(job)))
 }
 
-/// Adds a line for each loaded job, by rising bytes of labels. `order` is room for their numbers. Each line has the facts that the table tells of its
+/// Adds a line for each loaded job, by rising bytes of labels. `order` is room for their numbers. Each line has the facts that the table has of its
 /// own job.
 pub fn add_jobs(
     text: &mut StatusText,
@@ -157,7 +158,7 @@ fn add_loaded(
     }
 }
 
-// The line of a job of which the facts are those of the table.
+// The line of a job, with the facts of the table.
 fn add_line(
     text: &mut StatusText,
     alloc: Global,
@@ -172,7 +173,7 @@ fn add_line(
     add_job(text, alloc, job, calendar);
 }
 
-// By what a label is disabled, if it is. Both may disable it: then the definition is told.
+// By what a label is disabled, if it is. If its definition and a setting both disable it, the definition is named.
 fn disabled_by(is_disabled: bool, in_definition: bool) -> Option<DisabledBy>
     ensures disabled { is_some result ≡ is_disabled }
     ensures by { is_disabled ≡ true → result ≡ Some (cond in_definition Definition Override) }

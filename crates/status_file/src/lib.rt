@@ -1,6 +1,6 @@
-//! The launcher's own file on how it stands: a line of JSON for the launcher, and one for each loaded job. What the lines hold is plain data, written and
-//! read here alone. The facts that a table of jobs tells of a job are gathered here too, since the launcher writes them of its own table, and
-//! `jobscope` tells them of the table of a journal.
+//! The launcher's status file: a line of JSON for the launcher, and one for each loaded job. The content of the lines is plain data, and only this
+//! crate writes and reads it. It also collects the facts that a table of jobs has of a job. The launcher writes those of its own table, and
+//! `jobscope` reports those of the table of a journal.
 #![tactic(auto)]
 
 /// The version of the programs, as the file VERSION of the repository has it.
@@ -12,7 +12,6 @@ mod front;
 mod jobs;
 mod line;
 mod names;
-mod process;
 mod read;
 mod run_notes;
 mod status;
@@ -23,7 +22,6 @@ pub use front::LineRoom;
 pub use jobs::{add_jobs, job_count};
 pub use line::StatusText;
 pub use names::state_name;
-pub use process::{ProcessStat, process_in};
 pub use read::{StatusFault, StatusLine, read_line};
 pub use run_notes::RunNotes;
 pub use status::{

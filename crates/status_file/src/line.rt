@@ -1,4 +1,4 @@
-//! The text of a file, line by line, and the pieces of which a line is written.
+//! The text of a file, line by line, and the pieces that make a line.
 
 ghost use Rattle.std.specs.Prelude.{◌≡◌, ◌++◌, ◌∷◌, [], true, false};
 ghost use Rattle.status_file.specs.Tokens.{token_in, tokens_in, count_token, text_token, flag_token};
@@ -52,7 +52,7 @@ pub(crate) fn flag_piece(flag: Option<bool>) -> Piece<'static>
     }
 }
 
-/// A line that is being written. A refusal of memory is kept, and told once the line is taken.
+/// A line that is being written. A refusal of memory is kept, and returned once the line is taken.
 #[derive(Drop)]
 pub(crate) struct Line {
     pub(crate) writer: Writer,
@@ -134,7 +134,7 @@ impl StatusText {
         self.is_refused = true;
     }
 
-    /// A line behind what is written: what it is to hold is put on it, and it is then given back by `end`.
+    /// A line after what is written so far. The caller puts its content on it, and `end` takes it back.
     pub(crate) fn begin(&mut self, alloc: Global) -> Line
         ensures before { result.writer.before ≡ self.old.bytes.items }
         ensures empty { result.writer.tokens ≡ [] }

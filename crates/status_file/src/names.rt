@@ -1,4 +1,4 @@
-//! The words of a file that stand for a variant. Each stands here once.
+//! The names in a file that are for a variant, each written here once.
 
 ghost use Rattle.std.specs.Prelude.{◌≡◌};
 ghost use Rattle.status_file.specs.Tokens.{demand_text, disabled_text, order_text};
@@ -7,7 +7,7 @@ ghost use Rattle.history_model.specs.Texts.{state_text};
 use crate::status::DisabledBy;
 use history_model::{Act, DemandKind, JobState};
 
-/// What a job is doing, in a word: that of `print`.
+/// What a job is doing, by the name that `print` uses.
 pub fn state_name(state: JobState) -> &'static str
     ensures { result.now ≡ state_text state }
 {
@@ -20,7 +20,7 @@ pub fn state_name(state: JobState) -> &'static str
     }
 }
 
-/// The kinds of events that make a demand.
+/// The kinds of events that make a start request.
 pub(crate) const DEMANDS: [DemandKind; 6] = [
     DemandKind::Load,
     DemandKind::Start,
@@ -30,7 +30,7 @@ pub(crate) const DEMANDS: [DemandKind; 6] = [
     DemandKind::Path,
 ];
 
-/// The word of an event that made a demand.
+/// The name of an event that made a start request.
 pub(crate) fn demand_name(demand: DemandKind) -> &'static str
     ensures { result.now ≡ demand_text demand }
 {
@@ -44,7 +44,7 @@ pub(crate) fn demand_name(demand: DemandKind) -> &'static str
     }
 }
 
-/// The word of an order.
+/// The name of an order.
 pub(crate) fn order_name(order: Act) -> &'static str
     ensures { result.now ≡ order_text order }
 {
@@ -57,7 +57,7 @@ pub(crate) fn order_name(order: Act) -> &'static str
     }
 }
 
-/// The word of what disables a label.
+/// The name of what disables a label.
 pub(crate) fn disabled_name(by: DisabledBy) -> &'static str
     ensures { result.now ≡ disabled_text by }
 {

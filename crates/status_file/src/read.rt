@@ -13,26 +13,26 @@ use json_kinds::json_value;
 use serde_json::Value;
 use std::alloc::Global;
 
-/// Why a line is none of a status file.
+/// Why a line does not belong in a status file.
 #[derive(Clone, Copy)]
 pub enum StatusFault {
-    /// Memory ran out. This tells nothing of the line.
+    /// Memory ran out. This says nothing of the line.
     NoMemory,
-    /// It is no JSON text.
+    /// It is not a JSON text.
     NotJson,
-    /// Nothing stands under this key, which has to stand.
+    /// This key is missing, which is required.
     Missing(&'static str),
-    /// What stands under this key is none of what may stand there.
+    /// The value of this key is not an allowed one.
     Wrong(&'static str),
 }
 
-/// A line that was read as JSON. What it says is lent by it.
+/// A line that was read as JSON. It lends what it says.
 #[derive(Drop)]
 pub struct StatusLine {
     value: Value,
 }
 
-/// The line, without its newline. NotJson if it is no JSON text; NoMemory.
+/// The line, without its newline. NotJson if it is not a JSON text; NoMemory.
 pub fn read_line(alloc: Global, line: &[u8]) -> Result<StatusLine, StatusFault> {
     match json_value(alloc, line) {
         Ok(Some(value)) => Ok(StatusLine { value }),
@@ -42,7 +42,7 @@ pub fn read_line(alloc: Global, line: &[u8]) -> Result<StatusLine, StatusFault> 
 }
 
 impl StatusLine {
-    /// Whether it is the launcher's, which stands first in a file. The others are those of jobs.
+    /// Whether it is the launcher's, which is the first line of a file. The others are those of jobs.
     pub fn is_launcher(&self) -> bool {
         let fields = Fields::of(&self.value);
         fields.has("launcher")
@@ -169,7 +169,7 @@ fn disabled_in(fields: &mut Fields<'_>) -> Option<DisabledBy> {
     None
 }
 
-// The reading under the key; both 0 beside a fault.
+// The clock reading under the key; both clocks are 0 after a fault.
 fn reading_in(fields: &mut Fields<'_>, key: &'static str) -> Reading {
     let mut inside = fields.inside(key);
     let at = inside.reading();
@@ -200,7 +200,7 @@ fn note_in<'a>(fields: &mut Fields<'a>) -> JobNote<'a> {
     }
 }
 
-// A launcher of version 0.3.0 does not tell it.
+// A launcher of version 0.3.0 does not write it.
 fn definition_in<'a>(fields: &mut Fields<'a>) -> Option<&'a str> {
     if fields.has("definition") {
         fields.text_if("definition")

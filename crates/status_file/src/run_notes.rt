@@ -1,4 +1,4 @@
-//! What was heard of the runs of each loaded job: a small record beside the table, which is forgotten once its job is gone.
+//! What is known of the runs of each loaded job: a small record next to the table, which is dropped once its job is removed.
 
 use crate::jobs::{NUMBERS, is_loaded, job_of};
 use crate::status::{JobNote, RefusedStart, RunEnd};
@@ -57,11 +57,11 @@ impl Counted {
     }
 }
 
-/// What was heard of a job since its load.
+/// What is known of a job since its load.
 #[derive(Drop)]
 struct RunNote {
     counted: Counted,
-    // Why the last refused start was refused, if the edge had words for it.
+    // Why the last refused start was refused, if the edge gave a reason.
     reason: Option<Text>,
     // The digest of its definition.
     definition: Option<Text>,
@@ -95,24 +95,24 @@ fn lent(text: &Option<Text>) -> Option<&str> {
     }
 }
 
-/// A load that was accepted, of which the job's number is not known yet.
+/// A load that was accepted. The number of its job is not known yet.
 #[derive(Drop)]
 struct Load {
     label: Text,
     definition: Text,
 }
 
-/// As many loads are kept until their jobs are seen.
+/// How many loads are kept until their jobs are seen.
 const LOADS: usize = 1_024;
 
-/// What was heard of all loaded jobs, by their numbers. Of a job that is gone nothing is kept. Want of memory leaves a job out.
+/// What is known of all loaded jobs, by their numbers. It keeps nothing of a job that was removed. Want of memory leaves a job out.
 #[derive(Drop)]
 pub struct RunNotes {
     alloc: Global,
     jobs: Vec<Option<RunNote>>,
     // In their order, since the jobs were seen last.
     loads: Vec<Load>,
-    /// The reading of now.
+    /// The present clock reading.
     pub at: Reading,
 }
 
@@ -176,7 +176,7 @@ impl RunNotes {
         }
     }
 
-    /// A load was accepted of which nothing is known. Since it may be one of a label that was loaded a moment before, those are forgotten too.
+    /// A load was accepted of which nothing is known. It may be a load of a label that was loaded just before, so those loads are forgotten too.
     pub fn forget_loads(&mut self) {
         self.loads.clear();
     }
@@ -222,7 +222,7 @@ impl RunNotes {
         }
     }
 
-    /// The start of a run was refused, for this reason if the edge had words for it.
+    /// The start of a run was refused, for this reason if the edge gave one.
     pub fn refused(&mut self, job: JobNo, run: u64, reason: Option<&str>) {
         let (alloc, at) = (self.alloc, self.at);
         let Some(note) = self.note(job) else {
@@ -271,14 +271,14 @@ impl RunNotes {
         });
     }
 
-    /// The job is gone.
+    /// The job was removed.
     pub fn gone(&mut self, job: JobNo) {
         if let Some(slot) = self.jobs.get_mut(job as usize) {
             drop(slot.take());
         }
     }
 
-    /// What was heard of this job since its load.
+    /// What is known of this job since its load.
     pub(crate) fn of(&self, job: JobNo) -> JobNote<'_> {
         let (counted, reason, definition) = match self.jobs.get(job as usize) {
             Some(Some(note)) => (note.counted, lent(&note.reason), lent(&note.definition)),

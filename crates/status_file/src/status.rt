@@ -7,7 +7,7 @@ use crate::facts::JobFacts;
 use history_model::definition::{Def, PathState};
 use history_model::{Act, Ended, JobState, Reading, Reasons, Text};
 
-/// How the journal of a launcher stands.
+/// The state of a launcher's journal.
 #[derive(Clone, Copy)]
 pub enum JournalStatus<'a> {
     /// The launcher writes none.
@@ -18,27 +18,27 @@ pub enum JournalStatus<'a> {
     Closed(&'a str),
 }
 
-/// The launcher, at the round in which the file was written.
+/// The launcher, at the pass of its event loop in which it wrote the file.
 #[derive(Clone, Copy)]
 pub struct LauncherStatus<'a> {
     pub version: &'a str,
     /// Its process.
     pub pid: u32,
-    /// The moment of its start, in ticks since the boot, as field 22 of `/proc/PID/stat` has it. Another process of the same number has another.
+    /// The time of its start, in ticks since the boot, as field 22 of `/proc/PID/stat` has it. Another process with the same PID has another one.
     pub began: u64,
-    /// The line, without its newline, of the header with which a journal of this launcher begins, but without settings: `ctl_protocol::read_header` reads the zone and the
-    /// launcher's first reading from it.
+    /// The line, without its newline, of the header with which a journal of this launcher begins, but without settings. `ctl_protocol::read_header`
+    /// reads the zone and the launcher's first clock reading from it.
     pub header: &'a str,
-    /// The reading of the round.
+    /// The clock reading of that pass.
     pub at: Reading,
     pub journal: JournalStatus<'a>,
     /// What the store refused last, if it refused something.
     pub store: Option<&'a str>,
-    /// How many jobs are loaded: so many lines follow this one.
+    /// How many jobs are loaded, and so how many lines follow this one.
     pub jobs: u64,
 }
 
-/// How a run ended, and at which readings it began and ended.
+/// How a run ended, and the clock readings at which it began and ended.
 #[derive(Clone, Copy)]
 pub struct RunEnd {
     pub run: u64,
@@ -52,7 +52,8 @@ pub struct RunEnd {
 #[derive(Clone, Copy)]
 pub struct RefusedStart<'a> {
     pub run: u64,
-    /// What the system said, as it is told on standard error behind the run; None if that found no memory, or no place among the lines to be told.
+    /// What the system said, as the launcher prints it on standard error after the run. None if there was no memory for it, or no room among the
+    /// lines to be printed.
     pub reason: Option<&'a str>,
     pub at: Reading,
 }
@@ -66,7 +67,7 @@ pub enum DisabledBy {
     Override,
 }
 
-/// What a launcher heard of a job since its load.
+/// What a launcher knows of a job since its load.
 #[derive(Clone, Copy)]
 pub struct JobNote<'a> {
     /// When its last run began, was refused or ended, whichever came last. Of a job without a start, when it was written first: at most a second after its load.
@@ -75,7 +76,7 @@ pub struct JobNote<'a> {
     pub run: u64,
     /// How many starts were ordered, refused ones too.
     pub starts: u64,
-    /// How many starts were refused, and how many runs did not end with code 0, together.
+    /// How many starts were refused, and how many runs did not exit with code 0, together.
     pub failures: u64,
     /// How many starts were refused.
     pub refusals: u64,
@@ -87,11 +88,11 @@ pub struct JobNote<'a> {
     pub last_end: Option<RunEnd>,
     /// The last start that was refused.
     pub refused: Option<RefusedStart<'a>>,
-    /// The SHA-256 of its definition as it was loaded, in 64 hexadecimal digits; None if there was no memory for it, or for a moment after the load.
+    /// The SHA-256 of its definition as it was loaded, in 64 hexadecimal digits. None if there was no memory for it, or just after the load.
     pub definition: Option<&'a str>,
 }
 
-/// Paths that a definition has under a key, as far as they are told.
+/// Paths that a definition has under a key: how many, and the first one.
 #[derive(Clone, Copy)]
 pub struct KeyPaths<'a> {
     pub count: u64,
@@ -99,7 +100,7 @@ pub struct KeyPaths<'a> {
     pub first: Option<&'a str>,
 }
 
-/// What a definition says, as far as it makes a difference to what is told of its job.
+/// What a definition says, as far as it makes a difference to what is reported of its job.
 #[derive(Clone, Copy)]
 pub struct JobKeys<'a> {
     pub run_at_load: bool,
@@ -121,7 +122,7 @@ pub struct JobKeys<'a> {
 }
 
 impl<'a> JobKeys<'a> {
-    /// Those of a definition. The path is the one that holds its job wanted.
+    /// The keys of a definition. The path is the one that holds its job wanted.
     pub fn of(def: &'a Def, path: Option<&str>) -> JobKeys<'a> {
         let (path_state, first_exists) = conditions_of(def.path_state());
         let path_exists = match path {
@@ -157,7 +158,7 @@ fn paths_of(paths: &[Text]) -> KeyPaths<'_> {
     }
 }
 
-// Those of the conditions of `PathState`, and whether the first wants its path to be there.
+// The paths of the conditions of `PathState`, and whether the first wants its path to be there.
 fn conditions_of(conditions: &[PathState]) -> (KeyPaths<'_>, Option<bool>) {
     let (first, exists) = match conditions.first() {
         Some(first) => (Some(first.path.as_str()), Some(first.present)),
@@ -181,7 +182,7 @@ fn wish_of(def: &Def, path: &str) -> Option<bool> {
 #[derive(Clone, Copy)]
 pub struct JobStatus<'a> {
     pub label: &'a str,
-    /// What the launcher's table tells of it.
+    /// What the launcher's table says of it.
     pub facts: JobFacts<'a>,
     pub note: JobNote<'a>,
     pub keys: JobKeys<'a>,

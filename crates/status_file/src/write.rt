@@ -20,7 +20,7 @@ use history_model::{
 use job_table::Moments;
 use std::alloc::Global;
 
-/// Adds the launcher's line. It stands first in a file.
+/// Adds the launcher's line, which is the first of a file.
 pub fn add_launcher(text: &mut StatusText, alloc: Global, launcher: &LauncherStatus<'_>) {
     let (journal, reason) = match launcher.journal {
         JournalStatus::None => ("none", None),
@@ -168,7 +168,7 @@ fn end_parts(how: Ended) -> (&'static str, u64)
     }
 }
 
-// A reading under its key.
+// A clock reading under its key.
 fn put_moment(line: &mut Line, name: &str, at: Option<Reading>)
     ensures { Puts (moment_tokens name.now at) line.old line.new }
 {

@@ -28,7 +28,7 @@ rows_more (r ∷ rs) row text front more (first, last, others, rest, is) =
           ∙ ap (λ t. first ++ t) (append_assoc (state_word r.state) (last ++ 10 ∷ others) line ∙ ap (λ t. state_word r.state ++ t) (append_assoc last (10 ∷ others) line)),
     )
 
--- a line more behind those of the rows up to a place
+-- a line more after those of the rows up to a place
 pub told_more : (at : ℕ) (rows : List Row) (other : Row) (a b c : Ink) → at < length rows → TellsRows (take at rows) a b
     → ((front : List ℕ) × (more : List ℕ) × Adds (line_of (get_or rows at other) front more) b c) → TellsRows (take (at + 1) rows) a c
 told_more at rows other a b c there (text, lines, before) (front, more, added) =

@@ -1,4 +1,4 @@
--- How the clocks go on behind a last reading, and what they come to make due.
+-- How the clocks go on after a last clock reading, and what they come to make due.
 use Rattle.std.specs.Prelude.{◌≡◌, ℕ, ◌+◌, ◌-◌, ◌*◌, ◌^◌, ◌<◌, ◌≤◌, ◌&&◌, ◌||◌, not, nat_lt, Bool, min, Some, None}
 use Rattle.history_model.specs.declared.Reading.{Reading}
 use Rattle.history_model.specs.declared.TheConstants.{MAX_WALL}
@@ -11,13 +11,14 @@ use Rattle.history_model.specs.Runs.{runs, is_removed}
 use Rattle.status_page.specs.declared.clocks.StartWhen.{StartWhen}
 use Rattle.status_page.specs.declared.clocks.StartWhen.TheVariants.{Never, Since, At}
 
--- the reading at this second of `wall`, if both clocks went on alike; the last one, if the second is
--- not behind it
+-- the clock reading at this second of `wall`, if both clocks went on alike; the last one, if the second
+-- is not later
 abbrev pub gone_on : Reading → ℕ → Reading
 gone_on last wall = later last (min wall MAX_WALL - last.wall)
 
--- when the clocks alone start the job with this past, of which the reading is the last: never within
--- what is looked ahead; since this second of `wall`, which is not behind now; or from this later one on
+-- When time alone starts the job with this past, of which `last` is the clock reading. Never: not
+-- within what is looked ahead. Since: from this second of `wall` on, which is not after now. At: from
+-- this later one on.
 abbrev pub StartsSo : Zone → History → ℕ → Reading → ℕ → StartWhen → Type 0
 StartsSo zone past ahead last now Never = IsNextRun zone past ahead None
 StartsSo zone past ahead last now (Since at) =

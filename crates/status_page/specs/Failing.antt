@@ -1,4 +1,4 @@
--- Which jobs are told as failing.
+-- Which jobs are reported as failing.
 use Rattle.std.specs.Prelude.{◌≡◌, ℕ, Bool, true, false, ◌||◌, ◌&&◌, not, nat_lt, Option, Some, None, is_some}
 use Rattle.history_model.specs.declared.Ended.{Ended}
 use Rattle.history_model.specs.declared.Ended.TheVariants as ends
@@ -22,7 +22,7 @@ abbrev pub has_ended_badly : Option LastEnd → Bool
 has_ended_badly None = false
 has_ended_badly (Some last) = ended_badly last
 
--- a run of it lives: of a launcher that is gone none does, whatever its file says
+-- it has a run that is running: if the launcher has exited, it has none, whatever its file says
 abbrev pub has_run : Bool → Reasons → Bool
 has_run lives r = lives && is_some r.child
 
@@ -35,7 +35,7 @@ abbrev pub is_failing : Bool → Reasons → Bool → Option LastEnd → Bool
 is_failing lives r refused last =
     refused || has_ended_badly last || (is_to_run r && not (has_run lives r))
 
--- what is told of it is so
+-- what is reported of it holds
 abbrev pub FaultHolds : Bool → Reasons → Bool → Option LastEnd → Fault → Type 0
 FaultHolds lives r refused last faults.Refused = refused ≡ true
 FaultHolds lives r refused last (faults.Ended how) =

@@ -36,12 +36,12 @@ use Rattle.status_page.specs.Throttles.{EndsSo, throttled_by}
 abbrev pub is_asked : List (List ℕ) → List ℕ → Bool
 is_asked labels label = (length labels == 0) || list_any (is_same_text label) labels
 
--- the state of a job by its facts; of a launcher that is gone none is known
+-- the state of a job by its facts; if its launcher has exited, it is unknown
 abbrev pub state_shown : Bool → Reasons → ShownState
 state_shown true r = Is (state_by_reasons r)
 state_shown false r = Unknown
 
--- the process of its run; of a launcher that is gone there is none
+-- the process of its run; none, if its launcher has exited
 abbrev pub process_shown : Bool → Reasons → Option ℕ
 process_shown true r = option_map (λ child. child.pid) r.child
 process_shown false r = None
@@ -58,22 +58,22 @@ refused_at run (Some start) = cond (start.run == run) (Some start.at) None
 abbrev pub last_refused : JobNote → Option Reading
 last_refused n = refused_at n.run n.refused
 
--- when a job is throttled no longer, by its last start and its last refused one; of one that is not
--- throttled there is no such moment
+-- when a job is no longer throttled, by its last start and its last refused one; none, if it is not
+-- throttled
 abbrev pub EndsThrottle : JobStatus → Reading → Option ThrottleEnd → Type 0
 EndsThrottle j at None = j.facts.reasons.throttled_until ≡ None
 EndsThrottle j at (Some end) =
     (until : ℕ) × (j.facts.reasons.throttled_until ≡ Some until)
     × EndsSo (throttled_by j.note.started (last_refused j.note) j.keys.throttle_interval until) until at end
 
--- when the clocks alone start it, for each past of which these are the facts
+-- when time alone starts it, for each past of which these are the facts
 abbrev pub StartsBy : Zone → JobFacts → List Entry → Reading → ℕ → StartWhen → Type 0
 StartsBy zone f entries at now when =
     (past : History) → IsTold f.reasons f.spawns_from entries at past →
     StartsSo zone past (looked_ahead at FARTHEST) at now when
 
--- what comes next of it: nothing, if its launcher is gone or a run lives; a start by the clocks; or an
--- event, if the clocks never start it
+-- what comes next of it: nothing, if its launcher has exited or it has a run; a start by the clocks;
+-- or an event, if the clocks never start it
 abbrev pub TellsNext : Bool → Zone → JobFacts → List Entry → Reading → ℕ → Next → Type 0
 TellsNext lives zone f entries at now Nothing = (lives ≡ false) ⊎ (is_some f.reasons.child ≡ true)
 TellsNext lives zone f entries at now (Clock when) =
@@ -81,18 +81,18 @@ TellsNext lives zone f entries at now (Clock when) =
 TellsNext lives zone f entries at now (Event words) =
     (lives ≡ true) × (is_some f.reasons.child ≡ false) × StartsBy zone f entries at now starts.Never
 
--- the word of a state
+-- the name of a state
 abbrev pub state_word : ShownState → List ℕ
 state_word (Is state) = state_text state
 state_word Unknown = codes "unknown"
 
--- a line for each of the rows, in order: something of its label, the word of its state, and more
+-- a line for each of the rows, in order: something of its label, the name of its state, and more
 abbrev pub AreRows : List Row → List ℕ → Type 0
 AreRows [] text = text ≡ []
 AreRows (row ∷ rows) text =
     (front : List ℕ) × (more : List ℕ) × (others : List ℕ) × AreRows rows others
     × (text ≡ front ++ (state_word row.state ++ (more ++ 10 ∷ others)))
 
--- so behind what was written before
+-- they follow what was written before
 abbrev pub TellsRows : List Row → Ink → Ink → Type 0
 TellsRows rows old new = (text : List ℕ) × AreRows rows text × Adds text old new

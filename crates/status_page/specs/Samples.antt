@@ -1,4 +1,4 @@
--- What a monitor is told of a job.
+-- What a monitor reads of a job.
 use Rattle.std.specs.Prelude.{ℕ, Bool, true, false, Option, Some, None}
 use Rattle.std.specs.Option.{option_map}
 use Rattle.status_file.specs.declared.status.JournalStatus.{JournalStatus}
@@ -20,7 +20,7 @@ journal_flag (journals.Closed reason) = Some false
 abbrev pub end_second : Option RunEnd → Option ℕ
 end_second end = option_map (λ it. it.ended.wall) end
 
--- the second that is told for the next start by the clocks alone, also for one that has been due since
+-- the second to show for the next start by time alone, also for one that is overdue
 abbrev pub next_told : Option ThrottleEnd → Next → Option ℕ
 next_told throttle Nothing = None
 next_told throttle (Clock Never) = None

@@ -1,4 +1,4 @@
--- Which start `next` tells of a job.
+-- Which start of a job `next` shows.
 use Rattle.std.specs.Prelude.{ℕ, ◌==◌, Bool, true, false, cond, nat_le, Option, Some, None}
 use Rattle.status_page.specs.declared.clocks.StartWhen.{StartWhen}
 use Rattle.status_page.specs.declared.clocks.StartWhen.TheVariants.{Never, Since, At}
@@ -13,7 +13,7 @@ abbrev pub is_over_then : Option ℕ → ℕ → Bool
 is_over_then None at = false
 is_over_then (Some end) at = end == at
 
--- the start at this second, as `status` tells it
+-- the start at this second, as `status` shows it
 abbrev pub start_at : Option ThrottleEnd → Option ℕ → ℕ → ToldStart
 start_at throttle interval at = record { at = second_told throttle at; is_interval = is_over_then interval at }
 
@@ -30,8 +30,8 @@ sooner (Some minute) None = Some (by_calendar minute)
 sooner None (Some end) = Some (by_interval end)
 sooner (Some minute) (Some end) = cond (nat_le minute end) (Some (by_calendar minute)) (Some (by_interval end))
 
--- the start that is told of a job, if one can come of it: that of its row, and where that has none the sooner
--- one by either key
+-- the start that is shown of a job, if one can come of it: that of its row, and where that has none the
+-- sooner one by either key
 abbrev pub start_told : Bool → Next → Option ThrottleEnd → Option ℕ → Option ℕ → Option ToldStart
 start_told false next throttle calendar interval = None
 start_told true Nothing throttle calendar interval = sooner calendar interval

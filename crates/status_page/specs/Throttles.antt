@@ -1,4 +1,4 @@
--- By what a job is throttled, and which second is told for the end of that.
+-- By what a job is throttled, and which second is shown for the end of that.
 use Rattle.std.specs.Prelude.{◌≡◌, ℕ, ◌+◌, ◌*◌, ◌==◌, ◌&&◌, Bool, cond, nat_le, Option, Some, None}
 use Rattle.history_model.specs.declared.Reading.{Reading}
 use Rattle.history_model.specs.declared.TheConstants.{SECOND}
@@ -7,13 +7,14 @@ use Rattle.status_page.specs.declared.throttles.ThrottleBy.TheVariants.{Order, R
 use Rattle.status_page.specs.declared.throttles.ThrottleEnd.{ThrottleEnd}
 use Rattle.run_times.specs.Told.{ComesAt}
 
--- the last start that was refused has just this moment for the end of the second after it
+-- this `up` is the end of the second after the last start that was refused
 abbrev pub by_refusal : Option Reading → ℕ → ThrottleBy
 by_refusal None until = Unknown
 by_refusal (Some at) until = cond (until == at.up + SECOND) (Refusal at) Unknown
 
--- by what a job is throttled until this `up`: by its last start, if that has just this moment for the end of
--- `ThrottleInterval`, of so many seconds; else by its last refused one; else by one that is not kept
+-- By what a job is throttled until this `up`. It is its last start, if this is the end of its
+-- `ThrottleInterval`, which has this many seconds. Else it is its last refused one, else one that is not
+-- kept.
 abbrev pub throttled_by : Option Reading → Option Reading → ℕ → ℕ → ThrottleBy
 throttled_by None refused throttle until = by_refusal refused until
 throttled_by (Some at) refused throttle until =
@@ -23,8 +24,8 @@ throttled_by (Some at) refused throttle until =
 abbrev pub is_near : ℕ → ℕ → Bool
 is_near a b = nat_le a (b + 1) && nat_le b (a + 1)
 
--- the end of a throttle at this `up` is told as it comes from the start that it is put down to; as it comes
--- from the last reading, if that start is not kept, or a clock was set since
+-- the end of a throttle at this `up` is shown as it comes from the start that it is put down to. It is shown
+-- as it comes from the last clock reading, if that start is not kept, or a clock was set since.
 abbrev pub IsToldFrom : ThrottleBy → ℕ → ThrottleEnd → Type 0
 IsToldFrom (Order at) until end =
     (from : ℕ) × ComesAt at until from × (end.told ≡ cond (is_near from end.counted) from end.counted)
@@ -32,12 +33,12 @@ IsToldFrom (Refusal at) until end =
     (from : ℕ) × ComesAt at until from × (end.told ≡ cond (is_near from end.counted) from end.counted)
 IsToldFrom Unknown until end = end.told ≡ end.counted
 
--- the end of a throttle: as the clock counts it from the last reading, and as it is told
+-- the end of a throttle: as the clock counts it from the last clock reading, and as it is shown
 pub record EndsSo (by : ThrottleBy) (until : ℕ) (last : Reading) (end : ThrottleEnd) : Type 0 where
   pub counted : ComesAt last until end.counted
   pub told : IsToldFrom by until end
 
--- the second that is told for one at which a start comes: that of its throttle's end, if it comes just then
+-- the second to show for one at which a start comes: that of its throttle's end, if it comes just then
 abbrev pub second_told : Option ThrottleEnd → ℕ → ℕ
 second_told None at = at
 second_told (Some end) at = cond (end.counted == at) end.told at

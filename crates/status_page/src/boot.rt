@@ -1,4 +1,5 @@
-//! What `jobd-run` wrote of the boot of a launcher, beside its status file: since when no launcher ran before, and which definitions were not loaded.
+//! What `jobd-run` wrote of the boot of a launcher, next to its status file: since when no launcher ran before, and which definitions were not
+//! loaded.
 
 use crate::passed::Down;
 use ctl_protocol::{ReadFault, read_header};
@@ -10,10 +11,10 @@ use status_file::LauncherStatus;
 use std::alloc::{AllocError, Global};
 use std::io::ErrorKind;
 
-/// What stands behind the path of a status file in that of what was written of its launcher's boot.
+/// What the path of the boot's file has after that of the status file.
 const BEHIND: &str = ".boot";
 
-/// So many bytes such a file may have.
+/// How many bytes such a file may have.
 const LONGEST: usize = 16_777_216;
 
 /// A definition that was not loaded at the boot.
@@ -33,12 +34,12 @@ impl LeftOut {
         text_of(&self.line, "reason")
     }
 
-    /// The label that stands in it, if it was found, and if no job of this label was loaded then.
+    /// The label in it, if it was found, and if no job of this label was loaded then.
     pub fn label(&self) -> Option<&str> {
         self.line.get("label")?.as_str()
     }
 
-    /// Whether a word means it: its path, the name of its file without `.json` or `.plist`, or its label.
+    /// Whether an argument means it: its path, the name of its file without `.json` or `.plist`, or its label.
     pub fn is_meant_by(&self, word: &str) -> bool {
         self.path() == word || is_named(self.path(), word) || self.label() == Some(word)
     }
@@ -83,8 +84,8 @@ impl Boot {
     }
 }
 
-/// What was written of the boot of this launcher, whose status file has the path. What was written of another one is passed over. That the file can't be
-/// read, and a line that is none of it, is told.
+/// What was written of the boot of this launcher, whose status file has the path. It skips what was written of another launcher. It reports if the
+/// file can't be read, and a line that does not belong there.
 pub(crate) fn boot_of(
     host: &HostRuntime,
     alloc: Global,
@@ -148,7 +149,7 @@ fn boot_in(
 }
 
 impl Boot {
-    // Takes the first line. Whether it is one: of another launcher it says nothing.
+    // Takes the first line, and returns whether it is one. The line of another launcher says nothing here.
     fn open(
         &mut self,
         alloc: Global,
@@ -170,7 +171,7 @@ impl Boot {
         Ok(true)
     }
 
-    // Takes the line of a file. Whether it is one; that behind the last newline is empty.
+    // Takes the line of a file, and returns whether it is one. The line after the last newline is empty.
     fn add(&mut self, alloc: Global, line: &[u8]) -> Result<bool, AllocError> {
         if line.is_empty() {
             return Ok(true);
@@ -207,7 +208,7 @@ fn head_of(line: &Value) -> Option<Head> {
     })
 }
 
-// Until when no launcher ran: up to the first reading of this one.
+// Until when no launcher ran: up to the first clock reading of this one.
 fn down_from(
     alloc: Global,
     head: Head,

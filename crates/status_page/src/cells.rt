@@ -2,7 +2,7 @@
 
 use run_times::picture::{columns_of, columns_of_char};
 
-/// The beginning and the end of the text, with `…` between them, in at most so many columns; the whole text, if it has room.
+/// The beginning and the end of the text, with `…` between them, in at most this many columns; the whole text, if it fits.
 pub(crate) fn cut_in_the_middle(text: &str, columns: usize) -> (&str, &'static str, &str) {
     let wide = columns_of(text);
     if wide <= columns {
@@ -16,7 +16,7 @@ pub(crate) fn cut_in_the_middle(text: &str, columns: usize) -> (&str, &'static s
     (text.get(..front).unwrap_or(""), "…", end_of(rest, left))
 }
 
-// How many bytes of the text have room in so many columns.
+// How many bytes of the text fit in this many columns.
 fn front_of(text: &str, columns: usize) -> usize {
     let mut used: usize = 0;
     let mut end: usize = 0;
@@ -29,7 +29,7 @@ fn front_of(text: &str, columns: usize) -> usize {
     end
 }
 
-// The longest end of the text that has room in so many columns.
+// The longest end of the text that fits in this many columns.
 fn end_of(text: &str, columns: usize) -> &str {
     let mut wide = columns_of(text);
     let mut from: usize = 0;

@@ -1,4 +1,4 @@
-//! What follows from what a table tells of a job, as the clocks go on and nothing else happens.
+//! What follows from what a table says of a job, as the clocks go on and nothing else happens.
 
 ghost use Rattle.std.specs.Prelude.{◌≡◌, ◌≤◌};
 ghost use Rattle.history_model.specs.declared.TheConstants.{MAX_UP, MAX_WALL};
@@ -17,7 +17,7 @@ use run_times::next_run;
 /// How far is looked ahead, in seconds: 400 days.
 pub const FARTHEST: u64 = 34_560_000;
 
-/// The reading, no later than one may be.
+/// The clock reading, no later than one may be.
 pub fn within_limits(at: Reading) -> Reading
     ensures up { result.up ≤ MAX_UP }
     ensures wall { result.wall ≤ MAX_WALL }
@@ -28,7 +28,8 @@ pub fn within_limits(at: Reading) -> Reading
     }
 }
 
-/// The reading at this second of `wall`, if both clocks went on alike from the last reading on; that one, if the second is not behind it.
+/// The clock reading at this second of `wall`, if both clocks went on alike from the last one on. If the second is not later, it is the
+/// last one.
 pub fn gone_on(last: Reading, second: u64) -> Reading
     requires up { last.up ≤ MAX_UP }
     requires wall { last.wall ≤ MAX_WALL }
@@ -41,7 +42,7 @@ pub fn gone_on(last: Reading, second: u64) -> Reading
     }
 }
 
-/// When the clocks alone start a job, by seconds of `wall`.
+/// When time alone starts a job, by seconds of `wall`.
 #[derive(Clone, Copy)]
 pub enum StartWhen {
     Never,
@@ -51,7 +52,7 @@ pub enum StartWhen {
     At(u64),
 }
 
-/// When the clocks alone start the job, told at this second of `wall`, if both go on alike from its last reading on.
+/// When time alone starts the job, as of this second of `wall`, if both clocks go on alike from its last clock reading on.
 pub fn start_when(
     reasons: &Reasons,
     spawns_from: Option<u64>,

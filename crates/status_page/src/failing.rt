@@ -1,4 +1,5 @@
-//! Which jobs are told as failing: those that are wanted and do not run, whose last start was refused, or whose last end was a failure or a crash.
+//! Which jobs are reported as failing: those that are wanted and do not run, whose last start was refused, or whose last end was a failure or a
+//! crash.
 
 ghost use Rattle.std.specs.Prelude.{◌≡◌, is_some, IfSome};
 ghost use Rattle.history_model.specs.Levels.{is_crash_end};
@@ -10,24 +11,24 @@ use run_times::Filling::{Number, Text, Time};
 use run_times::Page;
 use status_file::JobNote;
 
-/// How the last run of a job ended, and whether its end had been ordered, as far as that is known: of a run that has had another one after it, it is
-/// taken for ordered.
+/// How the last run of a job ended, and whether its end had been ordered, as far as that is known. If another run came after it, its end counts as
+/// ordered.
 #[derive(Clone, Copy)]
 pub struct LastEnd {
     pub how: Ended,
     pub is_ordered: bool,
 }
 
-/// Why a job is told as failing.
+/// Why a job is reported as failing.
 #[derive(Clone, Copy)]
 pub enum Fault {
     /// Its last start was refused.
     Refused,
     /// Its last run ended so.
     Ended(Ended),
-    /// It is wanted, and no run of it lives.
+    /// It is wanted, and it has no run.
     NotRunning,
-    /// It ran by the word of a launcher that is gone.
+    /// It ran under a launcher that has exited.
     LauncherGone,
     /// A minute of its calendar passed while no launcher ran, at this second, and it was not started since.
     Missed(u64),
@@ -54,7 +55,7 @@ fn is_bad(last: LastEnd) -> bool
     }
 }
 
-/// Why a job is told as failing, if it is: by its reasons, whether its last start was refused, and how its last run ended.
+/// Why a job is reported as failing, if it is: by its reasons, whether its last start was refused, and how its last run ended.
 pub fn fault_of(
     may_live: bool,
     reasons: &Reasons,
@@ -87,7 +88,7 @@ pub fn fault_of(
     }
 }
 
-/// How the last run of a job ended, by what its launcher heard of it.
+/// How the last run of a job ended, by what its launcher knows of it.
 pub fn last_end_of(note: &JobNote<'_>) -> Option<LastEnd> {
     let end = note.last_end?;
     let is_present = end.run == note.run;
@@ -97,7 +98,7 @@ pub fn last_end_of(note: &JobNote<'_>) -> Option<LastEnd> {
     })
 }
 
-/// A job that is told as failing.
+/// A job that is reported as failing.
 #[derive(Clone, Copy)]
 pub struct Failing<'a> {
     pub label: &'a str,

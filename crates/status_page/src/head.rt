@@ -1,4 +1,4 @@
-//! Who the launcher of a status file is, whether it lives, and how old the file is.
+//! Who the launcher of a status file is, whether it is running, and how old the file is.
 
 use crate::life::Life;
 use crate::standing::Standing;
@@ -7,7 +7,7 @@ use run_times::Filling::{Moment, Number, Text};
 use run_times::Page;
 use status_file::{JournalStatus, LauncherStatus};
 
-/// Adds what is told of the launcher, at a second: as of when the file is, how old that is, whether its process lives, and what it could not write.
+/// Adds the report on the launcher at a second: as of when the file is, how old it is, whether its process is running, and what it could not write.
 pub fn add_head(page: &mut Page<'_>, standing: &Standing, second: u64) {
     let Some(launcher) = standing.launcher() else {
         return;

@@ -1,11 +1,11 @@
-//! The definitions that the boot left out, as texts tell them.
+//! The definitions that the boot left out, as texts show them.
 
 use crate::boot::LeftOut;
 use crate::standing::Standing;
 use history_model::Text;
 use run_times::{Filling, Page};
 
-/// Whether a definition that the boot left out is told: it is not loaded by now, and a word means it, if there are words.
+/// Whether a definition that the boot left out is shown: it is not loaded by now, and an argument means it, if there are arguments.
 pub fn is_told(standing: &Standing, file: &LeftOut, words: &[Text]) -> bool {
     is_meant(file, words) && standing.is_left_out(file)
 }
@@ -19,7 +19,7 @@ fn is_meant(file: &LeftOut, words: &[Text]) -> bool {
     words.is_empty()
 }
 
-/// Adds a line for each definition that the boot left out, or for those that words mean, and answers how many there are.
+/// Adds a line for each definition that the boot left out, or for those that the arguments mean. It returns how many there are.
 pub fn add_left_out(page: &mut Page<'_>, standing: &Standing, words: &[Text]) -> u64 {
     let mut count: u64 = 0;
     for file in &standing.boot.left_out {

@@ -1,5 +1,6 @@
-//! How the jobs of a launcher stand by its status file (`status_file`): the file read whole, whether its launcher lives, a table with a line a job, and
-//! which jobs are told as failing. What follows from the facts of a job by the clocks alone stands here too, for the texts of `jobscope why`.
+//! The state of a launcher's jobs by its status file (`status_file`). The file is read whole, and this crate says whether its launcher is running. It
+//! makes a table with a line a job, and says which jobs are failing. What follows from the facts of a job as the clocks go on is here too, for the
+//! texts of `jobscope why`.
 #![tactic(auto)]
 
 mod boot;

@@ -18,8 +18,8 @@ pub struct Down {
     pub loaded: u64,
 }
 
-/// The first whole minute that some entry matches in the zone, of those that passed while no launcher ran. None once the job was started under
-/// this launcher: what was missed is made up for then.
+/// The first whole minute that some entry matches in the zone, of those that passed while no launcher ran. None once the job was started under this
+/// launcher: that start is the catch-up.
 pub fn passed_minute(
     entries: &[Entry],
     zone: &Zone,

@@ -11,20 +11,20 @@ use calendar_due::Zone;
 use history_model::{Ended, Entry, JobState, Reading, Reasons};
 use status_file::{JobKeys, JobNote, JobStatus, RunEnd, state_name, state_of};
 
-/// How a job stands.
+/// The state of a job.
 #[derive(Clone, Copy)]
 pub enum ShownState {
     Is(JobState),
-    /// Its launcher is gone.
+    /// Its launcher has exited.
     Unknown,
 }
 
 /// What comes next of a job.
 #[derive(Clone, Copy)]
 pub enum Next {
-    /// It has a run, or its launcher is gone.
+    /// It has a run, or its launcher has exited.
     Nothing,
-    /// It starts by the clocks alone.
+    /// Time alone starts it.
     Clock(StartWhen),
     /// The clocks never start it: it waits for this.
     Event(&'static str),
@@ -36,21 +36,21 @@ pub struct Row<'a> {
     pub label: &'a str,
     pub state: ShownState,
     pub process: Option<u32>,
-    /// Since which second it stands so.
+    /// Since which second it is in this state.
     pub since: u64,
     pub last: Option<Ended>,
     pub starts: u64,
-    /// How many of its runs did not end with code 0.
+    /// How many of its runs did not exit with code 0.
     pub failures: u64,
     /// How many of its starts were refused.
     pub refusals: u64,
-    /// By the clocks as they count it: it is told by `second_told`.
+    /// By the clocks as they count it: `second_told` gives the second to show.
     pub next: Next,
     /// When it is throttled no longer, if it is.
     pub throttle: Option<ThrottleEnd>,
 }
 
-/// The row of a job of a launcher that may live or is gone, told at a second. `at` is the launcher's reading.
+/// The row of a job at a second, whether its launcher may be running or has exited. `at` is the launcher's clock reading.
 pub fn row_of<'a>(
     job: &JobStatus<'a>,
     entries: &[Entry],
@@ -136,7 +136,7 @@ fn last_of(end: Option<RunEnd>) -> Option<Ended>
     }
 }
 
-/// The word of a state.
+/// The name of a state.
 pub(crate) fn word_of(state: ShownState) -> &'static str
     ensures { result.now ≡ state_word state }
 {

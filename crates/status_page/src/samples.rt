@@ -1,4 +1,4 @@
-//! What a monitor is told of a launcher and its jobs: the facts of the rows of `status`, as samples.
+//! What a monitor reads of a launcher and its jobs: the facts of the rows of `status`, as samples.
 
 ghost use Rattle.std.specs.Prelude.{◌≡◌, ◌≤◌, is_some};
 ghost use Rattle.history_model.specs.declared.TheConstants.{MAX_UP, MAX_WALL};
@@ -53,7 +53,7 @@ pub fn journal_flag(journal: JournalStatus<'_>) -> Option<bool>
     }
 }
 
-/// The sample of a job, by its row and what was heard of its runs.
+/// The sample of a job, by its row and what is known of its runs.
 pub fn sample_of<'a>(row: &Row<'a>, note: &JobNote<'_>) -> JobSample<'a>
     ensures label { result.label ≡ row.now.label }
     ensures running { result.is_running ≡ is_some row.now.process }
@@ -83,7 +83,7 @@ fn end_second(end: Option<RunEnd>) -> Option<u64>
     }
 }
 
-// The second that is told for a start by the clocks alone, also for one that has been due since.
+// The second to show for a start by time alone, also for one that is overdue.
 fn next_told(throttle: Option<ThrottleEnd>, next: Next) -> Option<u64>
     ensures { result ≡ next_told throttle next }
 {

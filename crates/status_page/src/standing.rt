@@ -1,4 +1,4 @@
-//! A status file that is read whole: where it is, its lines, and whether its launcher lives.
+//! A status file that is read whole: where it is, its lines, and whether its launcher is running.
 
 ghost use Rattle.std.specs.Prelude.{◌≡◌, false, IfOk, IfSome};
 ghost use Rattle.status_file.specs.Fronts.{IsLineOf};
@@ -28,7 +28,7 @@ const PACKAGES: &str = "/run/jobd/status.jsonl";
 /// Where a launcher of version 0.3.0 has it.
 const BEFORE: &str = "/var/lib/jobd/status.jsonl";
 
-/// So many bytes a status file may have: some 8,000 for each of the most jobs that a launcher holds, and as much again.
+/// How many bytes a status file may have: twice some 8,000 for each of the most jobs that a launcher holds.
 const LONGEST: usize = 16_777_216;
 
 /// A status file that was read, as far as it is asked of.
@@ -88,7 +88,7 @@ impl Standing {
         }
     }
 
-    /// Whether a word means a definition that the boot left out.
+    /// Whether an argument means a definition that the boot left out.
     pub fn leaves_out(&self, word: &str) -> bool {
         for file in &self.boot.left_out {
             if file.is_meant_by(word) && self.is_left_out(file) {
@@ -143,12 +143,12 @@ pub enum Trouble {
     Long,
     /// Its last line is not ended, or it has fewer lines than its first one says, or more.
     NotWhole,
-    /// The line of this number is none of a status file.
+    /// The line of this number does not belong in a status file.
     Line(u64, StatusFault),
 }
 
-/// The path of the status file of the package's launcher: that of version 0.3.0, if it is there, since such a launcher runs on after an upgrade, and a later
-/// `jobd-run` removes it at its start.
+/// The path of the status file of the package's launcher. If the file of version 0.3.0 exists, it is that one: such a launcher runs on after an
+/// upgrade, and a later `jobd-run` removes the file at its start.
 pub fn packages_file(host: &HostRuntime) -> &'static str {
     if metadata(host, BEFORE).is_ok() {
         BEFORE
@@ -157,7 +157,7 @@ pub fn packages_file(host: &HostRuntime) -> &'static str {
     }
 }
 
-/// The path that the words name, else that of `JOBD_STATUS_FILE`, if it is not empty.
+/// The path that the arguments name, else that of `JOBD_STATUS_FILE`, if it is not empty.
 pub fn named_path(host: &HostRuntime, named: &Option<Text>) -> Result<Option<String>, AllocError> {
     if let Some(path) = named {
         return match String::from_str(host.alloc(), path.as_str()) {
@@ -172,8 +172,8 @@ pub fn named_path(host: &HostRuntime, named: &Option<Text>) -> Result<Option<Str
     }
 }
 
-/// Reads the file, and looks whether its launcher lives. If labels are named, the lines of their jobs are read, and each other line has to be JSON that begins
-/// with another label: what else such a line says is not looked at. If none is, all are read.
+/// Reads the file, and looks whether its launcher is running. If labels are named, it reads the lines of their jobs. Each other line must be JSON
+/// that begins with another label; it ignores what else such a line says. If no label is named, it reads all lines.
 pub fn read_standing(
     host: &HostRuntime,
     alloc: Global,
@@ -190,7 +190,7 @@ pub fn read_standing(
     standing_of(host, alloc, path, lines?)
 }
 
-// The file of these lines, if they are as many as the first one says.
+// The file of these lines, if there are the number of lines that the first one says.
 fn standing_of(
     host: &HostRuntime,
     alloc: Global,
@@ -216,7 +216,7 @@ fn standing_of(
     }
 }
 
-// Whether the launcher lives, and what was written of its boot.
+// Whether the launcher is running, and what was written of its boot.
 fn around_of(
     host: &HostRuntime,
     alloc: Global,
@@ -310,7 +310,7 @@ impl Lines {
     }
 }
 
-// The label of a line that is none of those which are asked for: as it is told without a tree.
+// The label of a line that is not asked for, found without a tree.
 fn other_label(
     alloc: Global,
     line: &[u8],
@@ -365,7 +365,7 @@ fn fault_in(alloc: Global, line: &StatusLine, is_first: bool) -> Option<StatusFa
     }
 }
 
-/// Tells what keeps the file from being read, and answers the exit status. An error for want of memory.
+/// Reports what keeps the file from being read, and returns the exit status. An error for want of memory.
 pub fn tell_trouble(host: &HostRuntime, path: &str, trouble: Trouble) -> io::Result<u8> {
     let (number, key, words) = match trouble {
         Trouble::NoMemory | Trouble::Line(_, StatusFault::NoMemory) => {

@@ -1,4 +1,4 @@
-//! Which start `next` tells of a job.
+//! Which start of a job `next` shows.
 
 ghost use Rattle.std.specs.Prelude.{◌≡◌, ◌==◌};
 ghost use Rattle.status_page.specs.Starts.{by_calendar, is_over_then, sooner, start_at, start_told};
@@ -7,7 +7,7 @@ use crate::clocks::StartWhen;
 use crate::rows::Next;
 use crate::throttles::{ThrottleEnd, second_told};
 
-/// A start by the clocks.
+/// A start by time alone.
 #[derive(Clone, Copy)]
 pub struct ToldStart {
     /// When it comes, or since when it is due, in seconds of Unix time.
@@ -16,8 +16,8 @@ pub struct ToldStart {
     pub is_interval: bool,
 }
 
-/// The start that is told next of a job, if a start can come of it: the one by the clocks, at the second that `status` and `why` tell; where there is
-/// none, the sooner one of the next minute of its calendar and of the end of its interval.
+/// The start that is shown next of a job, if a start can come of it. It is the one by time alone, at the second that `status` and `why` show. If there
+/// is none, it is the sooner one of the next minute of its calendar and of the end of its interval.
 pub fn start_told(
     can_start: bool,
     next: Next,
@@ -38,7 +38,7 @@ pub fn start_told(
     }
 }
 
-// The start at this second, as it is told.
+// The start at this second, as it is shown.
 fn start_at(throttle: Option<ThrottleEnd>, interval: Option<u64>, at: u64) -> ToldStart
     ensures { result ≡ start_at throttle interval at }
 {

@@ -21,7 +21,7 @@ use run_times::{Ink, Page, time_text};
 use status_file::StatusLine;
 use std::alloc::{AllocError, Global};
 
-/// The columns behind the label, which have this width each: state, process, since when, last end, starts, failures, and what comes next.
+/// The widths of the columns after the label: state, process, since when, last end, starts, failures, and what comes next.
 const WIDTHS: [usize; 7] = [8, 7, 11, 9, 6, 6, 11];
 
 const HEAD: &str = " STATE    PROCESS SINCE       LAST END  STARTS FAILED NEXT\n";
@@ -29,10 +29,10 @@ const HEAD: &str = " STATE    PROCESS SINCE       LAST END  STARTS FAILED NEXT\n
 /// What ends a colour.
 const PLAIN: &str = "\x1b[0m";
 
-/// A label has so many columns at least.
+/// How many columns a label has at least.
 const NARROWEST: usize = 12;
 
-/// How a table is shown: as of which second, in how many columns, whether in colour, and whether its moments are those of UTC.
+/// How a table is shown: as of which second, in how many columns, whether in colour, and whether its times are those of UTC.
 #[derive(Clone, Copy)]
 pub struct Look {
     pub second: u64,
@@ -41,8 +41,8 @@ pub struct Look {
     pub is_utc: bool,
 }
 
-/// The table as of a second: what is told of the launcher, a head, and a line for each of the named jobs that the file has, or for each of its
-/// jobs, in the file's order; then one for each definition that the boot left out.
+/// The table as of a second: the report on the launcher, a head, and a line for each job, or for each named job that the file has. They are in the
+/// file's order. Then comes a line for each definition that the boot left out.
 pub fn table_text(
     alloc: Global,
     standing: &Standing,
@@ -63,7 +63,7 @@ pub fn table_text(
     }
 }
 
-// The text of the rows, by the zone in which moments are shown.
+// The text of the rows, by the zone in which times are shown.
 fn shown_text(
     alloc: Global,
     standing: &Standing,
@@ -85,7 +85,7 @@ fn shown_text(
     text
 }
 
-/// The launcher's reading, no later than one may be.
+/// The launcher's clock reading, no later than one may be.
 pub fn reading_of(standing: &Standing) -> Reading
     ensures up { result.up ≤ MAX_UP }
     ensures wall { result.wall ≤ MAX_WALL }
@@ -96,7 +96,8 @@ pub fn reading_of(standing: &Standing) -> Reading
     }
 }
 
-/// The reading as of which the file is told at a second: its clocks went on while its launcher wrote nothing, and stood still with one that is gone.
+/// The clock reading as of which the file is reported at a second. Its clocks went on while its launcher wrote nothing. If the launcher has exited,
+/// they stay where they were.
 pub fn told_as_of(standing: &Standing, at: Reading, second: u64) -> Reading
     requires up { at.up ≤ MAX_UP }
     requires wall { at.wall ≤ MAX_WALL }
@@ -183,7 +184,7 @@ fn label_columns(rows: &[Row<'_>], columns: u16) -> usize {
     wide.min(usize::from(columns).saturating_sub(others).max(NARROWEST))
 }
 
-/// What the moments of a table are shown by: the zone, and the present moment.
+/// What shows the times of a table: the zone, and the present time.
 #[derive(Clone, Copy)]
 struct Around<'a> {
     alloc: Global,
@@ -248,7 +249,8 @@ fn front_text(row: &Row<'_>, columns: usize, around: Around<'_>) -> Result<Strin
     ink.into_text()
 }
 
-// What stands behind the state: the process, since when it stands so, the last end, the starts, how many of them were refused or failed, and what comes next.
+// What comes after the state: the process, since when the job is in its state, and the last end. Then come the starts, how many of them were refused
+// or failed, and what comes next.
 fn end_text(row: &Row<'_>, around: Around<'_>) -> Result<String, AllocError> {
     let mut ink = Ink::new(around.alloc);
     ink.put(if around.has_colour { PLAIN } else { "" });
@@ -311,7 +313,7 @@ fn put_last(ink: &mut Ink, last: Option<Ended>, width: usize) {
     put_spaces(ink, width.saturating_sub(used));
 }
 
-// The time of the day; of another day the month, the day, the hour and the minute. Both moments are as `time_text` has them.
+// The time of the day; of another day the month, the day, the hour and the minute. Both times are as `time_text` has them.
 fn put_moment(ink: &mut Ink, around: Around<'_>, second: u64, width: usize) {
     match time_text(around.alloc, around.zone, second.min(MAX_WALL)) {
         Ok(text) => {

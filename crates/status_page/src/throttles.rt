@@ -1,4 +1,4 @@
-//! By what a job is throttled, and which second is told for the end of that: one rule for all that tells of a start.
+//! By what a job is throttled, and which second is shown for the end of that: one rule for all that report a start.
 
 ghost use Rattle.std.specs.Prelude.{◌≡◌, ◌+◌, ◌==◌, cond};
 ghost use Rattle.status_page.specs.Throttles.{EndsSo, by_refusal, is_near, second_told, throttled_by};
@@ -9,23 +9,23 @@ use run_times::coming_second;
 /// By what a job is throttled.
 #[derive(Clone, Copy)]
 pub enum ThrottleBy {
-    /// By the start that was ordered at this reading.
+    /// By the start that was ordered at this clock reading.
     Order(Reading),
-    /// By the one that was refused at this reading.
+    /// By the one that was refused at this clock reading.
     Refusal(Reading),
     /// By an earlier one, which is not kept.
     Unknown,
 }
 
-/// The second of `wall` at which a throttle ends: as the clock counts it from the last reading, and as it is told.
+/// The second of `wall` at which a throttle ends: as the clock counts it from the last clock reading, and as it is shown.
 #[derive(Clone, Copy)]
 pub struct ThrottleEnd {
     pub counted: u64,
     pub told: u64,
 }
 
-/// By what the job is throttled until this `up`, if its last start was ordered and its last refused one was refused at these readings, and
-/// `ThrottleInterval` is so many seconds.
+/// By what the job is throttled until this `up`. Its last start was ordered, and its last refused one was refused, at these clock readings.
+/// `ThrottleInterval` has this many seconds.
 pub fn throttle_by(
     ordered: Option<Reading>,
     refused: Option<Reading>,
@@ -55,8 +55,8 @@ fn ends_at(at: Reading, length: u64, until: u64) -> bool
     at.up.checked_add(length) == Some(until)
 }
 
-/// The end of the throttle at this `up`. It is told as it comes from the start that the job is throttled by, so that it is the same whenever it is told; as
-/// it comes from the last reading, if that start is not kept, or if a clock was set since.
+/// The end of the throttle at this `up`. It is shown as it comes from the start that the job is throttled by, so that it is the same at each time. If
+/// that start is not kept, or if a clock was set since, it is shown as it comes from the last clock reading.
 pub fn throttle_end(by: ThrottleBy, until: u64, last: Reading) -> ThrottleEnd
     ensures { EndsSo by until last result }
 {
@@ -82,7 +82,7 @@ fn nearest(from: u64, counted: u64) -> u64
     }
 }
 
-/// The second that is told for one at which a start comes: that of its throttle's end, if it comes just then.
+/// The second to show for one at which a start comes: that of its throttle's end, if it comes just then.
 pub fn second_told(end: Option<ThrottleEnd>, at: u64) -> u64
     ensures { result ≡ second_told end at }
 {

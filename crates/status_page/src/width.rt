@@ -5,7 +5,7 @@ use std::env;
 use std::io::IsTerminal;
 use std::process::{Command, Stdio};
 
-/// So many columns there are if nothing tells it.
+/// How many columns there are if nothing says it.
 const COLUMNS: u16 = 80;
 
 /// How many columns are written: as `COLUMNS` says, else as the terminal has, if standard output is one, else 80.

@@ -4,7 +4,7 @@ use anyhow::{Result, bail};
 use std::env;
 use std::process::Command;
 
-/// Runs a program by these words and the path of this one, which it starts again. An error if that run fails.
+/// Runs a program with these arguments and the path of this one, which it starts again. An error if that run fails.
 pub fn run_by(rt: &HostRuntime, program: &str, words: [&str; 2]) -> Result<()> {
     let own = env::current_exe(rt)?;
     let mut command = Command::new(rt.alloc(), program)?;

@@ -1,9 +1,9 @@
-//! All cases of calls, and the one function that tries each. A line of what is shown stands for one case or more.
+//! All cases of calls, and the one function that tries each. A line of what is shown is for one case or more.
 
-use crate::edges::{control_stage, further_clients, refused, system};
+use crate::edges::{control_stage, refused, system};
 use crate::memory_stage::Stage;
 use crate::parts::{exchange, feed, heap, lines, zones};
-use crate::rounds::{ends, pair, refusals, step};
+use crate::rounds::{ends, refusals};
 use crate::stores::{files, on_disks, stops};
 use crate::tables::{rows, visits};
 use crate::turns::{journals, launchers};
@@ -16,56 +16,46 @@ pub enum Case {
     Feed(&'static feed::Fed),
     Offset(&'static zones::Offset),
     NoOffsets(&'static [i32]),
-    Lines(lines::Kind, bool, &'static str),
+    Lines(lines::Kind, &'static str),
     Outcomes(&'static [lines::outcomes::Told]),
     Table(bool, u32, &'static [rows::Row]),
     Control(&'static str, &'static [control_stage::Step]),
-    Further(&'static further_clients::Further),
     Refusing(&'static refused::Refused),
     System(&'static system::Scene),
     RefusedRounds,
     Ends(&'static ends::Ends),
-    Spared(&'static step::Stream),
-    Stored(&'static on_disks::Listed<'static>),
-    ManyStored,
-    Lasting(files::Begin, &'static [on_disks::Listed<'static>]),
+    Lasting(&'static str, &'static [on_disks::Listed<'static>]),
     Stopping(stops::Run, bool),
     Launched(&'static launchers::Turns),
     Journal(&'static journals::Row),
-    NoJournal,
 }
 
-/// What is shown, and the cases that it stands for.
+/// What is shown, and the cases that it is for.
 pub type Line = (&'static str, &'static [Case]);
 
 /// Whether the case goes as it says.
 fn goes(rt: &HostRuntime, case: &Case) -> bool {
     let alloc = rt.alloc();
     match *case {
-        Case::Exchange(steps) => exchange::all_go(alloc, steps) == Some(true),
-        Case::Heap(steps) => heap::all_go(alloc, steps) == Some(true),
+        Case::Exchange(steps) => matches!(exchange::all_go(alloc, steps), Some(true)),
+        Case::Heap(steps) => matches!(heap::all_go(alloc, steps), Some(true)),
         Case::Feed(fed) => feed::all_go(alloc, fed),
         Case::Offset(offset) => zones::is_so(alloc, offset),
         Case::NoOffsets(offsets) => zones::are_none(offsets),
-        Case::Lines(kind, are_taken, lines) => lines::are_kept(alloc, kind, are_taken, lines),
+        Case::Lines(kind, lines) => lines::are_kept(alloc, kind, lines),
         Case::Outcomes(told) => lines::outcomes::are_told(alloc, told),
         Case::Table(is_full, times, rows) => {
-            visits::all_happen(alloc, is_full, times, rows) == Some(true)
+            matches!(visits::all_happen(alloc, is_full, times, rows), Some(true))
         }
-        Case::Control(name, steps) => control_stage::all_go(rt, name, steps) == Some(true),
-        Case::Further(further) => further_clients::is_placed(further),
-        Case::Refusing(refused) => refused::is_so(rt, refused) == Some(true),
-        Case::System(scene) => system::is_played(rt, scene) == Some(true),
-        Case::RefusedRounds => refusals::are_taken(rt) == Some(true),
-        Case::Ends(ends) => ends::is_so(rt, ends) == Some(true),
-        Case::Spared(stream) => pair::is_spared(alloc, stream) == Some(true),
-        Case::Stored(listed) => on_disks::is_listed(alloc, listed),
-        Case::ManyStored => on_disks::has_many(alloc) == Some(true),
-        Case::Lasting(begin, rounds) => files::do_last(alloc, begin, rounds),
+        Case::Control(name, steps) => matches!(control_stage::all_go(rt, name, steps), Some(true)),
+        Case::Refusing(refused) => matches!(refused::is_so(rt, refused), Some(true)),
+        Case::System(scene) => matches!(system::is_played(rt, scene), Some(true)),
+        Case::RefusedRounds => matches!(refusals::are_taken(rt), Some(true)),
+        Case::Ends(ends) => matches!(ends::is_so(rt, ends), Some(true)),
+        Case::Lasting(made, rounds) => files::do_last(alloc, made, rounds),
         Case::Stopping(run, is_log) => stops::are_followed(alloc, run, is_log),
-        Case::Launched(turns) => launchers::is_so::<Stage>(alloc, turns) == Some(true),
-        Case::Journal(row) => journals::become_so(alloc, row) == Some(true),
-        Case::NoJournal => journals::is_silent(alloc) == Some(true),
+        Case::Launched(turns) => matches!(launchers::is_so::<Stage>(alloc, turns), Some(true)),
+        Case::Journal(row) => matches!(journals::become_so(alloc, row), Some(true)),
     }
 }
 

@@ -4,7 +4,6 @@ mod calls;
 pub mod control_rows;
 pub mod control_stage;
 mod echo;
-pub mod further_clients;
 pub mod places;
 pub mod refused;
 pub mod refusing;
@@ -12,7 +11,6 @@ pub mod system;
 mod system_cases;
 
 use crate::cases::{Case, Line};
-use crate::edges::further_clients as further;
 
 /// The cases of this folder. Nothing else names them: a function is proved over all of a list that it names.
 pub fn list() -> &'static [Line] {
@@ -22,9 +20,8 @@ pub fn list() -> &'static [Line] {
 /// The cases of this folder.
 static LINES: &[Line] = &[
     ("each_round_serves_each_client", control_rows::CASES),
-    ("the_first_goes_for_a_further_client", further::CASES),
     (
-        "what_a_system_refuses_is_counted_kept_and_told",
+        "what_a_system_refuses_is_answered_kept_and_told",
         &[
             Case::Refusing(refused::NO_MEMORY),
             Case::Refusing(refused::NO_RIGHT),

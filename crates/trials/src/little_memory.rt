@@ -16,7 +16,7 @@ use crate::little_memory::storing::{InMemory, OwnFile};
 use crate::memory_stage::Stage;
 use anyhow::Result;
 
-/// Tries each call. Memory has to be limited already.
+/// Tries each call. Memory must be limited already.
 pub fn try_all(rt: &HostRuntime) -> Result<()> {
     let mut hoard = Hoard::new(rt.alloc())?;
     let plain = plain_calls::try_all(rt, &mut hoard);

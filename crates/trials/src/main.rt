@@ -1,14 +1,14 @@
-//! What no contract says, no line of a journal shows and no proof sees, tried: calls of the crates, the real system, stores, turns, want of
-//! memory, and the first runs of `jobd` and `jobctl`. All is in one program, so that the libraries are read and compiled once. Its first
-//! word says what it does; `trials` is all of it, with a line for each list of cases:
+//! Tries what no contract says, no line of a journal shows and no proof sees. It tries calls of the crates, the real system, stores, turns, want of
+//! memory, and the first runs of `jobd` and `jobctl`. All is in one program, so that the libraries are read and compiled once. Its first argument
+//! says what it does; `trials` is all of it, with a line for each list of cases:
 //!
-//! - by `calls`, those over tables of cases, which are read off the rules of launchd.plist(5), launchctl(1), crontab(5), signal(7), the
-//!   shell's manual and the line protocol, and off no run of this code; by the name of a folder of `src/`, some of them;
-//! - by `short`, the calls that take memory. It starts itself with that word and its memory limited by the shell;
-//! - by `runs`, the first runs of a launcher and its clients (`data/first_runs.py`). They start this file again through links that are named
-//!   as the programs are.
+//! - `calls`: those over tables of cases. The cases are read off the rules of launchd.plist(5), launchctl(1), crontab(5), signal(7), the shell's
+//!   manual and the line protocol, and off no run of this code. The name of a folder of `src/` tries some of them.
+//! - `short`: the calls that take memory. It starts itself with that argument and its memory limited by the shell.
+//! - `runs`: the first runs of a launcher and its clients (`data/first_runs.py`). They start this file again through links that are named as the
+//!   programs are.
 //!
-//! By any other word, or none, it is the program that its name means: `jobd` or `jobctl`.
+//! By any other argument, or none, it is the program that its name means: `jobd` or `jobctl`.
 #![tactic(auto)]
 
 mod again;
@@ -90,7 +90,7 @@ static TASKS: &[(&str, Task)] = &[
     ("runs", Task::Runs),
 ];
 
-/// What the first word asks for, if it is one of these.
+/// What the first argument asks for, if it is one of these.
 fn task_of(rt: &HostRuntime) -> Option<Task> {
     let mut words = env::args(rt).ok()?;
     let first = words.nth(1)?;
@@ -134,7 +134,7 @@ fn do_task(rt: &HostRuntime, task: Task) -> Result<()> {
     }
 }
 
-/// The exit status of the task. A fault is told.
+/// The exit status of the task. It reports a fault.
 fn status_of(rt: &HostRuntime, task: Task) -> u8 {
     match do_task(rt, task) {
         Ok(()) => 0,

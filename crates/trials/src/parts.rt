@@ -1,4 +1,4 @@
-//! One job's parts, and lines: an exchange, the heap of moments, a feed of lines, a zone, and lines.
+//! One job's parts, and lines: an exchange, the heap of deadlines, a feed of lines, a zone, and lines.
 
 pub mod exchange;
 pub mod feed;
@@ -10,8 +10,8 @@ use crate::cases::{Case, Line};
 use crate::parts::lines::Kind::{Event, Request};
 use crate::parts::lines::cases as texts;
 
-/// The cases of one job's parts: the bytes of an exchange, its moments. Nothing else names the list: a function is proved over all of
-/// a list that it names.
+/// The cases of one job's parts: the bytes of an exchange, its deadlines. Nothing else names the list: a function is proved over all of a list that
+/// it names.
 pub fn job_list() -> &'static [Line] {
     JOBS
 }
@@ -42,12 +42,12 @@ static LINES: &[Line] = &[
     (
         "lines_are_read_and_written",
         &[
-            Case::Lines(Event, true, texts::EVENTS),
-            Case::Lines(Request, true, texts::REQUESTS),
+            Case::Lines(Event, texts::EVENTS),
+            Case::Lines(Request, texts::REQUESTS),
         ],
     ),
     (
-        "outcomes_and_replies_are_written",
+        "replies_are_written",
         &[Case::Outcomes(lines::outcomes::TOLD)],
     ),
 ];

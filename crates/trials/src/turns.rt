@@ -20,5 +20,4 @@ static JOURNALS: &[Line] = &[
         "a_journal_over_a_full_writer_holds_a_front",
         &[Case::Journal(&journals::FULL)],
     ),
-    ("no_journal_stays_silent", &[Case::NoJournal]),
 ];

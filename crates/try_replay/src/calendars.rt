@@ -1,4 +1,4 @@
-//! Calendars after a clock that stood still for 400 days: the crossed minutes in a zone with daylight time, and 1,024 calendars over them.
+//! Calendars after a clock that did not move for 400 days: the crossed minutes in a zone with daylight time, and 1,024 calendars over them.
 //! And the next minutes of calendars that are far, or never come. Writes counts, and if that is asked for the times too, to standard error.
 
 use calendar_due::{Calendar, Zone};
@@ -43,7 +43,7 @@ fn count_coming(zone: &Zone) -> usize {
     count
 }
 
-// The second of the twentieth leap day to come; 0 if there are not so many.
+// The second of the twentieth leap day to come; 0 if there are fewer.
 fn twentieth_leap_day(zone: &Zone) -> u64 {
     let mut at = NOW;
     for _ in 0..20 {
@@ -56,7 +56,7 @@ fn twentieth_leap_day(zone: &Zone) -> u64 {
     at
 }
 
-// How many of so many jobs fire, whose calendars match one minute of each hour, or no minute at all.
+// How many of the jobs fire, whose calendars match one minute of each hour, or no minute at all.
 fn count(minutes: &[CivilMinute], jobs: u32, are_hourly: bool) -> usize {
     let mut count = 0usize;
     for job in 0..jobs {

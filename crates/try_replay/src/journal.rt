@@ -1,4 +1,4 @@
-//! The journal, and the outcome lines that are wanted for it.
+//! The journal, and the outcome lines that are expected for it.
 
 /// A job whose first spawn is refused, and is ordered again ten seconds later. Its last line has no newline.
 pub const JOURNAL: &[u8] = b"{\"up\":0,\"wall\":1700000000,\"zone\":\"UTC0\"}\n\
@@ -10,7 +10,7 @@ pub const JOURNAL: &[u8] = b"{\"up\":0,\"wall\":1700000000,\"zone\":\"UTC0\"}\n\
 /// How many bytes its header has.
 pub const HEADER: usize = 40;
 
-/// What is written for a line that is no event.
+/// What is written for a line that is not an event.
 const BAD_REQUEST: &[u8] = b"{\"code\":2,\"orders\":[],\"text\":\"bad request\\n\"}\n";
 
 /// What is written for it.
@@ -20,7 +20,7 @@ pub const OUTCOMES: &[u8] =
 {\"code\":0,\"orders\":[],\"text\":\"\"}\n\
 {\"code\":0,\"orders\":[{\"job\":\"a\",\"order\":\"spawn\",\"run\":2}],\"text\":\"\"}\n";
 
-/// How many newlines stand among the first bytes of a text.
+/// How many newlines are among the first bytes of a text.
 pub fn newlines(text: &[u8], bytes: usize) -> usize {
     let mut count = 0usize;
     for byte in &text[..bytes.min(text.len())] {
@@ -31,7 +31,7 @@ pub fn newlines(text: &[u8], bytes: usize) -> usize {
     count
 }
 
-/// The front of a text that has so many lines.
+/// The front of a text that has this many lines.
 pub fn first_lines(text: &[u8], lines: usize) -> &[u8] {
     let mut left = lines;
     for (at, byte) in text.iter().enumerate() {
@@ -45,13 +45,12 @@ pub fn first_lines(text: &[u8], lines: usize) -> &[u8] {
     text
 }
 
-/// The outcome lines that are wanted if so many bytes of the journal were read: the header has none.
+/// The outcome lines that are expected if this many bytes of the journal were read: the header has none.
 pub fn outcomes_of(bytes: usize) -> &'static [u8] {
     first_lines(OUTCOMES, newlines(JOURNAL, bytes).saturating_sub(1))
 }
 
-/// What is wanted if the journal ends after so many bytes: the outcome lines of its whole lines, and that of a line
-/// that is cut.
+/// What is expected if the journal ends after this many bytes: the outcome lines of its whole lines, and that of a line that is cut.
 pub fn wanted_of(bytes: usize) -> (&'static [u8], &'static [u8]) {
     if JOURNAL.get(bytes) == Some(&b'\n') {
         (outcomes_of(bytes.saturating_add(1)), b"")

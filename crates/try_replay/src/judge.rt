@@ -9,7 +9,7 @@ use std::io::ErrorKind;
 /// More reads and writes than any replay makes.
 pub const MANY: usize = 100_000;
 
-/// Replays the input, and tells the name if it wrote what is wanted and ended with the status that is wanted.
+/// Replays the input. It prints only the name if the replay wrote what is expected and exited with the expected status.
 pub fn judge(
     rt: &HostRuntime,
     name: &str,

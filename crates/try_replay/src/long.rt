@@ -1,10 +1,11 @@
-//! Inputs that are made here, since they are long: lines at the limit of a line, and as many jobs as there may be.
+//! Inputs that are made here, since they are long: lines at the limit of a line, and the most jobs that there may be.
 
 use crate::judge::judge;
 use std::alloc::{AllocError, Global};
 use std::io;
 
-/// A line, filled with blanks to so many bytes, and so many of it: one for each number from 0 on, whose four digits stand for a `#`.
+/// A line, filled with blanks to a number of bytes, and how many of it there are: one for each number from 0 on, whose four digits replace
+/// a `#`.
 type Lines = (&'static str, usize, u32);
 
 const TOP: &str = "{\"up\":0,\"wall\":1700000000,\"zone\":\"UTC0\"}";
@@ -28,7 +29,7 @@ const BAD: Lines = (
 const LOAD: &str =
     "{\"def\":\"{\\\"Label\\\":\\\"j#\\\",\\\"Program\\\":\\\"/bin/x\\\"}\",\"ev\":\"load\"}";
 
-/// A name, the lines, what is written for them, and the exit status that is wanted.
+/// A name, the lines, what is written for them, and the expected exit status.
 type Row = (&'static str, &'static [Lines], &'static [Lines], u8);
 
 static ROWS: &[Row] = &[
@@ -97,7 +98,7 @@ fn add_line(
     text.push_str("\n")
 }
 
-/// Adds so many lines of the kind.
+/// Adds all lines of the kind.
 fn add_lines(alloc: Global, text: &mut String, lines: Lines) -> Result<(), AllocError> {
     let (line, bytes, count) = lines;
     for number in 0..count {
@@ -106,7 +107,7 @@ fn add_lines(alloc: Global, text: &mut String, lines: Lines) -> Result<(), Alloc
     Ok(())
 }
 
-/// All lines, one behind another.
+/// All lines, one after another.
 fn text_of(alloc: Global, all: &[Lines]) -> Result<String, AllocError> {
     let mut text = String::new(alloc);
     for lines in all {

@@ -1,9 +1,10 @@
-//! Replays worked inputs, and then one journal over readers and writers that cut it anywhere and fail at every turn. Names
-//! each input whose outcomes and exit status are as wanted, and each kind of trial that ended as it must: a failed read
-//! leaves the outcome lines of the lines before, a failed write a front. Any other is told beside them. Then it counts the minutes
-//! and the calendars of 400 days, and at last it replays standard input as `jobd replay` does, and ends with its status. With the
-//! argument `time` it counts alone, and writes how long each count took. With `look` it replays standard input alone: `make run` builds
-//! it for that, in a fraction of the time that the whole of `jobd` takes.
+//! Replays worked inputs, and then one journal over readers and writers that cut it anywhere and fail at every turn. It prints the name of
+//! each input whose outcomes and exit status are as expected, and of each kind of trial that ended as it must. A failed read must leave the
+//! outcome lines of the lines before, a failed write a front. For any other it prints what differs, too. Then it counts the minutes and the
+//! calendars of 400 days. At last it replays standard input as `jobd replay` does, and exits with its status.
+//!
+//! With the argument `time` it only counts, and writes how long each count took. With `look` it only replays standard input: `make run`
+//! builds it for that, in a fraction of the time that the whole of `jobd` takes.
 #![tactic(auto)]
 
 mod calendars;
@@ -19,7 +20,7 @@ use replay::replay_input;
 use std::process::ExitCode;
 use std::{env, io};
 
-/// Tries what its words ask for, and says whether standard input is to be replayed.
+/// Tries what its arguments ask for, and returns whether standard input is to be replayed.
 fn tries(rt: &HostRuntime) -> io::Result<bool> {
     let mut is_timed = false;
     let mut is_look = false;

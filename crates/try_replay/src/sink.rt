@@ -9,7 +9,7 @@ pub struct Sink {
     pub taken: Vec<u8>,
     /// The most bytes that one write takes.
     pub piece: usize,
-    /// How many writes go well.
+    /// How many writes succeed.
     pub writes: usize,
     /// How the write after them fails; with none it takes no byte.
     pub failure: Option<ErrorKind>,

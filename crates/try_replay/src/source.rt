@@ -9,7 +9,7 @@ pub struct Source<'a> {
     pub rest: &'a [u8],
     /// The most bytes that one read gives.
     pub piece: usize,
-    /// How many reads go well.
+    /// How many reads succeed.
     pub reads: usize,
     /// How the read after them fails.
     pub failure: ErrorKind,

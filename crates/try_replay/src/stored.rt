@@ -1,4 +1,4 @@
-//! The inputs that lie in `data/`: `rows.txt` lists them, each with the exit status that is wanted.
+//! The inputs in `data/`: `rows.txt` lists them, each with the expected exit status.
 
 use crate::judge::judge;
 use std::{fs, io};

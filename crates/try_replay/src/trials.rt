@@ -14,16 +14,17 @@ use std::io::ErrorKind;
 enum Trial {
     /// The journal in pieces of that many bytes is answered whole.
     Pieces,
-    /// So many reads of so many bytes, and then one that fails so, leave the outcome lines of the lines before.
+    /// This many reads of a number of bytes, and then one that fails so, leave the outcome lines of the lines before.
     Reads(usize, ErrorKind),
-    /// So many written bytes, and then a write that fails so, or takes no byte, leave these bytes.
+    /// This many written bytes, and then a write that fails so, or takes no byte, leave these bytes.
     Writes(Option<ErrorKind>),
-    /// So many reads of one byte, and no more, leave the outcome lines of the lines before.
+    /// This many reads of one byte, and no more, leave the outcome lines of the lines before.
     Counts,
-    /// As few reads as a reader of pieces of that many bytes makes, and one at its end, are enough for the whole journal: reads are
+    /// The fewest reads that a reader of pieces of that many bytes makes, and one at its end, are enough for the whole journal: reads are
     /// counted, and not bytes.
     LongReads,
-    /// A journal that ends after so many bytes is answered as far as it goes. Its last line needs no newline, and is no event if it is cut.
+    /// A journal that ends after this many bytes is answered as far as it goes. Its last line needs no newline. If that line is cut, it is
+    /// not an event.
     Fronts,
 }
 
@@ -31,9 +32,9 @@ enum Trial {
 #[derive(Drop)]
 struct Run {
     rest: &'static [u8],
-    /// The most bytes that one read gives, how many reads go well, and how the next one fails.
+    /// The most bytes that one read gives, how many reads succeed, and how the next one fails.
     reads: (usize, usize, ErrorKind),
-    /// The most bytes that one write takes, how many writes go well, and how the next one fails.
+    /// The most bytes that one write takes, how many writes succeed, and how the next one fails.
     writes: (usize, usize, Option<ErrorKind>),
     most: Option<usize>,
     ending: Result<(), ReplayFault>,
@@ -50,7 +51,8 @@ const WHOLE: Run = Run {
     wanted: (OUTCOMES, b""),
 };
 
-/// The run of the trial's number. The journal and its outcomes are named once, since each place that names a long constant is dear to prove.
+/// The run of the trial's number. The journal and its outcomes are named once, since each place that names a long constant is expensive to
+/// prove.
 fn run_of(trial: Trial, number: usize) -> Run {
     let mut run = WHOLE;
     match trial {
@@ -93,7 +95,7 @@ fn run_of(trial: Trial, number: usize) -> Run {
     run
 }
 
-/// Whether the run ends, and leaves written, what it has to.
+/// Whether the run ends, and leaves written, as expected.
 fn holds(alloc: Global, run: &Run) -> bool {
     let (piece, reads, failure) = run.reads;
     let mut reader = Source {

@@ -1,4 +1,4 @@
-//! What stands where a text is no JSON.
+//! What is wrong where a text is not JSON.
 
 use crate::check::finding::Place;
 use crate::check::outline::{DEEPEST, Mark, MarkKind, Outline, begin_at};
@@ -12,7 +12,7 @@ const XML: &str = "a property list in XML; write it as JSON with: jobscope plist
 const BINARY: &str =
     "a binary property list; convert it with: python3 -c 'import plistlib,json,sys; json.dump(plistlib.load(sys.stdin.buffer),sys.stdout)' < FILE > FILE.json";
 
-/// Adds what stands at the first byte that is no JSON, and answers its place.
+/// Adds what is wrong at the first byte that is not JSON, and returns its place.
 pub(crate) fn put_broken(
     alloc: Global,
     ink: &mut Ink,
@@ -43,7 +43,7 @@ pub(crate) fn put_broken(
     Some(place_at(text, at))
 }
 
-// Where the first number begins that alone is no JSON: one past each bound.
+// Where the first number begins that by itself is not JSON: one past each bound.
 fn number_in(alloc: Global, ink: &mut Ink, text: &str, marks: &[Mark]) -> usize {
     for mark in marks {
         if let MarkKind::Plain = mark.kind {
@@ -72,8 +72,8 @@ fn number_at(text: &str, at: usize) -> &str {
     }
 }
 
-// The place that is told, and what stands there: the text is bad at the offset, and its first byte that is no blank stands at `first`.
-// Whether a whole value stands before the offset is handed in.
+// The place to report, and what is wrong there. The text is bad at `offset`, and its first byte that is not a blank is at `first`. The
+// caller says whether a whole value comes before `offset`.
 fn told_at(bytes: &[u8], offset: usize, first: usize, is_whole: bool) -> (usize, &'static str) {
     let Some(byte) = bytes.get(first) else {
         return (0, "the file is empty");
@@ -107,7 +107,7 @@ fn told_at(bytes: &[u8], offset: usize, first: usize, is_whole: bool) -> (usize,
     }
 }
 
-// The same where the text ends: a comma is wrong behind a whole value.
+// The same where the text ends: a comma after a whole value is wrong.
 fn told_at_end(bytes: &[u8], end: usize, is_whole: bool) -> (usize, &'static str) {
     match comma_before(bytes, end) {
         Some(comma) if is_whole => (

@@ -45,7 +45,7 @@ fn minute_of_day(at: &CivilMinute) -> u32 {
         .saturating_add(u32::from(at.minute))
 }
 
-// By how many minutes the clock was put on, within a day, while so many minutes went by.
+// By how many minutes the clock was put on, within a day, while this many minutes went by.
 fn jump(before: &CivilMinute, after: &CivilMinute, minutes: u32) -> u32 {
     let gone = minute_of_day(after).saturating_add(DAY.saturating_mul(2));
     gone.saturating_sub(minute_of_day(before))
@@ -72,8 +72,8 @@ fn add_changes(
     Ok(())
 }
 
-// Adds the change of a clock that showed `before`, and a minute later `after`: it was put on by so many minutes, or, if they are more than
-// half a day, back by what they lack of a day.
+// Adds the change of a clock that showed `before`, and a minute later `after`. It was put on by `ahead` minutes. If they are more than half
+// a day, it was put back by what they lack of a day.
 fn add_change(
     alloc: Global,
     changes: &mut Vec<Change>,
@@ -98,8 +98,8 @@ fn add_change(
     })?)
 }
 
-// The civil minute that is so many after the midnight one day before that of `after`; on another day than `after` it is on that of
-// `before`.
+// The civil minute that is `count` minutes after the midnight one day before that of `after`. If that is on another day than `after`, it
+// has the day of `before`.
 fn minute_at(before: &CivilMinute, after: &CivilMinute, count: u32) -> CivilMinute {
     let mut at = if count / DAY == 1 { *after } else { *before };
     at.hour = (count / 60 % 24) as u8;

@@ -20,13 +20,13 @@ use std::alloc::{AllocError, Global};
 /// What a load would say of a definition.
 #[derive(Drop)]
 pub enum Checked {
-    /// It is read, and has these mistakes; the remarks tell them, and what else may be wrong.
+    /// A load reads it, and it has these mistakes. The remarks are on them, and on what else may be wrong.
     Loads {
         def: Def,
         mistakes: Vec<Mistake>,
         remarks: Vec<Remark>,
     },
-    /// It is refused for this reason, at this key; the text says so to people. The further remarks tell what else is wrong.
+    /// A load refuses it for this reason, at this key; the text says so to people. The further remarks say what else is wrong.
     Refused {
         reason: Reason,
         key: KeyName,
@@ -36,9 +36,9 @@ pub enum Checked {
     },
 }
 
-/// Checks the bytes of a definition. The verdict is that of [`read_def`], which a load asks: the definition that it reads, or the
-/// reason and the key for which it refuses. The changes are those of the clock in whose time entries of a calendar are looked at.
-/// `Err` says only that memory ran out.
+/// Checks the bytes of a definition. The verdict is that of [`read_def`], which a load asks: the definition that it reads, or the reason
+/// and the key for which it refuses. `changes` are those of the clock by whose time entries of a calendar are looked at. `Err` says only
+/// that memory ran out.
 pub fn check_def(alloc: Global, bytes: &[u8], changes: &[Change]) -> Result<Checked, AllocError>
     ensures { IfOk result (λ checked. IsVerdict bytes.now checked) }
 {

@@ -12,8 +12,11 @@ use run_times::Ink;
 use run_times::Piece::Number;
 use std::alloc::{AllocError, Global};
 
-/// Adds the warnings on what is run: a command line in one text, a program that is no whole path, signs of a shell where none reads
-/// them, lines of shells, and a program that leaves the foreground.
+/// The wrapper command that passes a TERM on to the process group of its program.
+const GROUP: &str = "jobd-group";
+
+/// Adds the warnings on what is run: a command line in one argument, a program whose path is not from the root, and signs of a shell without a shell.
+/// It also looks at lines of shells, and at a program that leaves the foreground.
 pub(crate) fn add_command(def: &Def, remarks: &mut Remarks<'_>) {
     let program = def.program();
     let is_whole = program.starts_with('/');
@@ -42,8 +45,9 @@ pub(crate) fn add_command(def: &Def, remarks: &mut Remarks<'_>) {
 }
 
 fn add_run(def: &Def, run: &Run<'_>, remarks: &mut Remarks<'_>) {
+    let is_grouped = run.programs.iter().any(|started| base_of(started.path) == GROUP);
     for line in &run.lines {
-        add_shell_line(def, line, remarks);
+        add_shell_line(def, line, is_grouped, remarks);
     }
     for started in &run.programs {
         if base_of(started.path) == "nohup" {
@@ -57,8 +61,8 @@ fn add_run(def: &Def, run: &Run<'_>, remarks: &mut Remarks<'_>) {
     }
 }
 
-// Adds the warnings on the line of a shell.
-fn add_shell_line(def: &Def, line: &Line<'_>, remarks: &mut Remarks<'_>) {
+// Adds the warnings on the line of a shell. `is_grouped`: TERM reaches all processes of the run.
+fn add_shell_line(def: &Def, line: &Line<'_>, is_grouped: bool, remarks: &mut Remarks<'_>) {
     let is_kept = def.keep_alive() || def.successful_exit().is_some() || def.crashed().is_some();
     let is_plain_shell = matches!(base_of(line.shell), "sh" | "dash" | "ash");
     let is_cut = line.behind > 0 && !line.text.contains('$');
@@ -73,9 +77,9 @@ fn add_shell_line(def: &Def, line: &Line<'_>, remarks: &mut Remarks<'_>) {
         "the line ends with &, so its run ends at once and the program goes on without the launcher; leave out the &, and write exec before the program",
     );
     remarks.add_if(
-        is_kept && is_plain_shell && !line.is_replaced && !line.is_left && !is_cut,
+        is_kept && is_plain_shell && !is_grouped && !line.is_replaced && !line.is_left && !is_cut,
         KeyName::Program,
-        "the shell waits for the last command of its line: TERM ends the shell alone, and the program goes on; write exec before it",
+        "the shell waits for the last command of its line: TERM ends the shell alone, and the program goes on; write exec before it, or jobd-group before the shell",
     );
     let is_given = match gives_below(remarks.alloc, line.text) {
         Ok(is_given) => is_given,
@@ -129,7 +133,7 @@ fn is_below(path: &str, folders: &[&str]) -> bool {
     false
 }
 
-// Behind a blank comes an option or a path.
+// After a blank comes an option or a path.
 fn is_line(program: &str) -> bool {
     let mut is_first = true;
     for word in program.split(' ') {
@@ -170,7 +174,8 @@ fn is_one(names: &[&str], word: &str) -> bool {
     names.contains(&name_of(word))
 }
 
-// Adds a warning for the first argument that no program reads as it is written, if neither the program nor an argument is one that may; an option and its value in one none reads.
+// Adds a warning for the first argument that no program reads as it is written, unless the program or an argument may read such ones. An option and
+// its value in one argument is always such an argument.
 fn add_signs(def: &Def, remarks: &mut Remarks<'_>) {
     let mut found = None;
     let mut is_read = is_one(READERS, def.program());
@@ -199,7 +204,7 @@ fn add_signs(def: &Def, remarks: &mut Remarks<'_>) {
     }
 }
 
-// Why no program reads the word as it is written; empty, if one may.
+// Why no program reads the argument as it is written; empty, if one may.
 fn oddity_of(word: &str, before: &str, expands: bool) -> &'static str {
     if is_sign(word) {
         ", and no shell reads it; for a line of a shell run /bin/sh with -c and the line"
@@ -217,7 +222,7 @@ fn oddity_of(word: &str, before: &str, expands: bool) -> &'static str {
     }
 }
 
-// Quotes around the whole word, or around what stands behind its one =.
+// Quotes around the whole argument, or around what follows its one =.
 fn is_quoted(word: &str) -> bool {
     let part = match word.split_once('=') {
         Some((name, value)) if name.starts_with('-') && !value.contains('=') => value,
@@ -237,7 +242,7 @@ fn is_within(part: &str, quote: &str) -> bool {
     }
 }
 
-// An option of one letter, or of words behind two -, and then a blank and something that is no sentence.
+// An option of one letter, or a long one after two -, and then one blank and something without a blank.
 fn is_joined(word: &str) -> bool {
     let Some((option, value)) = word.split_once(' ') else {
         return false;
@@ -278,7 +283,7 @@ static SIGNS: &[&str] = &[
     "|", "||", "&&", "&", ">", ">>", "<", "2>", "2>>", "2>&1", "&>",
 ];
 
-// A sign of a shell that stands alone, or the begin of a variable, a command or a home folder.
+// A sign of a shell that is an argument by itself, or the begin of a variable, a command or a home folder.
 fn is_sign(word: &str) -> bool {
     for sign in SIGNS {
         if *sign == word {
@@ -288,7 +293,7 @@ fn is_sign(word: &str) -> bool {
     word.starts_with("~/") || word.contains('`') || has_variable(word)
 }
 
-// A dollar sign, and a letter, a line below, or a bracket that opens behind it.
+// A dollar sign, and after it a capital letter, an underscore, or an opening brace or parenthesis.
 fn has_variable(word: &str) -> bool {
     let mut is_behind = false;
     for byte in word.as_bytes() {

@@ -17,7 +17,7 @@ use json_kinds::key_name;
 use run_times::Piece::Number;
 use std::alloc::AllocError;
 
-/// The remarks on a definition that has these mistakes: first the keys that nothing acts on, then what it starts, then how.
+/// The remarks on a definition that has these mistakes: first on the ignored keys, then on what starts it, then on how.
 pub(crate) fn remarks_on(
     def: &Def,
     mistakes: &[Mistake],

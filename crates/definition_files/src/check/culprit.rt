@@ -7,7 +7,7 @@ use json_kinds::kinds::members_or_one_of;
 use serde_json::Value;
 use std::alloc::Global;
 
-/// A value that has a fault: the rule that it breaks, and where it stands below its key.
+/// A value that has a fault: the rule that it breaks, and where it is below its key.
 #[derive(Clone, Copy, Drop)]
 pub(crate) struct Culprit<'a> {
     /// How many of these steps lead to it: the key, the member, the key within, the socket, the key of that.
@@ -45,7 +45,7 @@ pub(crate) fn whole_of(value: &Value, key: KeyName) -> Culprit<'_> {
     }
 }
 
-// What the value of a key is to be beside the others.
+// What the value of a key must be, given the other keys.
 fn rule_beside(key: KeyName, around: &Around) -> Rule {
     let rule = rule_of(key);
     match key {
@@ -102,7 +102,7 @@ fn add_items<'a>(of: Culprit<'a>, inside: &Inside, culprits: &mut Culprits<'a>) 
     }
 }
 
-// Adds what of the item breaks the rules: of one that is not of its kind, that alone.
+// Adds what of the item breaks the rules. If the item is not of its kind, it adds only that.
 fn add_item<'a>(
     of: Culprit<'a>,
     index: usize,
@@ -150,7 +150,7 @@ fn below<'a>(of: Culprit<'a>, index: usize, value: &'a Value, rule: Rule) -> Cul
     }
 }
 
-// A variable that is no text is left out, and so no fault.
+// A variable that is not a string is left out, so it is not a fault.
 fn add_variables<'a>(whole: Culprit<'a>, culprits: &mut Culprits<'a>) {
     if let Value::Object(members) = whole.value {
         for (name, found) in members.iter() {
@@ -172,7 +172,7 @@ fn under<'a>(whole: Culprit<'a>, inside: &'a str, value: &'a Value, rule: Rule) 
     }
 }
 
-// Adds what of the sockets breaks a rule: a socket itself, if it is no dictionary, or has neither a path nor a port.
+// Adds what breaks a rule of the sockets. It may be a socket itself, if it is not an object, or has neither a path nor a port.
 fn add_sockets<'a>(whole: Culprit<'a>, inside: &Inside, culprits: &mut Culprits<'a>) {
     if let Value::Object(members) = whole.value {
         for (name, found) in members.iter() {

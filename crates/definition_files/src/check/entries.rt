@@ -52,7 +52,7 @@ pub(crate) fn add_made_by(mistake: Mistake, entries: &[Entry], remarks: &mut Rem
     for (index, entry) in entries.iter().enumerate() {
         if made_by(mistake, entry) {
             let (grade, form) = form_for(mistake, entry);
-            // The month alone is named before the number.
+            // Only the month is named before the number.
             let (number, first) = match mistake {
                 Mistake::NeverMatches => (entry.day, 0),
                 Mistake::EachMinute => (entry.hour, 1),
@@ -69,7 +69,8 @@ pub(crate) fn add_made_by(mistake: Mistake, entries: &[Entry], remarks: &mut Rem
     }
 }
 
-// How grave it is, and the form: its hole is for the hour, the minute or the day that is named; of an entry that never matches the month stands before it.
+// How grave it is, and the form. Its hole is for the hour, the minute or the day that is named. For an entry that never matches the month comes
+// first.
 fn form_for(mistake: Mistake, entry: &Entry) -> (Grade, &'static str) {
     match mistake {
         Mistake::NeverMatches => (

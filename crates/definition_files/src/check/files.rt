@@ -24,7 +24,7 @@ use run_times::Piece::Text;
 use run_times::telling::Outcome;
 use std::alloc::{AllocError, Global};
 
-/// What was found so far, beside the verdicts.
+/// What was found so far, besides the verdicts.
 #[derive(Drop)]
 struct Findings {
     ink: Ink,
@@ -35,9 +35,11 @@ struct Findings {
     is_json: bool,
 }
 
-/// For each of the files a line if all is well with its definition, else a line for each finding. Each is read once. The status is 0 if
-/// all would be read by a load; 1 if one would not, or if one has a warning and the check is strict; 65 if a file can't be read. In the
-/// zone the entries of calendars are looked at, twelve months on from the second.
+/// For each of the files a line if all is well with its definition, else a line for each finding. Each file is read once. It looks at the
+/// entries of calendars in the zone, twelve months on from the second.
+///
+/// The status is 0 if a load would read all of them. It is 1 if a load would refuse one, or if one has a warning and the check is strict.
+/// It is 65 if a file can't be read.
 pub fn check_files<S: DefinitionSource>(
     host: &HostRuntime,
     alloc: Global,
@@ -324,7 +326,7 @@ fn add_note(alloc: Global, path: &str, verdict: &'static str, findings: &mut Fin
     drop(lines);
 }
 
-// Adds what is found of a definition that loads, behind the remarks on its text.
+// Adds what is found of a definition that loads, after the remarks on its text.
 fn add_definition(
     host: &HostRuntime,
     alloc: Global,
@@ -400,7 +402,7 @@ fn path_with<'a>(labels: &'a [(String, String)], label: &str) -> Option<&'a str>
     None
 }
 
-// Adds the lines of a definition that loads: that it is well, if there is no warning, and its remarks.
+// Adds the lines of a definition that loads: its remarks, and that all is well if there is no warning.
 fn add_loading(
     alloc: Global,
     def: &Def,

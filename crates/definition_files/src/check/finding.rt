@@ -1,4 +1,4 @@
-//! What is told of a definition.
+//! What is reported of a definition.
 
 use history_model::Reading;
 use json_lines::{Field, Value, put_line};
@@ -22,11 +22,11 @@ pub enum Grade {
     Also,
     /// It loads, and may do what is not meant.
     Warning,
-    /// Nothing has to be done.
+    /// Nothing needs to be done.
     Note,
 }
 
-/// What is to be known of a definition, beside why a load refuses it.
+/// A finding on a definition, besides why a load refuses it.
 #[derive(Drop)]
 pub struct Remark {
     pub place: Option<Place>,
@@ -34,7 +34,7 @@ pub struct Remark {
     pub text: String,
 }
 
-/// The word of a grade.
+/// The name of a grade.
 pub(crate) fn grade_name(grade: Grade) -> &'static str {
     match grade {
         Grade::Error => "error",
@@ -44,8 +44,8 @@ pub(crate) fn grade_name(grade: Grade) -> &'static str {
     }
 }
 
-/// The line that tells a finding: `FILE:LINE:COLUMN: error: TEXT`, or without the place if there is none. The way to the place, by its
-/// keys, stands behind it in brackets, if there is one.
+/// The line of a finding: `FILE:LINE:COLUMN: error: TEXT`, or without the place if there is none. The way to the place, by its keys, follows
+/// it in brackets, if there is one.
 pub fn finding_line(
     alloc: Global,
     file: &str,
@@ -67,7 +67,7 @@ pub fn finding_line(
     ink.into_text()
 }
 
-/// The object that tells a finding, or with the word `ok` that all is well. Of an error the code is that of a load. What is empty is left out.
+/// The object of a finding, or with the severity `ok`, that all is well. The code of an error is that of a load. Empty members are left out.
 pub(crate) fn finding_object<'x>(
     alloc: Global,
     file: &str,

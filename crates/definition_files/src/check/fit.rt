@@ -7,14 +7,14 @@ use json_kinds::kinds::members_or_one_of;
 use json_kinds::names::{PATH_NAME, SERVICE_NAME, WAIT};
 use serde_json::Value;
 
-/// What stands beside a key and decides what its value is to be.
+/// What else is in a definition and decides what the value of a key must be.
 #[derive(Clone, Copy)]
 pub(crate) struct Around {
     pub(crate) has_program: bool,
     pub(crate) has_sockets: bool,
 }
 
-/// What stands in a definition beside its keys.
+/// What else a definition has that decides this.
 pub(crate) fn around_in(def: &Value) -> Around {
     let sockets = match def.get(key_name(KeyName::Sockets)) {
         Some(found) => sockets_in(found),
@@ -41,7 +41,7 @@ pub(crate) fn sockets_in(value: &Value) -> usize {
 pub(crate) fn fits(fit: Fit, value: &Value) -> bool {
     let text = value.as_str().unwrap_or("");
     let size = text.len();
-    // Beyond each bound, if it is no whole number.
+    // Beyond each bound, if it is not a whole number.
     let number = value.as_u64().unwrap_or(u64::MAX);
     match fit {
         Fit::Any => true,

@@ -16,7 +16,7 @@ struct Said {
     leaves: &'static str,
 }
 
-/// Adds a warning if the program leaves the foreground when it is given these words, of which the first is its name.
+/// Adds a warning if the program leaves the foreground with this command line, which begins with its name.
 pub(crate) fn add_leaving(words: &[&str], remarks: &mut Remarks<'_>) {
     let Some(path) = words.first() else {
         return;
@@ -28,8 +28,8 @@ pub(crate) fn add_leaving(words: &[&str], remarks: &mut Remarks<'_>) {
     }
 }
 
-// What keeps the program of this name in the foreground, if it leaves it when it is given these arguments: a word of advice, and the argument. A table of all rows is more
-// than the check of one function takes.
+// What keeps the program of this name in the foreground, if it leaves it when it is given these arguments: the advice, and the argument. A table of
+// all rows is more than the check of one function takes.
 fn advice_for(name: &str, arguments: &[&str]) -> Option<(&'static str, &'static str)> {
     in_first(name, arguments)
         .or(in_second(name, arguments))
@@ -58,7 +58,7 @@ fn in_fifth(name: &str, arguments: &[&str]) -> Option<(&'static str, &'static st
     advice_in(FIFTH, name, arguments)
 }
 
-// The same by these rows alone.
+// The same only by these rows.
 fn advice_in(rows: &[Row], name: &str, arguments: &[&str]) -> Option<(&'static str, &'static str)> {
     for row in rows {
         if row.name == name {
@@ -92,7 +92,7 @@ fn add_told(name: &str, advice: &str, word: &str, remarks: &mut Remarks<'_>) {
     remarks.add_made(KeyName::Program, ink.into_text());
 }
 
-// Each argument is read as getopt(3) reads it: letters behind one -, up to one that takes a value; the value of an option is no option.
+// Each argument is read as getopt(3) reads it: letters after one -, up to one that takes a value. The value of an option does not count as an option.
 fn said_by(row: &Row, arguments: &[&str]) -> Said {
     let mut said = Said {
         stays: false,
@@ -115,7 +115,7 @@ fn said_by(row: &Row, arguments: &[&str]) -> Said {
     said
 }
 
-// Whether the argument, with the one behind it, is one that a row names as a whole.
+// Whether the argument, with the next one, is one that a row names as a whole.
 fn is_known(row: &Row, given: &str, next: &str, said: &mut Said) -> bool {
     let stays = named_in(row.stays, given, next);
     let leaves = named_in(row.leaves, given, next);
@@ -144,7 +144,7 @@ fn named_in(forms: &[&'static str], given: &str, next: &str) -> Option<&'static 
     None
 }
 
-// Letters behind one -; answers whether the last of them takes the next argument.
+// Letters after one -. It returns whether the last of them takes the next argument.
 fn read_letters(row: &Row, given: &str, said: &mut Said) -> bool {
     let letters = given.as_bytes();
     if letters.first() != Some(&b'-') || letters.get(1) == Some(&b'-') {

@@ -1,4 +1,4 @@
-//! Keys that other launchers have, and what stands in their place here.
+//! Keys that other launchers have, and what to write in their place here.
 
 /// A key of another launcher.
 pub(crate) struct Foreign {

@@ -1,4 +1,4 @@
-//! What is wrong with a definition beside the fault for which a load refuses it.
+//! What is wrong with a definition besides the fault for which a load refuses it.
 
 use crate::check::culprit::{Culprit, culprits_in};
 use crate::check::finding::{Grade, Place};
@@ -16,7 +16,7 @@ use run_times::Ink;
 use run_times::Piece::Number;
 use serde_json::Value;
 
-/// Adds a remark for each further fault of the object, whose first one is of this key, and for each of its keys that nothing acts on.
+/// Adds a remark for each further fault of the object, whose first fault is of this key, and for each of its ignored keys.
 pub(crate) fn add_further(value: &Value, first: KeyName, remarks: &mut Remarks<'_>) {
     let around = around_in(value);
     for key in ALL.iter() {
@@ -44,7 +44,7 @@ fn is_read(name: &str) -> bool {
     false
 }
 
-// Adds the faults of a key; of the key that is told first, those behind its first.
+// Adds the faults of a key. If the load names this key, its first fault is known and left out.
 fn add_faults(
     found: &Value,
     key: KeyName,
@@ -71,7 +71,7 @@ fn add_faults(
     }
 }
 
-// The arguments are none, and no other key names the program.
+// There are no arguments, and no other key names the program.
 fn lacks_program(found: &Value, key: KeyName, around: &Around) -> bool {
     match (key, found) {
         (KeyName::ProgramArguments, Value::Array(items)) => items.is_empty() && !around.has_program,
@@ -86,7 +86,7 @@ fn add_fault(key: KeyName, culprit: &Culprit<'_>, remarks: &mut Remarks<'_>) {
     remarks.push(place, Grade::Also, ink.into_text());
 }
 
-// Adds what is said of a key that is absent and has to stand.
+// Adds the remarks on a key that is absent and required.
 fn add_lacking(
     value: &Value,
     key: KeyName,

@@ -1,4 +1,4 @@
-//! Which sockets wait on this machine now, as proc(5) tells it. Nothing is connected to, and nothing bound.
+//! Which sockets wait on this machine now, as proc(5) reports it. Nothing is connected to, and nothing bound.
 
 use files_and_process::path_files::read_front;
 use std::alloc::Global;
@@ -30,7 +30,7 @@ pub(crate) fn has_address(host: &HostRuntime, alloc: Global, own: &[u8; 4]) -> b
     !is_read || is_there
 }
 
-// The address stands behind |--, and in a line below that it is this machine's own.
+// The address follows |--, and a line below says that it is this machine's own.
 fn has_local(table: &[u8], own: &[u8; 4]) -> bool {
     let mut is_here = false;
     for line in str::from_utf8(table).unwrap_or("").split('\n') {
@@ -101,7 +101,7 @@ pub(crate) fn is_path_in_use(host: &HostRuntime, alloc: Global, path: &str) -> b
     is_there
 }
 
-// Behind the number of a line stand its own address and the other's, and then the state; 0A says that it waits.
+// After the number of a line come its own address and the other's, and then the state; 0A says that it waits.
 fn has_port(table: &[u8], host: &[u8; 4], port: u16) -> bool {
     for line in str::from_utf8(table).unwrap_or("").split('\n') {
         let mut words = line.split_whitespace();
@@ -116,8 +116,8 @@ fn has_port(table: &[u8], host: &[u8; 4], port: u16) -> bool {
     false
 }
 
-// Whether a bind at the host meets a socket at this address: hexadecimal digits, of an IPv4 address its last byte first; one of IPv6 meets
-// it if it has each address, or stands for one of IPv4.
+// Whether a bind at the host meets a socket at this address. It is in hexadecimal digits, of an IPv4 address its last byte first. An IPv6
+// address meets the host if it means all addresses, or maps an IPv4 address that does.
 fn meets(address: &str, host: &[u8; 4]) -> bool {
     let digits = match address.split_once(':') {
         Some((digits, _)) => digits,
@@ -137,7 +137,7 @@ fn meets(address: &str, host: &[u8; 4]) -> bool {
     is_all || wanted == 0 || number == wanted
 }
 
-// The port of an address: the hexadecimal digits behind the last colon.
+// The port of an address: the hexadecimal digits after the last colon.
 fn port_of(address: &str) -> u32 {
     let mut port: u32 = 0;
     for byte in address.as_bytes() {
@@ -155,7 +155,7 @@ fn port_of(address: &str) -> u32 {
     port
 }
 
-// The fourth word of a line has the flags, of which 00010000 says that it waits; the last one is the path.
+// The fourth field of a line has the flags, of which 00010000 says that it waits; the last one is the path.
 fn has_path(table: &[u8], path: &str) -> bool {
     for line in str::from_utf8(table).unwrap_or("").split('\n') {
         let mut words = line.split_whitespace();

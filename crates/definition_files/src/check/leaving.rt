@@ -1,8 +1,8 @@
 //! Which programs leave the foreground, and by which of their arguments. By their manual pages.
 
 /// A program that leaves the foreground: by each of `leaves`, or of itself if there is none, unless one of `stays` is given. The value of
-/// each of `takes` is the next argument, or stands behind it. Two words, as `-g daemon off`, are an option and a part of its value. What
-/// stands in a file that is named decides nothing here: an option that names one is among `stays`.
+/// each of `takes` is the next argument, or follows in the same one. A form with a blank, as `-g daemon off`, is an option and a part of
+/// its value. Nothing here depends on the content of a file that an option names: such an option is among `stays`.
 pub(crate) struct Row {
     pub(crate) name: &'static str,
     /// What to give it, so that it stays; empty, if what leads it away is to be left out.

@@ -1,4 +1,4 @@
-//! The line of a shell, as far as its last command and its signs tell.
+//! The line of a shell, as far as its last command and its signs show.
 
 use std::alloc::{AllocError, Global};
 
@@ -6,12 +6,12 @@ use std::alloc::{AllocError, Global};
 #[derive(Clone, Copy)]
 pub(crate) struct Last<'a> {
     pub(crate) text: &'a str,
-    /// A single & stands behind it.
+    /// A single & follows it.
     pub(crate) is_left: bool,
 }
 
-/// The last command of the line, and whether it goes on in the background. A sign between quotes or behind a backslash is none, and so
-/// is the & of a redirection.
+/// The last command of the line, and whether it goes on in the background. A sign between quotes or after a backslash does not count, nor
+/// does the & of a redirection.
 pub(crate) fn last_of(line: &str) -> Last<'_> {
     let line = line.trim_end();
     let bytes = line.as_bytes();
@@ -58,7 +58,7 @@ fn byte_at(bytes: &[u8], index: usize) -> u8 {
     }
 }
 
-// A sign that ends a command, between the bytes before and behind it.
+// A sign that ends a command, between the bytes before and after it.
 fn is_end(before: u8, byte: u8, next: u8) -> bool {
     match byte {
         b';' | b'\n' | b'|' => true,
@@ -67,8 +67,9 @@ fn is_end(before: u8, byte: u8, next: u8) -> bool {
     }
 }
 
-/// Whether the command takes the place of the shell that reads the line, or leaves nothing behind that goes on when the shell is ended:
-/// it begins with `exec`, is one of the shell's own, a part of a loop or of a pipe, or the line takes signals itself.
+/// Whether the command takes the place of the shell that reads the line, or leaves no process that goes on when the shell is ended. So it
+/// is if it begins with `exec`, is one of the shell's own, or is a part of a loop or of a pipe. So it is too if the line takes signals
+/// itself.
 pub(crate) fn is_replaced(line: &str, command: &str) -> bool {
     let word = command.split_whitespace().next().unwrap_or("");
     if word.contains('=') || OWN.contains(&word) {
@@ -82,7 +83,7 @@ pub(crate) fn is_replaced(line: &str, command: &str) -> bool {
     false
 }
 
-// Words that begin a command of the shell's own, or end one of several lines; and short programs that nothing has to end.
+// What begins a command of the shell's own, or ends one of several lines; and short programs that nothing needs to end.
 static OWN: &[&str] = &[
     "", "exec", "exit", "return", "wait", "true", "false", ":", "echo", "printf", "read", "test",
     "[", "[[", "set", "export", "unset", "umask", "ulimit", "cd", ".", "source", "eval", "kill",
@@ -95,7 +96,7 @@ static HANDLED: &[&str] = &["|", "trap", "wait", "while", "until", "for", "case"
 // Signs by which a shell expands, quotes or redirects.
 const SPECIAL: &[u8] = b"'\"$`\\<>(){}*?[~#|&";
 
-/// Whether the command is words alone: nothing in it is expanded, quoted or redirected.
+/// Whether the command is plain: nothing in it is expanded, quoted or redirected.
 pub(crate) fn is_plain(command: &str) -> bool {
     for byte in command.as_bytes() {
         if SPECIAL.contains(byte) {
@@ -105,7 +106,7 @@ pub(crate) fn is_plain(command: &str) -> bool {
     true
 }
 
-/// The words of a command up to the first that is not plain, without `exec` and variables before them.
+/// The parts of a command up to the first that is not plain, without `exec` and variables before them.
 pub(crate) fn words_of<'a>(alloc: Global, command: &'a str) -> Result<Vec<&'a str>, AllocError> {
     let mut words: Vec<&'a str> = Vec::new(alloc);
     for word in command.split_whitespace() {

@@ -1,4 +1,4 @@
-//! The lines that tell the findings of a file.
+//! The lines of a file's findings.
 
 use crate::check::finding::{Grade, Place, Remark, finding_line, finding_object, grade_name};
 use crate::check::outline::{Mark, MarkKind, Outline, outline_of};
@@ -45,8 +45,8 @@ impl Lines<'_> {
         }
     }
 
-    /// Adds the line of a finding, with the code of a load, if it has one. In a file of one line the keys that lead to the place stand behind it; in
-    /// an object they always stand.
+    /// Adds the line of a finding, with the code of a load, if it has one. In a file of one line the keys that lead to the place follow it; an
+    /// object always has them.
     pub(crate) fn put(
         &self,
         place: Option<Place>,
@@ -141,5 +141,5 @@ impl Lines<'_> {
     }
 }
 
-/// Keys of a definition stand at so many levels less one: `Sockets`, a socket's name, an array, and its keys.
+/// How many levels keys of a definition have at most, plus one: `Sockets`, a socket's name, an array, and its keys.
 const MOST_LEVELS: usize = 6;

@@ -1,4 +1,4 @@
-//! What a definition may say and seldom means, as far as its keys tell.
+//! What a definition may say and seldom means, as far as its keys show.
 
 ghost use Rattle.std.specs.Prelude.{◌≡◌, IfOk};
 ghost use Rattle.std.specs.List.{list_any};
@@ -36,15 +36,15 @@ pub enum Mistake {
     NeverWaited,
     /// `KeepAlive` is true, so no queue starts the job.
     NeverQueued,
-    /// `ThrottleInterval` is 0 beside a queue.
+    /// `ThrottleInterval` is 0, together with a queue.
     HastyQueue,
-    /// `ThrottleInterval` is 0 beside `KeepAlive`.
+    /// `ThrottleInterval` is 0, together with `KeepAlive`.
     HastyEnd,
     /// `StartInterval` is more than a day, whole thousands and no whole days: perhaps milliseconds.
     LongInterval,
-    /// `Crashed` alone keeps the job: an exit with a failing code is no crash.
+    /// Only `Crashed` keeps the job: an exit with a failing code is not a crash.
     CrashAlone,
-    /// `LaunchOnlyOnce` stands beside `KeepAlive`, which then starts nothing anew.
+    /// `LaunchOnlyOnce` is set with `KeepAlive`, which then restarts nothing.
     OnceKept,
     /// `ExitTimeOut` is 0: a job that is being stopped is never killed.
     NeverKilled,
@@ -80,14 +80,14 @@ const MISTAKES: [Mistake; 20] = [
 /// The most that jobd-run gives to what a killed launcher left, in seconds.
 const LONGEST_ENDING: u32 = 120;
 
-/// The mistakes of the definition: exactly those that it has, each once and in the order in which they are told.
+/// The mistakes of the definition: exactly those that it has, each once and in the order in which they are shown.
 pub fn mistakes_in(alloc: Global, def: &Def) -> Result<Vec<Mistake>, AllocError>
     ensures { IfOk result (λ made. made.items ≡ mistakes_of def.now) }
 {
     made_of(alloc, &MISTAKES, def)
 }
 
-// Those of the mistakes that the definition has.
+// The mistakes of the list that the definition has.
 #[tactic(auto, using(std::proofs::lemmas::List::Elements::filter_more))]
 fn made_of(alloc: Global, all: &[Mistake], def: &Def) -> Result<Vec<Mistake>, AllocError>
     ensures { IfOk result (λ made. made.items ≡ made_among all.now def.now) }

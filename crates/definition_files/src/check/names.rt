@@ -1,4 +1,4 @@
-//! Keys that nothing acts on, and the key that is meant.
+//! Ignored keys, and the key that is meant.
 
 use crate::check::finding::{Grade, Place};
 use crate::check::foreign::{IDLE, KEYS};
@@ -33,8 +33,8 @@ const INNER: &[&str] = &[
     WAIT,
 ];
 
-/// Adds the remark on a key that nothing acts on; the name of an inner one is behind those of the dictionaries around it. What to write in
-/// place of a key of another launcher stands in its table; of any other key the nearest is named.
+/// Adds the remark on an ignored key. The name of an inner key follows those of the objects around it. The table has what to write in place
+/// of a key of another launcher; for any other key the remark names the nearest one.
 pub(crate) fn add_ignored(remarks: &mut Remarks<'_>, name: &str) {
     let mut ink = Ink::new(remarks.alloc);
     ink.fill("$: nothing acts on this key", &[Text(name)]);
@@ -57,7 +57,7 @@ pub(crate) fn add_ignored(remarks: &mut Remarks<'_>, name: &str) {
     remarks.push(place, grade, ink.into_text());
 }
 
-// What to write in place of a key of another launcher; empty, if none is known. Within KeepAlive the name stands behind a dot.
+// What to write in place of a key of another launcher; empty, if none is known. Within KeepAlive the name follows a dot.
 fn hint_for(name: &str) -> &'static str {
     let name = name.strip_prefix("KeepAlive.").unwrap_or(name);
     for key in KEYS {
@@ -68,10 +68,10 @@ fn hint_for(name: &str) -> &'static str {
     ""
 }
 
-/// A calendar has at most so many entries; sockets are fewer.
+/// How many entries a calendar has at most; sockets are fewer.
 const MOST_MEMBERS: usize = 64;
 
-// Where the key of this name stands: one of the definition itself, or an inner one, in the first member that has it.
+// Where the key of this name is: one of the definition itself, or an inner one, in the first member that has it.
 fn key_place(remarks: &Remarks<'_>, name: &str) -> Option<Place> {
     let own = place_by(remarks.text, remarks.marks, &[Step::Key(name)], true);
     if own.is_some() {
@@ -87,7 +87,7 @@ fn key_place(remarks: &Remarks<'_>, name: &str) -> Option<Place> {
     None
 }
 
-// Where the inner key stands in the member of this index. Of a socket's key the socket's name stands between.
+// Where the inner key is in the member of this index. For a socket's key the socket's name comes between.
 fn inner_place<'a>(
     remarks: &Remarks<'_>,
     key: &'a str,

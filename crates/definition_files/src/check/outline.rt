@@ -1,4 +1,4 @@
-//! The keys and values of a text of JSON, in order, with where each stands.
+//! The keys and values of a text of JSON, in order, with their places.
 
 use json::{Reader, Scratch, Token};
 use std::alloc::{AllocError, Global};
@@ -6,7 +6,7 @@ use std::alloc::{AllocError, Global};
 /// So deep values are nested at most.
 pub(crate) const DEEPEST: usize = 127;
 
-/// What stands at a mark.
+/// What a mark is for.
 #[derive(Clone, Copy)]
 pub(crate) enum MarkKind {
     Key,
@@ -35,7 +35,7 @@ pub(crate) struct Outline {
     pub(crate) depth: usize,
     /// Whether a whole value was read.
     pub(crate) is_whole: bool,
-    /// Where the first token begins that is no JSON, if one was met.
+    /// Where the first token begins that is not JSON, if one was met.
     pub(crate) bad: Option<usize>,
     is_refused: bool,
 }
@@ -113,7 +113,7 @@ fn read_into(reader: &mut Reader<'_>, text: &str, outline: &mut Outline) {
     }
 }
 
-/// The first byte from there on that is no blank and stands between no values.
+/// The first byte from there on that is neither a blank, nor a comma, nor a colon.
 pub(crate) fn begin_at(text: &str, offset: usize) -> usize {
     let mut at = offset;
     for byte in text.as_bytes().get(offset..).unwrap_or(&[]) {

@@ -8,7 +8,8 @@ use json_kinds::key_name;
 use run_times::Ink;
 use run_times::Piece::Text;
 
-/// Adds a note for each path that is not from the root, and a warning for one that begins with ~, has a *, or holds the job's own output as a queue.
+/// Adds a note for each path that is not from the root. It adds a warning for one that begins with ~, has a *, or holds the job's own output as a
+/// queue.
 pub(crate) fn add_paths(def: &Def, remarks: &mut Remarks<'_>) {
     add_if_relative(KeyName::WorkingDirectory, def.working_directory(), remarks);
     add_if_relative(KeyName::StandardInPath, def.standard_in_path(), remarks);

@@ -1,4 +1,4 @@
-//! Where something stands in a text of JSON.
+//! The places of keys and values in a text of JSON.
 
 use crate::check::finding::Place;
 use crate::check::outline::{Mark, MarkKind};
@@ -6,13 +6,13 @@ use crate::check::outline::{Mark, MarkKind};
 /// A step of the way to a value, which begins at the whole definition.
 #[derive(Clone, Copy)]
 pub(crate) enum Step<'a> {
-    /// To the value of this key; of a key that stands twice, to the one that counts, which is the last.
+    /// To the value of this key. If a key is there twice, to the value that counts, which is the last.
     Key(&'a str),
-    /// To the member with this index; no step, if the value is no array.
+    /// To the member with this index; no step, if the value is not an array.
     Member(usize),
 }
 
-/// Where a way led: how many of its steps were gone, and the marks of the last key and value to which one led.
+/// Where a way led: how many of its steps could be taken, and the marks of the last key and value to which one led.
 #[derive(Clone, Copy)]
 pub(crate) struct Reached {
     pub(crate) gone: usize,
@@ -36,8 +36,8 @@ pub(crate) fn place_at(text: &str, offset: usize) -> Place {
     Place { line, column }
 }
 
-/// Where the value begins to which the way leads, as far as it can be gone; or the value's key, with `is_of_key`. None if the text is
-/// no object or has no such key.
+/// Where the value begins to which the way leads, as far as its steps can be taken; or the value's key, with `is_of_key`. None if the text
+/// is not an object or has no such key.
 pub(crate) fn place_by(
     text: &str,
     marks: &[Mark],
@@ -59,7 +59,7 @@ pub(crate) fn place_by(
     }
 }
 
-/// Where the way leads, as far as it can be gone.
+/// Where the way leads, as far as its steps can be taken.
 pub(crate) fn reached_by(text: &str, marks: &[Mark], way: &[Step<'_>]) -> Reached {
     let mut reached = Reached {
         gone: 0,
@@ -79,7 +79,7 @@ pub(crate) fn reached_by(text: &str, marks: &[Mark], way: &[Step<'_>]) -> Reache
     reached
 }
 
-/// The text of the key at the mark, as it stands between its quotes.
+/// The text of the key at the mark, as it is between its quotes.
 pub(crate) fn key_at<'a>(text: &'a str, mark: &Mark) -> &'a str {
     let begin = mark.at.saturating_add(1);
     let end = mark.end.saturating_sub(1);
@@ -110,7 +110,7 @@ fn key_in(text: &str, marks: &[Mark], from: Reached, name: &str) -> Option<Reach
     })
 }
 
-// The member of this index in the array there; what is there, if it is no array.
+// The member of this index in the array there; what is there, if it is not an array.
 fn member_in(marks: &[Mark], from: Reached, wanted: usize) -> Option<Reached> {
     let there = marks.get(from.value)?;
     let MarkKind::Array = there.kind else {

@@ -9,8 +9,8 @@ use run_times::Piece::{Number, Text};
 use std::fs::{Metadata, metadata};
 use std::os::unix::fs::{MetadataExt, PermissionsExt};
 
-/// Adds a warning for each variable and argument that looks like a secret, if others may read the file; and one if a boot leaves the file out, since it is in a folder
-/// that jobd-run loads and others may write to it.
+/// Adds a warning for each variable and argument that looks like a secret, if others may read the file. It adds one if a boot leaves the file out:
+/// the file is in a folder that jobd-run loads, and others may write to it or it is not root's.
 pub(crate) fn add_private(host: &HostRuntime, path: &str, def: &Def, remarks: &mut Remarks<'_>) {
     if let Ok(data) = metadata(host, path) {
         if data.is_file() {

@@ -1,4 +1,4 @@
-//! What a command line runs at last, behind the words that stand before a program, as setpriv(1), env(1) or sh(1) with -c.
+//! What a command line runs in the end, after the wrapper commands before a program, as setpriv(1), env(1) or sh(1) with -c.
 
 use crate::check::command::name_of;
 use crate::check::line::{folder_in, is_plain, is_replaced, last_of, words_of};
@@ -16,7 +16,7 @@ pub(crate) struct Started<'a> {
     pub(crate) folder: &'a str,
     /// It is read by the program before it, and need not be executable.
     pub(crate) is_script: bool,
-    /// It stands in the line of a shell, where a name without / may be a word of the shell's own.
+    /// It is in the line of a shell, where a name without / may be one of the shell's own commands.
     pub(crate) is_in_line: bool,
 }
 
@@ -25,9 +25,9 @@ pub(crate) struct Started<'a> {
 pub(crate) struct Line<'a> {
     pub(crate) shell: &'a str,
     pub(crate) text: &'a str,
-    /// How many words stand behind it: the first is `$0`.
+    /// How many arguments follow it: the first is `$0`.
     pub(crate) behind: usize,
-    /// The last command takes the place of the shell, or is no program.
+    /// The last command takes the place of the shell, or is not a program.
     pub(crate) is_replaced: bool,
     /// The last command goes on in the background.
     pub(crate) is_left: bool,
@@ -40,13 +40,13 @@ pub(crate) struct Run<'a> {
     pub(crate) programs: Vec<Started<'a>>,
     /// The last program's name and arguments.
     pub(crate) words: Vec<&'a str>,
-    /// Whether nothing on the way was unknown, so that these are all of the last program's words.
+    /// Whether nothing on the way was unknown, so that these are all of the last program's name and arguments.
     pub(crate) is_whole: bool,
     /// The lines of the shells on the way.
     pub(crate) lines: Vec<Line<'a>>,
 }
 
-/// So many programs are started one by another at most.
+/// How many programs are started one by another at most.
 const MOST: usize = 8;
 
 /// What the program runs at last when it is given these arguments.
@@ -85,7 +85,8 @@ pub(crate) fn program_of<'a>(
 }
 
 impl<'a> Run<'a> {
-    // What the first of the words starts, whose words are then the words; none, if it starts nothing, or nothing that is known.
+    // What the first item of the command line starts; the command line is then that program's own. None, if it starts nothing, or nothing
+    // that is known.
     fn step(&mut self, alloc: Global, now: Started<'a>) -> Result<Option<Started<'a>>, AllocError> {
         if now.is_script {
             return Ok(None);
@@ -130,7 +131,7 @@ impl<'a> Run<'a> {
         self.go_to(alloc, next, found.at)
     }
 
-    // The command at this word is next. Of a root within a root nothing is known.
+    // The command at this index is next. Of a root within a root nothing is known.
     fn go_to(
         &mut self,
         alloc: Global,
@@ -153,7 +154,7 @@ impl<'a> Run<'a> {
         Ok(Some(next))
     }
 
-    // The line of a shell stands at this word.
+    // The line of a shell is at this index.
     fn step_by_line(
         &mut self,
         alloc: Global,
@@ -197,7 +198,7 @@ impl<'a> Run<'a> {
     }
 }
 
-/// What a line ends with that runs the words behind it in its place.
+/// The end of a line that runs the arguments after it in its place.
 const HANDED_ON: &str = "exec \"$0\" \"$@\"";
 
 /// The last part of a path, without the number of a version.
@@ -215,7 +216,7 @@ fn wrapper_of(path: &str) -> Option<&'static Wrapper> {
     None
 }
 
-/// Where the command begins, the word before it, and the folder in which it is started.
+/// Where the command begins, the argument before it, and the folder in which it is started.
 #[derive(Clone, Copy)]
 struct Found<'a> {
     at: usize,
@@ -223,7 +224,7 @@ struct Found<'a> {
     folder: Option<&'a str>,
 }
 
-// Where the command of the wrapper begins among its words; none, if an option is unknown.
+// Where the command of the wrapper begins among its arguments; None, if an option is unknown.
 fn command_in<'a>(wrapper: &Wrapper, words: &[&'a str]) -> Option<Found<'a>> {
     let mut found = Found {
         at: 1,
@@ -263,7 +264,7 @@ fn command_in<'a>(wrapper: &Wrapper, words: &[&'a str]) -> Option<Found<'a>> {
     Some(found)
 }
 
-// Whether the value of the option is the next word; none, if the options have no such one.
+// Whether the value of the option is the next argument; None, if the options have no such one.
 fn takes_value(options: &[&str], word: &str) -> Option<bool> {
     for option in options {
         let option: &str = *option;
@@ -286,7 +287,7 @@ fn takes_value(options: &[&str], word: &str) -> Option<bool> {
     None
 }
 
-/// The word is the option with its value behind it: `--name=VALUE`, or of one letter `-nVALUE`.
+/// The argument is the option with its value in it: `--name=VALUE`, or of one letter `-nVALUE`.
 pub(crate) fn is_joined(word: &str, name: &str) -> bool {
     match word.strip_prefix(name) {
         Some(rest) => {
@@ -297,7 +298,7 @@ pub(crate) fn is_joined(word: &str, name: &str) -> bool {
     }
 }
 
-// Which word is the line: the one behind the first option that has the letter c. None if a word that is no option comes first.
+// Which argument is the line: the one after the first option that has the letter c. None if an argument that is not an option comes first.
 fn line_in(words: &[&str]) -> Option<usize> {
     let mut at: usize = 1;
     let mut is_value = false;

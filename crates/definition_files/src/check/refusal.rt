@@ -1,4 +1,4 @@
-//! Why a definition is refused, in words for people.
+//! Why a definition is refused, as text for people.
 
 use crate::check::broken::put_broken;
 use crate::check::culprit::{Culprit, culprits_in, whole_of};
@@ -16,7 +16,7 @@ use run_times::Piece::{Number, Text};
 use serde_json::Value;
 use std::alloc::Global;
 
-/// Adds the text of a refusal to the ink, and what else is to be known to the remarks, and answers the place of the refusal.
+/// Adds the text of a refusal to the ink, and what else is known to the remarks. It returns the place of the refusal.
 pub(crate) fn put_refusal(
     ink: &mut Ink,
     bytes: &[u8],
@@ -43,7 +43,7 @@ pub(crate) fn put_refusal(
     }
 }
 
-// Adds the text of the first fault, and answers its place.
+// Adds the text of the first fault, and returns its place.
 fn put_first(
     ink: &mut Ink,
     value: &Value,
@@ -98,7 +98,7 @@ pub(crate) fn put_fault(
     }
 }
 
-/// Where the value with the fault stands.
+/// The place of the value with the fault.
 pub(crate) fn place_of_culprit(
     remarks: &Remarks<'_>,
     key: KeyName,
@@ -129,7 +129,7 @@ fn words_of(key: KeyName, is_missing: bool) -> &'static str {
     }
 }
 
-// Adds where the value stands, what it is, and what is wanted.
+// Adds where the value is, what it is, and what is expected.
 fn put_culprit(alloc: Global, ink: &mut Ink, culprit: &Culprit<'_>) {
     match culprit.steps {
         1 => {}
@@ -161,7 +161,7 @@ fn put_culprit(alloc: Global, ink: &mut Ink, culprit: &Culprit<'_>) {
 // The longest text that is shown itself, in bytes.
 const SHOWN: usize = 40;
 
-// Adds what a value is: a number, a word or a short text itself, of others the kind and the size.
+// Adds what a value is: a number, a literal or a short string itself, of others the kind and the size.
 fn put_shown(alloc: Global, ink: &mut Ink, value: &Value) {
     let (form, count) = match value {
         Value::String(text) if text.is_empty() => return ink.put("an empty text"),

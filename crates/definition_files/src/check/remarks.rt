@@ -8,7 +8,7 @@ use json_kinds::key_name;
 use run_times::{Ink, Piece};
 use std::alloc::{AllocError, Global};
 
-/// The remarks on a text of JSON with these marks. A refusal of memory is kept, and told once the remarks are taken.
+/// The remarks on a text of JSON with these marks. A refusal of memory is kept, and returned once the remarks are taken.
 #[derive(Drop)]
 pub(crate) struct Remarks<'a> {
     pub(crate) alloc: Global,
@@ -80,7 +80,7 @@ impl<'a> Remarks<'a> {
         }
     }
 
-    /// Where the value of a key stands; for `Program`, if it is absent, that of `ProgramArguments`.
+    /// Where the value of a key is; for `Program`, if it is absent, that of `ProgramArguments`.
     pub(crate) fn place_of(&self, key: KeyName) -> Option<Place> {
         let own = place_by(self.text, self.marks, &[Step::Key(key_name(key))], false);
         match (key, own) {

@@ -1,5 +1,5 @@
-//! What values are to be: a rule for each key of a definition, and rules for what stands within its value. The ranges are those of the
-//! table of keys.
+//! What values must be: a rule for each key of a definition, and rules for what is within its value. The ranges are those of the table of
+//! keys.
 
 use crate::check::fit::Around;
 use history_model::KeyName;
@@ -11,39 +11,39 @@ use json_kinds::names::{
 /// What a value is to be.
 #[derive(Clone, Copy, Drop)]
 pub(crate) enum Fit {
-    /// Whatever it is, as far as this can tell.
+    /// Whatever it is, as far as this can say.
     Any,
-    /// It may not stand there.
+    /// It is not allowed there.
     Nothing,
     Flag,
     /// This of true and false.
     Just(bool),
     /// A whole number from the first to the second.
     Number(u64, u64),
-    /// A text, none of its bytes 0: of so many at least, and of so many at most.
+    /// A string, none of its bytes 0: of at least this many bytes, and of at most this many.
     Text(usize, usize),
     /// One of these texts.
     Either(&'static str, &'static str),
-    /// An array of at most so many members.
+    /// An array of at most this many members.
     Array(usize),
-    /// A dictionary of at most so many keys.
+    /// An object of at most this many keys.
     Dictionary(usize),
     Label,
-    /// True, false, or a dictionary.
+    /// True, false, or an object.
     Conditions,
-    /// A dictionary of paths, each true or false.
+    /// An object of paths, each true or false.
     States,
-    /// A dictionary of at most so many sockets.
+    /// An object of at most this many sockets.
     Sockets(usize),
-    /// A dictionary with `Wait`.
+    /// An object with `Wait`.
     Waiting,
-    /// A dictionary with the path or the port of a socket.
+    /// An object with the path or the port of a socket.
     Address,
     Host,
     Port,
 }
 
-/// What the value of a key is to be, and that in words; with an empty name, what a value itself is to be.
+/// What the value of a key must be, and the text on that. With an empty name it is for a value itself.
 #[derive(Clone, Copy, Drop)]
 pub(crate) struct Rule {
     pub(crate) name: &'static str,
@@ -51,8 +51,8 @@ pub(crate) struct Rule {
     pub(crate) wanted: &'static str,
 }
 
-/// The rules for the members of an array, which are at most so many, or for a value that is none: those for the first, and those for the
-/// others.
+/// The rules for the members of an array, of which there may be `most`, or for a value that is not an array. They are those for the first,
+/// and those for the others.
 #[derive(Clone, Copy, Drop)]
 pub(crate) struct Inside {
     pub(crate) most: usize,
@@ -138,7 +138,7 @@ const CONDITIONS: &[Rule] = &[
     },
 ];
 
-/// The key of `inetdCompatibility` beside sockets.
+/// The key of `inetdCompatibility` with sockets.
 const INETD: &[Rule] = &[Rule {
     name: WAIT,
     fit: Fit::Just(false),
@@ -259,7 +259,7 @@ pub(crate) fn rule_of(key: KeyName) -> Rule {
     }
 }
 
-/// What is to stand within the value of a key; of `Sockets`, within a value under a name.
+/// What the value of a key must have within it; for `Sockets`, within a value under a name.
 pub(crate) fn inside_of(key: KeyName, around: &Around) -> Inside {
     let (most, others) = match key {
         KeyName::StartCalendarInterval => (64, ENTRY),

@@ -9,8 +9,8 @@ use std::fs::metadata;
 /// How much of a program is looked at, in bytes: the name of an interpreter, and the headers of an ELF file.
 const FRONT: usize = 4096;
 
-/// Adds why the system can't start the executable file at the path: it is a text without `#!`, its interpreter or its loader is not there, it
-/// is for another processor, or cut. Nothing is added if it can't be read.
+/// Adds why the system can't start the executable file at the path. It is a text without `#!`, its interpreter or its loader is missing, it
+/// is for another processor, or it is cut. It adds nothing if the file can't be read.
 pub(crate) fn add_script(host: &HostRuntime, alloc: Global, path: &str, ink: &mut Ink) {
     let mut front = Vec::new(alloc);
     if read_front(host, path, FRONT, &mut front).is_ok() {
@@ -50,7 +50,7 @@ fn why_not(host: &HostRuntime, alloc: Global, path: &str, front: &[u8]) -> &'sta
     }
 }
 
-// Numbers of ELF files of 64 bits, as elf(5) has them: e_machine, and what stands in the program headers.
+// Numbers of ELF files of 64 bits, as elf(5) has them: e_machine, and the program headers.
 const MACHINE: usize = 18;
 
 fn why_no_elf(host: &HostRuntime, alloc: Global, path: &str, front: &[u8]) -> &'static str {
@@ -71,7 +71,7 @@ fn why_no_elf(host: &HostRuntime, alloc: Global, path: &str, front: &[u8]) -> &'
     }
 }
 
-// A processor of 32 bits is that of the same family, if this machine's programs are for x86 (62 beside 3) or Arm (183 beside 40).
+// A processor of 32 bits is that of the same family, if this machine's programs are for x86 (62 and 3) or Arm (183 and 40).
 fn is_foreign(front: &[u8], own: &[u8]) -> bool {
     let theirs = number_at(front, MACHINE, 2);
     let ours = number_at(own, MACHINE, 2);
@@ -79,7 +79,7 @@ fn is_foreign(front: &[u8], own: &[u8]) -> bool {
     ours != 0 && front.len() >= 20 && theirs != ours && !is_family
 }
 
-// Whether what some header of a file of 64 bits has to be loaded from goes beyond the file's end.
+// Whether a part of a file of 64 bits that must be loaded, by its headers, goes beyond the file's end.
 fn is_cut(front: &[u8], size: u64) -> bool {
     if front.get(4) != Some(&2) || front.get(5) != Some(&1) {
         return false;
@@ -99,7 +99,7 @@ fn is_cut(front: &[u8], size: u64) -> bool {
     false
 }
 
-// The number of so many bytes there, the least first; 0 beyond the end.
+// The number in `count` bytes there, the least first; a byte beyond the end is 0.
 fn number_at(bytes: &[u8], at: usize, count: usize) -> u64 {
     let mut number: u64 = 0;
     for index in 0..count {
@@ -118,7 +118,7 @@ fn is_bare(front: &[u8]) -> bool {
     !front.starts_with(b"#!") && !front.contains(&0) && !front.starts_with(b"\x7FELF")
 }
 
-// The first word behind #!, with a CR that ends its line.
+// The first part after #!, with a CR that ends its line.
 fn interpreter_in(front: &[u8]) -> Option<&str> {
     let rest = front.strip_prefix(b"#!")?;
     let mut end: usize = 0;

@@ -58,7 +58,7 @@ fn add_twice(address: &Address, remarks: &mut Remarks<'_>) {
     remarks.add(Grade::Warning, KeyName::Sockets, form, &[shown]);
 }
 
-// Adds a note if a socket waits there now, as the system tells it.
+// Adds a note if a socket waits there now, as the system reports it.
 fn add_in_use(host: &HostRuntime, address: &Address, remarks: &mut Remarks<'_>) {
     match address {
         Address::Unix(path) => {
@@ -93,7 +93,7 @@ fn add_in_use(host: &HostRuntime, address: &Address, remarks: &mut Remarks<'_>) 
     }
 }
 
-// Adds a warning if what is at the path is no socket: a bind there is refused.
+// Adds a warning if what is at the path is not a socket: a bind there is refused.
 fn add_other(host: &HostRuntime, path: &str, remarks: &mut Remarks<'_>) {
     let told = match found_at(host, path) {
         Ok(Found::Nothing | Found::Socket) | Err(_) => return,

@@ -57,7 +57,7 @@ fn keep_text(def: &Def) -> &'static str {
     }
 }
 
-// Adds how many there are of what the form tells, if there is one.
+// Adds how many there are of what the form names, if there is one.
 fn add_count(ink: &mut Ink, form: &str, count: usize) {
     if count > 0 {
         let plural = if count == 1 { "" } else { "s" };

@@ -16,7 +16,7 @@ use std::io;
 use std::io::ErrorKind;
 use std::os::unix::fs::{FileTypeExt, PermissionsExt};
 
-/// What is to stand at a path.
+/// What must be at a path.
 #[derive(Clone, Copy)]
 enum Wanted {
     /// A plain file that can be executed; of a script the interpreter too.
@@ -33,7 +33,7 @@ enum Wanted {
     Socket,
 }
 
-/// What stands at a path.
+/// What is at a path.
 #[derive(Clone, Copy)]
 pub(crate) enum Found {
     Folder,
@@ -47,7 +47,7 @@ pub(crate) enum Found {
     Nothing,
 }
 
-/// A key, the path that it names, and what is to stand there.
+/// A key, the path that it names, and what must be there.
 type Named = (KeyName, String, Wanted);
 
 // What a start needs, in the order in which it is looked for: what is run first, and then the paths of keys.
@@ -135,9 +135,9 @@ fn rooted(alloc: Global, root: &str, folder: &str, path: &str) -> Result<String,
     format!(in alloc; "{root}{folder}{between}{path}")
 }
 
-/// Writes a line for each path from the root that a start of the definition needs, and that is not there now or is not what it has to be; one
-/// line that says so if there is none. Each line is written before the next path is looked at, so that one on a file system that hangs
-/// silences no other. An error is of the standard output, or of memory.
+/// Writes a line for each path from the root that a start of the definition needs, and that is missing now or is not what it must be. If
+/// there is no such path, it writes one line that says so. It writes each line before it looks at the next path, so that a path on a file
+/// system that hangs hides no earlier line. An error is of the standard output, or of memory.
 pub fn put_seen(host: &HostRuntime, alloc: Global, def: &Def) -> io::Result<()> {
     let Ok(keys) = needed(alloc, def) else {
         return Err(io::Error::from(ErrorKind::OutOfMemory));
@@ -154,7 +154,7 @@ pub fn put_seen(host: &HostRuntime, alloc: Global, def: &Def) -> io::Result<()> 
     Ok(())
 }
 
-// Writes what is wrong with each of the paths; answers whether nothing is.
+// Writes what is wrong with each of the paths, and returns whether nothing is.
 fn put_each(host: &HostRuntime, alloc: Global, keys: &[Named]) -> io::Result<bool> {
     let mut is_well = true;
     for (_, path, wanted) in keys {
@@ -173,7 +173,7 @@ fn put_each(host: &HostRuntime, alloc: Global, keys: &[Named]) -> io::Result<boo
     Ok(is_well)
 }
 
-// Writes the line that tells what is seen now; none if there is nothing to tell.
+// Writes the line on what is seen now; nothing if there is nothing to say.
 fn put_line(host: &HostRuntime, alloc: Global, told: &str) -> io::Result<()> {
     if told.is_empty() {
         return Ok(());
@@ -183,8 +183,7 @@ fn put_line(host: &HostRuntime, alloc: Global, told: &str) -> io::Result<()> {
     put_made(host, ink.into_text())
 }
 
-/// Adds a warning for each file or folder that the definition names by a path from the root, and that is not there, or is not what it
-/// has to be.
+/// Adds a warning for each file or folder that the definition names by a path from the root, and that is missing, or is not what it must be.
 pub(crate) fn add_missing(host: &HostRuntime, def: &Def, remarks: &mut Remarks<'_>) {
     match needed(remarks.alloc, def) {
         Ok(keys) => {
@@ -267,7 +266,7 @@ fn add_told(key: KeyName, wanted: Wanted, told: &str, remarks: &mut Remarks<'_>)
     remarks.add_made(key, ink.into_text());
 }
 
-// Adds what is wrong with the path, if something is; of what is no path from the root nothing is known.
+// Adds what is wrong with the path, if something is. Nothing is known of a path that is not from the root.
 fn add_wrong(host: &HostRuntime, alloc: Global, path: &str, wanted: Wanted, ink: &mut Ink) {
     if !path.starts_with('/') {
         return;
@@ -280,7 +279,7 @@ fn add_wrong(host: &HostRuntime, alloc: Global, path: &str, wanted: Wanted, ink:
     }
 }
 
-// Adds what is said of each program that has no /: a warning if no folder of PATH has it, and of the first one a note if one has.
+// Adds the remarks on each program that has no /: a warning if no folder of PATH has it. If one has it, only the first program gets a note.
 fn add_names(host: &HostRuntime, def: &Def, remarks: &mut Remarks<'_>) {
     match program_of(remarks.alloc, def.program(), def.arguments()) {
         Ok(run) => {

@@ -1,4 +1,4 @@
-//! Keys that stand twice in one object.
+//! Keys that are there twice in one object.
 
 use crate::check::finding::Grade;
 use crate::check::outline::{Mark, MarkKind};
@@ -7,10 +7,10 @@ use crate::check::remarks::Remarks;
 use run_times::Ink;
 use run_times::Piece::{Number, Text};
 
-/// So many keys behind a key are compared with it: more than an object of a definition may have.
+/// How many keys after a key are compared with it: more than an object of a definition may have.
 const MOST: usize = 256;
 
-/// Adds a warning for each key that stands again behind in its object: the last of them counts.
+/// Adds a warning for each key that comes again later in its object: the last of them counts.
 pub(crate) fn add_twice(remarks: &mut Remarks<'_>) {
     let marks = remarks.marks;
     let mut next: usize = 0;

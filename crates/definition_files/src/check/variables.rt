@@ -1,4 +1,4 @@
-//! What the text of a definition tells and its reading no more: variables that are not set or not expanded, and keys that are absent.
+//! What the text of a definition shows and its parsed form does not: variables that are not set or not expanded, and keys that are absent.
 
 use crate::check::finding::Grade;
 use crate::check::place::{Step, place_by};
@@ -10,7 +10,7 @@ use run_times::Ink;
 use run_times::Piece::Text;
 use serde_json::Value;
 
-/// Adds the remarks on variables of the environment whose values are no texts: they are left out.
+/// Adds the remarks on variables of the environment whose values are not strings: they are left out.
 pub(crate) fn add_variables(remarks: &mut Remarks<'_>) {
     match json_value(remarks.alloc, remarks.text.as_bytes()) {
         Ok(Some(value)) => {
@@ -48,7 +48,7 @@ fn add_from(found: &Value, remarks: &mut Remarks<'_>) {
 // Variables that are expanded in the files of shells.
 static EXPANDED: &[&str] = &["PATH", "HOME", "USER", "LOGNAME", "PWD", "SHELL", "TMPDIR"];
 
-// The value has one of these, or the variable itself, behind a dollar sign, or begins with ~/.
+// The value has one of these, or the variable itself, after a dollar sign, or begins with ~/.
 fn is_unexpanded(name: &str, text: &str) -> bool {
     let mut is_found = text.starts_with("~/");
     let mut parts = text.split('$');

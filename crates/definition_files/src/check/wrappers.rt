@@ -1,26 +1,26 @@
-//! Words before a program: what starts another program, and where that one's words begin. By their manual pages.
+//! Wrapper commands: what starts another program, and where that program's own command line begins. By their manual pages.
 
 /// How the command of a wrapper begins.
 #[derive(Clone, Copy)]
 pub(crate) enum Begins {
-    /// Behind its options, and as many words as it says.
+    /// After its options, and the number of arguments that it has.
     Plain,
-    /// Behind variables too, as env(1) takes them.
+    /// After variables too, as env(1) takes them.
     Variables,
-    /// Behind the folder that is its root, as chroot(8).
+    /// After the folder that is its root, as chroot(8).
     Root,
     /// It is a file that the program reads.
     Script,
-    /// The same, or a line behind -c.
+    /// The same, or a line after -c.
     Shell,
 }
 
-/// A word before a program. Of its options `-n:` has its value in the next word or joined to it, `--nofile?` joined alone, and `-#` is a
+/// A wrapper command. Of its options `-n:` has its value in the next argument or joined to it, `--nofile?` only joined, and `-#` is a
 /// number; whatever is not here is unknown.
 pub(crate) struct Wrapper {
     pub(crate) name: &'static str,
     pub(crate) options: &'static [&'static str],
-    /// So many words that are no options stand before the command.
+    /// How many arguments that are not options come before the command.
     pub(crate) before: usize,
     pub(crate) begins: Begins,
 }
@@ -221,6 +221,12 @@ pub(crate) static WRAPPERS: &[Wrapper] = &[
     Wrapper {
         name: "setsid",
         options: &["-c", "--ctty", "-w", "--wait"],
+        before: 0,
+        begins: Begins::Plain,
+    },
+    Wrapper {
+        name: "jobd-group",
+        options: &[],
         before: 0,
         begins: Begins::Plain,
     },

@@ -1,4 +1,4 @@
-//! The command of a line, as Debian's cron hands it to the shell.
+//! The command of a line, as Debian's cron passes it to the shell.
 
 use crate::cron::fault::{LineFault, told};
 use run_times::Ink;
@@ -15,8 +15,8 @@ const LONG: &str =
 
 const NUL: &str = "the command has a NUL byte, which no program's argument may have";
 
-/// The command that the text is: of `\%` the sign stands, of `\\` one backslash, and a backslash before any other letter stays. Refused:
-/// a `%` that no backslash precedes, a NUL byte, and more than 4,096 bytes.
+/// The command that the text means: `\%` is the sign, `\\` is one backslash, and a backslash before any other letter stays. Refused: a `%`
+/// that is not escaped, a NUL byte, and more than 4,096 bytes.
 pub(crate) fn command_of(alloc: Global, text: &str) -> Result<String, LineFault> {
     let mut ink = Ink::new(alloc);
     let wrong = put_command(text, &mut ink);

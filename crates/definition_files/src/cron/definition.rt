@@ -26,7 +26,7 @@ const SHELL: &str = "/bin/sh";
 /// The user whose jobs need nothing before their program, as the launcher is root's.
 const ROOT: &str = "root";
 
-/// A job that a line tells of.
+/// A job that a line describes.
 #[derive(Drop)]
 pub struct Job<'a> {
     /// The line's number.
@@ -35,7 +35,7 @@ pub struct Job<'a> {
     pub comment: &'a str,
     pub when: When,
     pub user: Option<&'a str>,
-    /// The command as it stands in the line.
+    /// The command as it is in the line.
     pub command: &'a str,
 }
 
@@ -58,10 +58,10 @@ pub struct Made {
     pub is_guarded: bool,
 }
 
-/// The definition that runs the job's command by the shell, with the variables that were set and those that cron sets, in the home folder. Each
-/// is one that a load takes. If no 64 entries say the line's minutes, or a day and a weekday must both suit, a test stands before the command.
-/// Refused: the command has an input, a NUL byte or more than 4,096 bytes; or a load would refuse the definition for something else, as a
-/// variable that is too long.
+/// The definition that runs the job's command by the shell, with the variables that were set and those that cron sets, in the home folder. A
+/// load takes each such definition. A test comes before the command, if no 64 entries say the line's minutes, or if a day and a weekday must
+/// both suit. Refused: the command has an input, a NUL byte or more than 4,096 bytes. Refused too: a load would refuse the definition for
+/// something else, as for a variable that is too long.
 pub fn definition_of(
     alloc: Global,
     job: Job<'_>,
@@ -216,7 +216,7 @@ fn put_guard(alloc: Global, ink: &mut Ink, guard: &str) {
     }
 }
 
-// Adds the words by which a shell does what this text says.
+// Adds the arguments by which a shell does what this text says.
 fn put_line(alloc: Global, ink: &mut Ink, text: &str) {
     ink.put(", \"-c\", ");
     put_json(alloc, ink, text);
@@ -260,7 +260,7 @@ fn put_json(alloc: Global, ink: &mut Ink, text: &str) {
     }
 }
 
-// Adds the words that make a program the user's, with the user's groups: setpriv(1). Nothing for root.
+// Adds the wrapper command that makes a program the user's, with the user's groups: setpriv(1). Nothing for root.
 fn put_user(alloc: Global, ink: &mut Ink, user: Option<&str>, around: &Surroundings) {
     let Some(name) = user else {
         return;

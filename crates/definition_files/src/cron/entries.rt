@@ -15,7 +15,7 @@ pub const MOST_ENTRIES: usize = 64;
 #[derive(Drop)]
 pub enum EntriesFault {
     NoMemory,
-    /// It would have so many.
+    /// It would have this many.
     TooMany(usize),
     /// It wants a day of the month and a weekday at once, which no entry says.
     BothDays,
@@ -53,7 +53,7 @@ pub fn entries_of(alloc: Global, fields: &Fields) -> Result<Vec<Entry>, EntriesF
     }
 }
 
-// A day and a weekday are named, and both have to suit.
+// A day and a weekday are named, and both must suit.
 fn is_both(fields: &Fields) -> bool
     ensures { result ≡ spec.is_both fields.now }
 {

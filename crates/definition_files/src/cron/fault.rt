@@ -17,14 +17,14 @@ impl From<AllocError> for LineFault {
     }
 }
 
-/// The fault that the form tells, whose holes the pieces fill, if there is memory for it.
+/// The fault with the text of the form, whose holes the pieces fill, if there is memory for it.
 pub(crate) fn told(alloc: Global, form: &str, pieces: &[Piece<'_>]) -> LineFault {
     let mut ink = Ink::new(alloc);
     ink.fill(form, pieces);
     refused(ink)
 }
 
-/// The fault that is told by what was written, if there was memory for it.
+/// The fault with the text that was written, if there was memory for it.
 pub(crate) fn refused(ink: Ink) -> LineFault {
     match ink.into_text() {
         Ok(text) => LineFault::Refused(text),

@@ -6,7 +6,7 @@ use crate::cron::line::When;
 use run_times::Ink;
 use std::alloc::{AllocError, Global};
 
-// The moment that is judged: that of the start by the clock, put back by the first minute of the entries, and by their first hour if they name
+// The time that is judged: that of the start by the clock, put back by the first minute of the entries, and by their first hour if they name
 // hours. So it has the hour, or the day, of the entry that came due last, however late the start is.
 const BEFORE_MINUTES: &str =
     "set -- \"$(/bin/date -u -d \"$(TZ=:/etc/localtime /bin/date '+%F %T UTC') ";
@@ -15,7 +15,7 @@ const BEHIND_MINUTES: &str = " minutes ago\" +%-m.%-d.%w%u.%-H)\" \"$@\"; ";
 
 const END: &str = "shift; exec \"$0\" \"$@\"";
 
-/// A field, with what stands before and behind each value in the text of the moment.
+/// A field, with what comes before and after each value in the text of the time.
 #[derive(Clone, Copy)]
 struct Judged<'a> {
     field: &'a Field,
@@ -23,8 +23,8 @@ struct Judged<'a> {
     behind: &'static str,
 }
 
-/// The words of a shell that become the program at the line's minutes alone, if no 64 entries say these, or a day and a weekday must both suit:
-/// a field that they judge is then as `*`. Empty, and the fields as they were, if entries say the minutes.
+/// The shell script that runs the program only at the line's minutes, if no 64 entries say these, or a day and a weekday must both suit. A
+/// field that it judges is then as `*`. If entries say the minutes, the script is empty, and the fields stay as they were.
 pub(crate) fn guard_in(alloc: Global, when: &mut When) -> Result<String, AllocError> {
     let mut ink = Ink::new(alloc);
     if let When::Minutes(fields) = when {
@@ -82,7 +82,7 @@ fn by_day(field: &Field) -> Judged<'_> {
     }
 }
 
-// Both numbers of Sunday stand in the text of the moment.
+// The text of the time has both numbers of Sunday.
 fn by_weekday(field: &Field) -> Judged<'_> {
     Judged {
         field,
@@ -131,7 +131,7 @@ fn first_of(field: &Field) -> u64 {
     }
 }
 
-// A day and a weekday are named, and both have to suit.
+// A day and a weekday are named, and both must suit.
 fn is_both(fields: &Fields) -> bool {
     !fields.is_either & !fields.days.is_every & !fields.weekdays.is_every
 }

@@ -1,4 +1,4 @@
-//! The lines of a crontab that words or standard input give.
+//! The lines of a crontab in the arguments or on standard input.
 
 use history_model::Text;
 use run_times::telling::{tell_error, tell_of};
@@ -11,7 +11,7 @@ const LONGEST: u64 = 1_048_576;
 /// How faults name standard input.
 const INPUT: &str = "standard input";
 
-/// The lines of standard input; none if it can't be read, is no UTF-8 or is too long, and this was told.
+/// The lines of standard input. If it can't be read, is not UTF-8 or is too long, this is reported, and it returns None.
 pub fn lines_of(host: &HostRuntime, alloc: Global) -> Result<Option<Vec<Text>>, AllocError> {
     let Some(text) = input_of(host, alloc)? else {
         return Ok(None);

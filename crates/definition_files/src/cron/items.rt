@@ -17,18 +17,18 @@ struct Item {
 /// What is wrong with an item.
 #[derive(Clone, Copy)]
 enum Wrong<'a> {
-    /// This is no value of the field.
+    /// This is not a value of the field.
     Value(&'a str),
     /// The range runs backwards.
     Backwards(&'a str),
     /// The single value has this step.
     NoRange(&'a str, &'a str),
-    /// The step is none.
+    /// The step is invalid.
     Step(&'a str),
 }
 
-/// Marks the values that the items of a field's text name, each at its place. Refused: an item is none, is out of the field's bounds, runs
-/// backwards, or has a step and no range.
+/// Marks the values that the items of a field's text name, each at its place. Refused: an item is invalid, is out of the field's bounds,
+/// runs backwards, or has a step and no range.
 pub(crate) fn mark_named(
     alloc: Global,
     kind: &Kind,
@@ -90,7 +90,7 @@ fn item_of<'a>(kind: &Kind, text: &'a str) -> Result<Item, Wrong<'a>> {
     }
 }
 
-// The greatest step: as many as the field has numbers.
+// The greatest step: how many numbers the field has.
 fn most_of(kind: &Kind) -> u8 {
     kind.high.saturating_sub(kind.low).saturating_add(1)
 }
@@ -123,7 +123,7 @@ fn fault_of(alloc: Global, kind: &Kind, wrong: Wrong<'_>) -> LineFault {
     refused(ink)
 }
 
-// What stands before the first such letter, and what behind it.
+// What comes before the first such letter, and what after it.
 fn parted(text: &str, by: char) -> (&str, Option<&str>) {
     match text.split_once(by) {
         Some((before, behind)) => (before, Some(behind)),

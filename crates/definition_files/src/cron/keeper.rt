@@ -1,4 +1,4 @@
-//! Who keeps what is made of the lines, and tells what is refused.
+//! Who keeps what is made of the lines, and reports what is refused.
 
 ghost use Rattle.std.specs.Prelude.{◌≡◌, List, [], ◌∷◌, Option, None, IfOk};
 ghost use Rattle.definition_files.specs.LineStatus.{LineJudged, TellsLine, is_fault, is_refused};
@@ -14,19 +14,19 @@ use std::alloc::{AllocError, Global};
 pub enum LineVerdict {
     /// Its definition is kept, or it asks for none.
     Well,
-    /// It was refused, and this was told.
+    /// It was refused, and this was reported.
     Refused,
-    /// Its definition could not be kept, and this was told.
+    /// Its definition could not be kept, and this was reported.
     Unkept,
 }
 
 /// Keeps definitions.
 pub trait LineKeeper {
-    /// The lines that were judged, oldest first, each with the verdict. A keeper that does not tell it has none.
+    /// The lines that were judged, oldest first, each with the verdict. None for a keeper that does not record it.
     ghost told: { Self → Option (List LineJudged) };
 
-    /// Keeps what was made of the line of this number, in the text if it has no other place; or tells why there is nothing. Exactly a
-    /// fault is a refusal. The one error is of memory.
+    /// Keeps what was made of the line of this number, in the text if it has no other place; or reports why there is nothing. A line is
+    /// refused exactly if it has a fault. The one error is of memory.
     fn keep(
         &mut self,
         alloc: Global,
@@ -40,7 +40,7 @@ pub trait LineKeeper {
             ((line.now, verdict) ∷ []) (Self.told self.new)) };
 }
 
-/// Keeps definitions in a folder, or in the text if there is none. It does not tell what was judged.
+/// Keeps definitions in a folder, or in the text if there is none. It does not record what was judged.
 #[derive(Clone, Copy)]
 pub struct HostLines<'a> {
     pub host: &'a HostRuntime,
@@ -81,7 +81,7 @@ impl LineKeeper for HostLines<'_> {
     }
 }
 
-// Whether the definition was kept; if not, this was told.
+// Whether the definition was kept; if not, this was reported.
 fn keep_made(
     host: &HostRuntime,
     alloc: Global,

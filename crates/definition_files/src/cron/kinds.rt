@@ -1,7 +1,7 @@
 //! What each of the five fields may hold.
 
 /// What a field may hold: numbers from `low` to `high`, of which `count` differ in what they mean, the names of its first values, and how a
-/// fault tells them.
+/// fault names them.
 pub(crate) struct Kind {
     pub(crate) name: &'static str,
     pub(crate) low: u8,

@@ -28,7 +28,7 @@ pub enum Line<'a> {
         name: &'a str,
         value: &'a str,
     },
-    /// The command is run, by this user if the line names one. It stands as in the line.
+    /// The command is run, by this user if the line names one. It is as in the line.
     Command {
         when: When,
         user: Option<&'a str>,
@@ -36,9 +36,9 @@ pub enum Line<'a> {
     },
 }
 
-/// What the line says, which has no newline; with `has_user` a user's field stands before the command. Refused: a field is none, the
-/// command or a field is absent, the name behind `@` is none, the user's field is no name of a user, or a command with no such field
-/// begins with `*`, as after six fields.
+/// What the line says, which has no newline; with `has_user` a user's field comes before the command. Refused: a field is invalid, the
+/// command or a field is absent, or the name after `@` is unknown. Refused too: the user's field can't be a user's name, or a command
+/// without such a field begins with `*`, as after six fields.
 pub fn read_line<'a>(alloc: Global, has_user: bool, text: &'a str) -> Result<Line<'a>, LineFault> {
     let text = text.trim_start_matches(is_blank);
     if text.is_empty() {
@@ -89,7 +89,7 @@ fn by_user<'a>(alloc: Global, when: When, rest: &'a str) -> Result<Line<'a>, Lin
     Err(told(alloc, form, &[Text(user)]))
 }
 
-// Whether the word can be a user's name: a letter or `_`, and then letters, digits, `_`, `-`, `.` and `$`.
+// Whether the text can be a user's name: a letter or `_`, and then letters, digits, `_`, `-`, `.` and `$`.
 fn is_user_name(word: &str) -> bool {
     let mut is_first = true;
     for letter in word.chars() {
@@ -107,7 +107,7 @@ fn is_blank(letter: char) -> bool {
     letter == ' ' || letter == '\t'
 }
 
-/// The next word of a text, and what stands behind its blanks.
+/// The text up to the first blank, and what follows the blanks.
 pub(crate) fn word_of(text: &str) -> (&str, &str) {
     match text.split_once(is_blank) {
         Some((word, rest)) => (word, rest.trim_start_matches(is_blank)),
@@ -115,7 +115,7 @@ pub(crate) fn word_of(text: &str) -> (&str, &str) {
     }
 }
 
-// When the command runs, by five fields or by a name that stands for them, and what stands behind.
+// When the command runs, by five fields or by a name for them, and what follows.
 fn timed<'a>(alloc: Global, has_user: bool, text: &'a str) -> Result<(When, &'a str), LineFault> {
     let (name, behind) = word_of(text);
     let is_named = name.starts_with('@');
@@ -138,7 +138,7 @@ fn timed<'a>(alloc: Global, has_user: bool, text: &'a str) -> Result<(When, &'a 
     Err(told(alloc, form, &[Text(name)]))
 }
 
-// What is wanted in place of a line that ends too soon.
+// What is expected in place of a line that ends too soon.
 fn wanted_words(has_user: bool, text: &str) -> &'static str {
     if text.trim_end_matches(is_blank).ends_with('=') {
         "the variable has no value; wanted \"\" for an empty one"
@@ -165,7 +165,7 @@ fn texts_of(text: &str) -> (Texts<'_>, &str) {
     (texts, rest)
 }
 
-/// The fields that a name stands for.
+/// The fields that a name means.
 const NAMED: &[(&str, &str)] = &[
     ("@yearly", "0 0 1 1 *"),
     ("@annually", "0 0 1 1 *"),
@@ -176,7 +176,7 @@ const NAMED: &[(&str, &str)] = &[
     ("@hourly", "0 * * * *"),
 ];
 
-// The fields of a name; none if it is no name of minutes.
+// The fields that a name means; empty if it is not a name for minutes.
 fn fields_named(name: &str) -> &'static str {
     for (known, fields) in NAMED {
         if *known == name {

@@ -3,10 +3,10 @@
 use run_times::Ink;
 use std::alloc::{AllocError, Global};
 
-/// The longest name that stands in a label, in bytes.
+/// The longest name in a label, in bytes.
 const LONGEST_NAME: usize = 64;
 
-/// A dot and the name of the job: the words of the comment, or else the name of the command's program. Nothing if neither has a letter.
+/// A dot and the name of the job: the text of the comment, or else the name of the command's program. Nothing if neither has a letter.
 pub(crate) fn name_of(alloc: Global, comment: &str, command: &str) -> Result<String, AllocError> {
     let mut ink = Ink::new(alloc);
     put_words(&mut ink, comment);
@@ -16,13 +16,12 @@ pub(crate) fn name_of(alloc: Global, comment: &str, command: &str) -> Result<Str
     ink.into_text()
 }
 
-/// Whether a comment tells what the fields of the lines below are, as the first lines of most crontabs do, or is a line that was made
-/// one.
+/// Whether a comment says what the fields of the lines below are, as the first lines of most crontabs do, or is a line that was made one.
 pub(crate) fn is_heading(comment: &str) -> bool {
     comment.contains('*') || comment.contains("dow")
 }
 
-// The letters and digits of the words in small letters, with `-` between the words, as far as whole words have room.
+// The letters and digits of the comment in small letters, with `-` for what is between them, as far as each whole part fits.
 fn put_words(ink: &mut Ink, comment: &str) {
     let mut length: usize = 0;
     for word in comment.split(is_between) {
@@ -49,7 +48,7 @@ fn is_between(letter: char) -> bool {
     !letter.is_ascii_alphanumeric()
 }
 
-// What stands behind the last `/` of the first word, without letters that are no part of a plain name.
+// What follows the last `/` before the first blank, without letters that don't belong in a plain name.
 fn put_program(ink: &mut Ink, command: &str) {
     for letter in command.chars() {
         let is_mark = letter == '.' || letter == '_' || letter == '-';

@@ -38,7 +38,7 @@ pub(crate) fn fields_of(alloc: Global, texts: Texts<'_>) -> Result<Fields, LineF
     }
 }
 
-// With `may_be_every`, a field that names each value is one that is `*`. The first fault is kept; a field behind it has no values.
+// With `may_be_every`, a field that names each value counts as `*`. The first fault is kept; a field after it has no values.
 fn field_of(
     alloc: Global,
     kind: &Kind,
@@ -60,7 +60,7 @@ fn field_of(
     }
 }
 
-// Adds the values that are named. A value that means the same as the least one, as the weekday 7, is left out behind that.
+// Adds the values that are named. A value that means the same as the least one, as the weekday 7, is left out if the least one is there.
 fn add_named(kind: &Kind, named: &[bool], values: &mut Vec<u8>) -> Result<(), AllocError> {
     let mut has_least = false;
     for value in kind.low..=kind.high {

@@ -16,7 +16,7 @@ impl Settings {
         }
     }
 
-    /// Sets the variable; an earlier value of it is gone.
+    /// Sets the variable, in place of an earlier value.
     pub fn set(&mut self, alloc: Global, name: &str, value: &str) -> Result<(), AllocError> {
         let value = String::from_str(alloc, value)?;
         let mut index: usize = 0;

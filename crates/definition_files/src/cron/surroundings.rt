@@ -15,7 +15,7 @@ const LONGEST_USERS: usize = 1_048_576;
 /// What is around the lines.
 #[derive(Drop)]
 pub struct Surroundings {
-    /// A user's field stands before each command, as in `/etc/crontab`.
+    /// A user's field comes before each command, as in `/etc/crontab`.
     pub has_user: bool,
     /// The home folder of who asks, if the environment names one.
     pub home: Option<String>,

@@ -20,17 +20,17 @@ use std::alloc::{AllocError, Global};
 #[derive(Drop)]
 struct Above {
     settings: Settings,
-    /// The comment that stands right above; empty if there is none.
+    /// The comment right above; empty if there is none.
     comment: String,
     /// Cron would mail what a command writes.
     is_mailed: bool,
-    /// That the output is lost was told.
+    /// It was reported that the output is lost.
     is_loss_told: bool,
 }
 
-/// A definition for each line that runs a command, which the keeper is given. Each line is judged once, in order. What is wrong with a
-/// line is told, and so is what of it no definition takes over. The status is 65 if a definition could not be kept; else 1 if a line was
-/// refused: the others' definitions are written all the same; else 0.
+/// Gives the keeper a definition for each line that runs a command. Each line is judged once, in order. It reports what is wrong with a
+/// line, and what of it no definition takes over. The status is 65 if a definition could not be kept. Otherwise it is 1 if a line was
+/// refused: the others' definitions are written all the same. Otherwise it is 0.
 pub fn definitions_of<K: LineKeeper>(
     host: &HostRuntime,
     alloc: Global,
@@ -87,7 +87,7 @@ fn judge_each<K: LineKeeper>(
     Ok(verdicts)
 }
 
-// The definition of the line, if it runs a command; what it says for the lines below is kept.
+// The definition of the line, if it runs a command. What the line says for the lines below is kept.
 fn made_of(
     host: &HostRuntime,
     alloc: Global,
@@ -176,7 +176,7 @@ fn is_taken(name: &str) -> bool {
     true
 }
 
-// Tells what becomes of a variable that no definition takes over. An empty MAILTO asks for no mail, as here.
+// Prints what becomes of a variable that no definition takes over. An empty MAILTO asks for no mail, as here.
 fn tell_variable(host: &HostRuntime, number: usize, name: &str, value: &str) {
     for (known, instead) in TOLD {
         if *known == name && !value.is_empty() {
@@ -185,7 +185,7 @@ fn tell_variable(host: &HostRuntime, number: usize, name: &str, value: &str) {
     }
 }
 
-// Tells who a user is: one whom this machine does not know, or one that stands where a command is wanted.
+// Prints a note on a user: one whom this machine does not know, or one where a command is expected.
 fn tell_user(
     host: &HostRuntime,
     number: usize,
@@ -210,7 +210,7 @@ const GUARDED: &str =
 
 const LOST: &str = "what the jobs write is lost, which cron mailed; --logs FOLDER keeps it";
 
-// Tells what a definition has that the line has not: a test before the command; and once that the output is lost.
+// Prints what a definition has that the line has not: a test before the command; and once that the output is lost.
 fn tell_made(
     host: &HostRuntime,
     number: usize,

@@ -1,7 +1,8 @@
 //! The variable that a line of a crontab sets, as Debian's cron reads it.
 
-/// The name and the value that the line sets; none if it sets no variable. Either may stand in quotes, single or double; around `=` may
-/// stand blanks, and those behind a value without quotes are no part of it. A value that is absent is none: `NAME=""` sets an empty one.
+/// The name and the value that the line sets; None if it sets no variable. Either may be in quotes, single or double. Blanks are allowed
+/// around `=`, and those after a value without quotes don't belong to it. If the value is absent, nothing is set: `NAME=""` sets an empty
+/// one.
 pub(crate) fn variable_in(text: &str) -> Option<(&str, &str)> {
     let (name, behind) = name_in(text)?;
     let rest = behind.trim_start_matches(is_blank).strip_prefix('=')?;
@@ -17,7 +18,7 @@ pub(crate) fn is_blank(letter: char) -> bool {
     letter.is_ascii_whitespace()
 }
 
-// The name, and what stands behind it. A name without quotes ends before a blank or `=`, one in quotes has no `=`.
+// The name, and what follows it. A name without quotes ends before a blank or `=`, one in quotes has no `=`.
 fn name_in(text: &str) -> Option<(&str, &str)> {
     let Some((quote, inner)) = unquoted(text) else {
         let end = text.find(is_end)?;
@@ -35,7 +36,7 @@ fn is_end(letter: char) -> bool {
     letter == '=' || is_blank(letter)
 }
 
-// The value, behind which nothing stands but blanks.
+// The value, which only blanks may follow.
 fn value_in(text: &str) -> Option<&str> {
     let Some((quote, inner)) = unquoted(text) else {
         let value = text.trim_end_matches(is_blank);
@@ -49,7 +50,7 @@ fn value_in(text: &str) -> Option<&str> {
     }
 }
 
-// The quote that the text begins with, and what stands behind it.
+// The quote that the text begins with, and what follows it.
 fn unquoted(text: &str) -> Option<(char, &str)> {
     if let Some(inner) = text.strip_prefix('"') {
         return Some(('"', inner));

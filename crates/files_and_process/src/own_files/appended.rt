@@ -6,11 +6,12 @@ use std::io::ErrorKind;
 use std::os::unix::fs::OpenOptionsExt;
 use std::{fs, io};
 
-/// Opens the plain file at the path and locks it; what it holds stays. If nothing is there it is made, for this user alone
-/// (mode 0600). Each write goes to its end, wherever that is by then.
+/// Opens the plain file at the path and locks it; what it holds stays. If nothing is there it is made, for this user
+/// alone (mode 0600). Each write goes to its end, wherever that is by then.
 ///
-/// `ResourceBusy`: another process holds it. `AlreadyExists`: what is there is no plain file, or a link that leads nowhere; a
-/// link to a plain file is followed. Any other error is that of the system's call. It waits at no FIFO.
+/// `ResourceBusy`: another process holds it. `AlreadyExists`: what is there is not a plain file, or is a link that
+/// leads nowhere; a link to a plain file is followed. Any other error is that of the system's call. It waits at no
+/// FIFO.
 pub fn open_appended<R: Files<File = File>>(rt: &R, path: &str) -> io::Result<File> {
     let mut options = OpenOptions::new();
     options.read(true).append(true).mode(0o600);

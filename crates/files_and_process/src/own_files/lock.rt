@@ -17,8 +17,8 @@ pub struct LockFile {
 
 impl LockFile {
     /// Takes the lock on the file at the path, which is made for this user alone (mode 0600) if none is there.
-    /// `ResourceBusy`: another process holds it. `AlreadyExists`: what is there is no plain file. Any other error is that of
-    /// the system's call.
+    /// `ResourceBusy`: another process holds it. `AlreadyExists`: what is there is not a plain file. Any other error is
+    /// that of the system's call.
     pub fn take<R: Files<File = File>>(rt: &R, path: String) -> io::Result<LockFile> {
         for _ in 0..TRIES {
             if let Some(file) = open(rt, path.as_str())? {
@@ -31,8 +31,8 @@ impl LockFile {
         Err(busy())
     }
 
-    /// Whether the lock's file is still at its path. False: another is there, or none. An error is that of the system's look: then it may be
-    /// there.
+    /// Whether the lock's file is still at its path. False: another is there, or none. An error is that of the system's
+    /// call: then it may be there.
     pub fn is_at_its_path<R: Files<File = File>>(&self, rt: &R) -> io::Result<bool> {
         is_at(rt, self.path.as_str(), &self.file)
     }
@@ -58,7 +58,7 @@ fn busy() -> Error {
     Error::new(ErrorKind::ResourceBusy, "another launcher holds it")
 }
 
-/// The error at what is no plain file.
+/// The error at what is not a plain file.
 pub(crate) fn no_plain_file() -> Error {
     Error::new(ErrorKind::AlreadyExists, "it is no plain file")
 }

@@ -6,9 +6,9 @@ use std::io::ErrorKind;
 use std::os::unix::fs::OpenOptionsExt;
 use std::{fs, io};
 
-/// Makes an empty file at the path, for this user alone (mode 0600), if nothing is there. A plain file that is there is left as
-/// it is. `AlreadyExists`: what is there is no plain file, or a link that leads nowhere. Any other error is that of the system's
-/// call.
+/// Makes an empty file at the path, for this user alone (mode 0600), if nothing is there. A plain file that is there is
+/// left as it is. `AlreadyExists`: what is there is not a plain file, or is a link that leads nowhere. Any other error
+/// is that of the system's call.
 pub fn make_private<R: Files>(rt: &R, path: &str) -> io::Result<()> {
     match fs::metadata(rt, path) {
         Ok(data) if data.is_file() => Ok(()),

@@ -6,8 +6,8 @@ use exit_status::{NO_MEMORY, USAGE};
 use std::io;
 use std::sync::Wait;
 
-/// What the file does as each of its programs, by the words that it was started with. Each call answers the exit status. Only what takes
-/// `waits` may wait.
+/// What the file does as each of its programs, by the arguments of the process. Each call answers the exit status. Only
+/// what takes `waits` may wait.
 pub trait Programs {
     fn jobd<L: Wait>(&self, host: &HostRuntime, waits: &L, words: &[String]) -> u8;
 
@@ -15,12 +15,14 @@ pub trait Programs {
 
     fn jobscope<L: Wait>(&self, host: &HostRuntime, waits: &L, words: &[String]) -> u8;
 
-    /// What a launcher starts to look and open in its place: it answers what comes at its standard input, a socket, until its end.
+    /// What a launcher starts to check and open paths in its place: it answers what comes at its standard input, a
+    /// socket, until its end.
     fn look_out(&self, host: &HostRuntime) -> u8;
 }
 
-/// Does as the program that the name of this process means, by the words that it was started with, and gives the exit status. Words
-/// that are not all UTF-8 are no command, but for `jobctl`, which gets them marked (`marked_words`). Both `host` and `waits` are the runtime of `main`: only what takes it as `waits` may wait.
+/// Does as the program that the name of this process means, by its arguments, and gives the exit status. Arguments that
+/// are not all UTF-8 are invalid, but for `jobctl`, which gets them marked (`marked_words`). Both `host` and `waits`
+/// are the runtime of `main`: only what takes it may wait.
 pub fn run_by_name<L: Wait, P: Programs>(host: &HostRuntime, waits: &L, programs: &P) -> u8 {
     match own_words(host) {
         Ok(words) => match program_of(words.as_slice()) {
@@ -33,7 +35,7 @@ pub fn run_by_name<L: Wait, P: Programs>(host: &HostRuntime, waits: &L, programs
     }
 }
 
-// For want of memory nothing is told.
+// If memory ran out it prints nothing.
 fn refuse<P: Programs>(host: &HostRuntime, programs: &P, fault: &io::Error) -> u8 {
     if fault.kind() == io::ErrorKind::OutOfMemory {
         return NO_MEMORY;

@@ -5,8 +5,8 @@ use std::io;
 use std::io::ErrorKind;
 use std::process::{Command, Processes, Stdio};
 
-/// Starts `/bin/sh -c :` and waits for its end. False: the system does not tell the end, as in a process whose starter ignores
-/// SIGCHLD. An `Err` if the shell can't be started.
+/// Starts `/bin/sh -c :` and waits for its exit. False: the system does not report the exit, as in a process whose
+/// starter ignores SIGCHLD. An `Err` if the shell can't be started.
 pub fn sees_children<R: Processes>(rt: &R, alloc: Global) -> io::Result<bool> {
     let mut command = Command::new(alloc, "/bin/sh")?;
     let has_flag = command.arg("-c").is_ok();

@@ -7,12 +7,13 @@ pub enum Program {
     Jobd,
     Jobctl,
     Jobscope,
-    /// What a launcher starts to look and open in its place. No user starts it.
+    /// What a launcher starts to check and open paths in its place. No user starts it.
     LookOut,
 }
 
-/// The program that these words mean, the name of which is the first: by the last part of its path `jobctl`, `jobscope`; by
-/// `jobd-look-out`, without a path before it, a launcher's look-out; and by every other `jobd`.
+/// The program that these arguments mean: the first is its name. The last part of the name's path means `jobctl` or
+/// `jobscope`. The name `jobd-look-out`, without a path in front of it, means a launcher's helper process. Every other
+/// name means `jobd`.
 pub fn program_of(words: &[String]) -> Program
     ensures { result ≡ spec.program_of (map string_bytes words.now) }
 {

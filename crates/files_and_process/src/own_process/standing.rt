@@ -1,4 +1,4 @@
-//! The limits, the user and the ignored signals of this process, as Linux tells them in its folder `/proc/self`.
+//! The limits, the user and the ignored signals of this process, as Linux shows them in its folder `/proc/self`.
 
 use crate::path_files::read_front;
 use std::alloc::Global;
@@ -84,7 +84,7 @@ fn behind<'a>(text: &'a str, name: &str) -> Option<&'a str> {
     None
 }
 
-// The first word is the limit that holds: a number, or `unlimited`.
+// The first field is the limit that holds: a number, or `unlimited`.
 fn limit_in(limits: &str, name: &str) -> Option<u64> {
     let word = behind(limits, name)?.split_whitespace().next()?;
     word.parse::<u64>().ok()

@@ -7,7 +7,7 @@ use std::fs::Files;
 use std::io::ErrorKind;
 use std::{fs, io};
 
-/// What stands at a path.
+/// What is at a path.
 #[derive(Clone, Copy, Drop)]
 pub enum Kind {
     /// A file that may be a definition.
@@ -25,9 +25,10 @@ pub struct Found {
     pub kind: Kind,
 }
 
-/// The files that the paths stand for, in their order. A folder stands for its files whose names end in `.plist` or `.json`,
-/// in byte order of names, and not for its folders; behind them stands what of it can't be listed, or the folder if it has
-/// none of them. Any other path stands for itself; one that `marked_words` marked is no file's. `AllocError` if memory ran out.
+/// The files that the paths name, in their order. A folder names its files whose names end in `.plist` or `.json`, in
+/// byte order of names, and not its folders. After them comes what of it can't be listed, or the folder if it has none
+/// of them. Any other path names itself; one that `marked_words` marked does not name a file. `AllocError` if memory
+/// ran out.
 pub fn files_at<R: Files + AllocGlobal>(rt: &R, paths: &[Text]) -> Result<Vec<Found>, AllocError> {
     let mut found = Vec::new(rt.alloc());
     for path in paths {

@@ -1,4 +1,4 @@
-//! The reading of a file, within a bound.
+//! How a file is read, within a bound.
 
 ghost use Rattle.std.specs.Prelude.{◌≤◌, IfOk, IfSome, vec_len};
 
@@ -7,7 +7,8 @@ use std::fs::{File, Files};
 use std::io;
 use std::io::{ErrorKind, Read};
 
-/// Adds the file's bytes, as far as `limit` of them, and one more: who finds more than `limit` knows that the file is too long.
+/// Adds the file's bytes, `limit` of them and one more at most. Who finds more than `limit` knows that the file is too
+/// long.
 pub fn read_front<R: Files>(
     rt: &R,
     path: &str,
@@ -20,9 +21,9 @@ pub fn read_front<R: Files>(
     Ok(())
 }
 
-/// The bytes of a plain file, as many as it had when it was looked at; `None` if they are more than `limit`. InvalidInput for what is no
-/// plain file: it is not opened, so that nothing waits at a FIFO. A file of the kernel that says it is empty, as `/proc/kmsg`, whose reads
-/// wait, is empty.
+/// The bytes of a plain file, up to the length that it had when it was checked. `None` if they are more than `limit`.
+/// InvalidInput for what is not a plain file: it is not opened, so that nothing waits at a FIFO. A file of the kernel
+/// that reports length 0, as `/proc/kmsg`, whose reads wait, is empty.
 pub fn read_file<R: Files>(
     rt: &R,
     alloc: Global,

@@ -79,12 +79,12 @@ impl HeldFolder {
         }
     }
 
-    /// Whether the system has told which folder is open, and who this user is.
+    /// Whether the system has said which folder is open, and who this user is.
     pub(super) fn is_known(&self) -> bool {
         self.is_held && self.user.is_some()
     }
 
-    /// Whether this is told of the folder, and it is this user's and for nobody else.
+    /// Whether the folder is the one that this describes, and is this user's and for nobody else.
     pub(super) fn is_ours(&self, there: &Metadata) -> io::Result<bool> {
         let own = self.folder.metadata()?;
         let is_same = own.dev() == there.dev() && own.ino() == there.ino();

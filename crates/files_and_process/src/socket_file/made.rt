@@ -1,4 +1,4 @@
-//! A new folder beside a socket's place, in which nobody else may write.
+//! A new folder next to a socket's place, in which nobody else may write.
 
 use super::held::HeldFolder;
 use crate::own_files::lock_file;
@@ -7,7 +7,7 @@ use std::io::{Error, ErrorKind};
 use std::os::unix::fs::{DirBuilderExt, FileTypeExt};
 use std::{fs, io};
 
-/// What the folder's name has behind the socket's.
+/// What the folder's name has after the socket's.
 const END: &str = ".binding";
 
 /// The socket's name in the folder.
@@ -22,9 +22,9 @@ pub(super) struct MadeFolder {
 }
 
 impl MadeFolder {
-    /// Makes the folder beside the name, for this user alone (mode 0700), or takes over one that a launcher left which was killed.
-    /// `AddrInUse`: another launcher holds it, or has just removed it. `PermissionDenied`: what is there is another user's, or no such folder.
-    /// Any other error is that of the system's call.
+    /// Makes the folder next to the name, for this user alone (mode 0700), or takes over one that a killed launcher
+    /// left. `AddrInUse`: another launcher holds it, or has just removed it. `PermissionDenied`: what is there is
+    /// another user's, or is not such a folder. Any other error is that of the system's call.
     pub(super) fn make<R: Files<File = File>>(
         rt: &R,
         within: &HeldFolder,

@@ -6,7 +6,7 @@ ghost use Rattle.run_times.specs.Axis.{IsPlace};
 
 use history_model::MAX_WALL;
 
-/// A span of time over places: the first is 0 and begins at `from`; `until` stands at `places`. Both in seconds of Unix time.
+/// A span of time over places: place 0 begins at `from`, and place `places` is at `until`. Both are in seconds of Unix time.
 #[derive(Clone, Copy)]
 pub struct Axis {
     pub from: u64,
@@ -32,8 +32,8 @@ impl Axis {
         }
     }
 
-    /// Where the second stands: at the last place that has begun by then. What is before the axis stands at its beginning, and what is
-    /// after it at its end.
+    /// The place of the second: the last one that has begun by then. What is before the axis is at its beginning, and what is after it at
+    /// its end.
     #[tactic(auto, using(crate::proofs::AxisLemmas::place_fits, crate::proofs::AxisLemmas::product_fits))]
     pub fn place(&self, at: u64) -> u16
         ensures last { IsPlace self.now.from self.now.until self.now.places at result }

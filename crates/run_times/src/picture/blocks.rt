@@ -15,21 +15,21 @@ use std::alloc::{AllocError, Global};
 /// The block of a bar by how grave its end is.
 const BLOCKS: [char; 6] = ['▀', '█', '▄', '▓', '▒', '▚'];
 
-/// So many columns a line may have at least: a moment has room in them.
+/// How many columns a line may have at least: a time fits in them.
 const NARROWEST: u16 = 32;
 
 /// What the blocks and the marks mean.
 const LEGEND: &str =
     "█ code 0\t▓ another code\t▒ a signal\t▚ a crash\t▄ stopped\t▀ lives\tv demand\t~ throttle\tx refusal\n";
 
-/// How the chart is laid out: the columns of its labels, and the axis behind them and a space.
+/// How the chart is laid out: the columns of its labels, and after a space the axis.
 #[derive(Clone, Copy)]
 struct Layout {
     column: usize,
     axis: Axis,
 }
 
-/// The chart in lines of at most `width` columns, or of `NARROWEST` if those are more. Moments are shown in the zone.
+/// The chart in lines of at most `width` columns, or of `NARROWEST` if those are more. Times are shown in the zone.
 pub fn blocks_text(
     alloc: Global,
     zone: &Zone,
@@ -78,8 +78,8 @@ fn fitted(alloc: Global, text: &str, width: usize) -> Result<String, AllocError>
     ink.into_text()
 }
 
-// Adds a line. One with tabs has parts between them, which stand two spaces apart; else its parts are its words. A part that has no room
-// in the width begins a new line.
+// Adds a line. If it has tabs, they part it, and the parts get two spaces between them; else blanks part it. A part that does not fit in
+// the width begins a new line.
 fn put_fitted(ink: &mut Ink, line: &str, width: usize) {
     let (between, gap) = if line.contains('\t') {
         ('\t', "  ")
@@ -124,8 +124,8 @@ fn put_lines(alloc: Global, ink: &mut Ink, layout: &Layout, chart: &Chart, ticks
     }
 }
 
-// Adds a line: the label in its column, cut if it is longer and as `Ink::put_plain` writes it, a space, and the cells, of which
-// each place of the axis has one. They are empty then.
+// Adds a line: the label in its column, cut if it is longer and as `Ink::put_plain` writes it, a space, and the cells. The axis has a cell
+// for each place. They are empty then.
 fn put_line(ink: &mut Ink, column: usize, cells: &mut [char], label: &str) {
     let (front, rest) = cut(label, column);
     ink.put_plain(front);
@@ -141,7 +141,7 @@ fn put_line(ink: &mut Ink, column: usize, cells: &mut [char], label: &str) {
     cells.fill(' ');
 }
 
-// A row's bars, and below them its marks, if it has some. The graver ones stand over the others of their place.
+// A row's bars, and below them its marks, if it has some. In one place a graver one is shown instead of the others.
 fn put_row(ink: &mut Ink, layout: &Layout, cells: &mut [char], row: &Row) {
     let axis = &layout.axis;
     for (grave, block) in BLOCKS.iter().enumerate() {
@@ -176,7 +176,7 @@ fn set_marks(cells: &mut [char], axis: &Axis, marks: &[Mark], sign: char) {
     }
 }
 
-// The ticks: a line with their texts, and one with what stands below them.
+// The ticks: a line with their texts, and one with the texts below them.
 fn put_axis(ink: &mut Ink, layout: &Layout, cells: &mut [char], ticks: &[Tick]) {
     set_ticks(cells, &layout.axis, ticks, false);
     put_line(ink, layout.column, cells, "");
@@ -196,7 +196,7 @@ fn set_ticks(cells: &mut [char], axis: &Axis, ticks: &[Tick], is_below: bool) {
     }
 }
 
-// Sets the sign at the place, and the text behind it, if it has room there.
+// Sets the sign at the place, and the text after it, if it fits there.
 fn set_text(cells: &mut [char], place: usize, sign: char, text: &str) {
     let mut at = place;
     set(cells, at, sign);

@@ -1,4 +1,4 @@
-//! What a chart shows: a row for each job, with its runs as bars, and with the demands, throttles and refusals as marks.
+//! What a chart shows: a row for each job, with its runs as bars, and with start requests, throttles and refusals as marks.
 
 ghost use Rattle.std.specs.Prelude.{◌≡◌, ◌≤◌, ◌↔◌, ◌+◌, ℕ, [], OnOk, IfSome};
 ghost use Rattle.run_times.specs.Bars.{Covers, IsAdded, Joins, WasThere, bar_end, runs_in};
@@ -6,7 +6,7 @@ ghost use Rattle.run_times.specs.Bars.{Covers, IsAdded, Joins, WasThere, bar_end
 use crate::picture::axis::Axis;
 use std::alloc::{AllocError, Global};
 
-/// How a run stands or ended.
+/// The state of a run, or how it ended.
 #[derive(Clone, Copy)]
 pub enum End {
     Lives,
@@ -17,24 +17,24 @@ pub enum End {
     Crash(u8),
 }
 
-/// A run, or some of one place that stand together.
+/// A run, or several of one place together.
 #[derive(Clone, Copy)]
 pub struct Bar {
-    /// When it began and ended, in seconds of Unix time. A run that lives ends where the chart does.
+    /// When it began and ended, in seconds of Unix time. A run that is running ends where the chart does.
     pub from: u64,
     pub until: u64,
     /// The gravest end of its runs.
     pub end: End,
     /// The number of the first of its runs.
     pub run: u64,
-    /// How many runs it stands for.
+    /// How many runs it is for.
     pub runs: u32,
 }
 
-/// What a mark stands for.
+/// What a mark means.
 #[derive(Clone, Copy)]
 pub enum MarkKind {
-    /// A demand came, or a start was asked for.
+    /// A start request came, or a client asked for a start.
     Demand,
     /// It is wanted, and waits since it is throttled.
     Throttle,
@@ -42,7 +42,7 @@ pub enum MarkKind {
     Refusal,
 }
 
-/// A moment that matters, or some of one place.
+/// A time that matters, or several of one place.
 #[derive(Clone, Copy)]
 pub struct Mark {
     pub at: u64,
@@ -72,7 +72,7 @@ pub struct Chart {
 }
 
 impl Bar {
-    /// The bar of one run: from its begin to its end, or to the end of the axis if the run lives.
+    /// The bar of one run: from its begin to its end, or to the end of the axis if the run is running.
     pub fn of_run(axis: &Axis, run: u64, end: End, begun: u64, ended: u64) -> Bar
         ensures begin { result.from ≡ begun }
         ensures end { result.until ≡ bar_end end axis.now.until ended }
@@ -95,7 +95,7 @@ impl Bar {
     }
 }
 
-/// How grave an end is, from 0 for a run that lives to 5 for a crash; and its code or signal, 0 if it has none.
+/// How grave an end is, from 0 for a run that is running to 5 for a crash; and its code or signal, 0 if it has none.
 pub(crate) fn grade(end: End) -> (usize, u64)
     ensures { result.0 ≤ 5 }
 {
@@ -109,11 +109,11 @@ pub(crate) fn grade(end: End) -> (usize, u64)
     }
 }
 
-// The bar that stands for both, if both lie in one place of the axis.
+// The bar for both, if both are in one place of the axis.
 fn joined(axis: &Axis, last: Bar, next: Bar) -> Option<Bar>
     ensures { IfSome result (λ bar. Joins axis.now last next bar) }
 {
-    // All four moments lie in one place, if the first and the last of them do.
+    // All four times are in one place, if the first and the last of them are.
     let first = last.from.min(next.from);
     let until = last.until.max(next.until);
     let (begin, end) = axis.edges(first, until.max(last.from).max(next.from));
@@ -133,7 +133,7 @@ fn joined(axis: &Axis, last: Bar, next: Bar) -> Option<Bar>
     })
 }
 
-// Adds a bar behind the others. One that lies whole in the place of the last is joined to it.
+// Adds a bar after the others. It joins one that is whole in the place of the last bar to that bar.
 #[tactic(auto, using(crate::proofs::BarsLemmas::one_more))]
 fn add_bar(bars: &mut Vec<Bar>, axis: &Axis, bar: Bar) -> Result<(), AllocError>
     ensures runs { OnOk result (runs_in bars.new.items ≡ runs_in bars.old.items + bar.runs) }
@@ -162,7 +162,7 @@ fn add_bars(bars: &mut Vec<Bar>, axis: &Axis, others: &[Bar]) -> Result<(), Allo
     Ok(())
 }
 
-// Adds a mark; those of one place stand together.
+// Adds a mark; marks of one place are kept together.
 fn add_mark(marks: &mut Vec<Mark>, axis: &Axis, mark: Mark) -> Result<(), AllocError> {
     if let Some(last) = marks.last_mut() {
         if axis.place(last.at) == axis.place(mark.at) {
@@ -195,8 +195,8 @@ impl Row {
         }
     }
 
-    /// Adds a run. Runs that lie whole in one place of the axis stand together in one bar, so that no more bars are kept than can
-    /// be seen; none is lost.
+    /// Adds a run. Runs that are whole in one place of the axis share one bar, so that no more bars are kept than can be seen; none is
+    /// lost.
     pub fn add(&mut self, axis: &Axis, bar: Bar) -> Result<(), AllocError>
         ensures runs { OnOk result (runs_in self.new.bars.items ≡ runs_in self.old.bars.items + bar.runs) }
         ensures added { OnOk result (IsAdded axis.now bar self.old.bars.items self.new.bars.items) }
@@ -204,7 +204,7 @@ impl Row {
         add_bar(&mut self.bars, axis, bar)
     }
 
-    /// Adds a mark. Those of one kind and one place stand together.
+    /// Adds a mark. Marks of one kind and one place are kept together.
     pub fn mark(&mut self, axis: &Axis, kind: MarkKind, mark: Mark) -> Result<(), AllocError> {
         match kind {
             MarkKind::Demand => add_mark(&mut self.demands, axis, mark),
@@ -223,7 +223,7 @@ impl Row {
         add_bars(&mut self.bars, axis, other.bars.as_slice())
     }
 
-    /// How many runs its bars stand for.
+    /// How many runs its bars are for.
     pub fn runs(&self) -> u64 {
         let mut runs: u64 = 0;
         for bar in &self.bars {
@@ -232,7 +232,7 @@ impl Row {
         runs
     }
 
-    /// How many moments its marks stand for.
+    /// How many times its marks are for.
     pub fn moments(&self) -> u64 {
         let mut moments: u64 = 0;
         for marks in [&self.demands, &self.throttles, &self.refusals] {

@@ -9,7 +9,7 @@ use history_model::MAX_WALL;
 use std::alloc::{AllocError, Global};
 use std::mem;
 
-/// So many bars and marks are kept, of all jobs together, while the axis can still grow.
+/// How many bars and marks of all jobs are kept, while the axis can still grow.
 const MOST: usize = 131_072;
 
 /// The places of the axis; each is a second long at first.
@@ -18,13 +18,13 @@ const FINE: u16 = 65_535;
 /// What is kept of a job.
 #[derive(Drop)]
 pub struct Gathered {
-    /// The number by which it was handed in.
+    /// The number by which the caller gave it.
     pub job: u64,
     pub row: Row,
 }
 
-/// The runs and marks of jobs. What lies in one place of an axis stands together. The axis begins fine, and its places grow longer if it has to
-/// reach further, or if too much is kept: so the memory that is taken is bounded, and none is lost.
+/// The runs and marks of jobs. Those in one place of an axis are kept together. The axis begins fine. Its places grow longer if it must reach
+/// further, or if too much is kept. So the memory is bounded, and none is lost.
 #[derive(Drop)]
 pub struct Gathering {
     alloc: Global,
@@ -33,13 +33,13 @@ pub struct Gathering {
     pub rows: Vec<Gathered>,
     /// How many bars and marks are kept.
     kept: usize,
-    /// How many runs and marks came when the axis could not grow any more, and as many were kept as may be.
+    /// How many runs and marks came when the axis could not grow any more, and the most were kept.
     pub missing_runs: u64,
     pub missing_marks: u64,
 }
 
 impl Gathering {
-    /// Nothing is kept yet. The first moment that comes decides where the axis begins.
+    /// Nothing is kept yet. The first time that comes decides where the axis begins.
     pub fn new(alloc: Global) -> Gathering {
         Gathering {
             alloc,
@@ -125,7 +125,7 @@ impl Gathering {
         Ok(())
     }
 
-    // Where the row of the job stands, which is made if it has none.
+    // The index of the job's row, which is made if the job has none.
     fn place_for(&mut self, job: u64) -> Result<usize, AllocError> {
         let place = self.rows.partition_point(|of| of.job < job);
         let has_row = match self.rows.get(place) {
@@ -140,7 +140,7 @@ impl Gathering {
     }
 }
 
-// Joins what lies in one place of the axis: no run is lost.
+// Joins what is in one place of the axis: no run is lost.
 fn join(alloc: Global, axis: &Axis, row: &mut Row) -> Result<(), AllocError>
     ensures { OnOk result (runs_in row.new.bars.items ≡ runs_in row.old.bars.items) }
 {

@@ -1,4 +1,4 @@
-//! A page that stands alone: the chart, the table of the runs, why each job stands as it does, and the coming starts. No script.
+//! A page in one file: the chart, the table of the runs, why each job is in its state, and the coming starts. It has no script.
 
 use crate::page::Filling::{Escaped, Moment, Text};
 use crate::page::Page;
@@ -14,18 +14,18 @@ pub struct Coming {
     pub key: &'static str,
 }
 
-/// What stands on a page beside the chart.
+/// What a page has besides the chart.
 #[derive(Clone, Copy)]
 pub struct Beside<'a> {
     /// Lines of cells with tabs between them, the first being the head.
     pub table: &'a str,
-    /// Why each job stands as it does.
+    /// Why each job is in its state.
     pub why: &'a str,
     /// In the order of time.
     pub coming: &'a [Coming],
 }
 
-/// What stands above the chart. In a window that is narrower than the chart the chart scrolls, and the names of its rows stay at the left: they are a
+/// What comes above the chart. In a window that is narrower than the chart the chart scrolls, and the names of its rows stay at the left. They are a
 /// list over it, by the heights that `svg` gives to what is above the rows (64) and to a row (50).
 pub(crate) const HEAD: &str = "<!DOCTYPE html>
 <html lang=\"en\">
@@ -68,7 +68,7 @@ pre { margin: 0; padding: 0.75rem; background: var(--soft); border-radius: 6px; 
 <figure>
 ";
 
-/// Adds the names of the chart's rows, and what stands below the chart. The last text is escaped line by line, so that its newlines stay.
+/// Adds the names of the chart's rows, and what comes below the chart. The last text is escaped line by line, so that its newlines stay.
 pub(crate) fn put_rest(page: &mut Page<'_>, chart: &Chart, beside: &Beside<'_>) {
     put_names(page, chart);
     page.ink.put(
@@ -91,7 +91,7 @@ fn put_names(page: &mut Page<'_>, chart: &Chart) {
     page.ink.put("</ol>\n");
 }
 
-// A line of why the jobs stand as they do. The label of one that begins with it is isolated.
+// A line on why the jobs are in their states. If a label begins it, the label is isolated.
 fn put_why(page: &mut Page<'_>, line: &str) {
     match line.rsplit_once(" is ") {
         Some((label, state)) if !line.starts_with(' ') => {

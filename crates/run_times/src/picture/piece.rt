@@ -8,11 +8,11 @@ use calendar_due::Zone;
 use history_model::Reading;
 use std::alloc::{AllocError, Global};
 
-/// Pictures speak as of no reading: each of their moments is shown whole.
+/// Pictures do not speak as of a clock reading: each of their times is shown whole.
 pub(crate) const NO_READING: Reading = Reading { up: 0, wall: 0 };
 
-/// A piece of the chart as an SVG document, or with what stands beside it as a page of HTML. They begin with 0: the head, one for each row of
-/// the chart, and the rest; no piece is behind these. Moments are shown in the zone. So no more than a row's text is held at once.
+/// A piece of the chart as an SVG document, or with what is next to it as a page of HTML. Pieces begin with 0: the head, one for each row of
+/// the chart, and the rest; no piece comes after these. Times are shown in the zone. So no more than a row's text is held at once.
 pub fn picture_piece(
     alloc: Global,
     zone: &Zone,

@@ -13,7 +13,7 @@ pub const PLACES: u16 = 980;
 /// Where the axis begins.
 const LEFT: u64 = 10;
 
-/// The heights of what stands above the rows, of a row, and of what stands below.
+/// The heights of what is above the rows, of a row, and of what is below.
 const HEAD: u64 = 64;
 
 const ROW: u64 = 50;
@@ -23,14 +23,15 @@ const FOOT: u64 = 62;
 /// The height of a line of text.
 const LINE: u64 = 16;
 
-/// So many columns of a label are shown: they fill the width.
+/// How many columns of a label are shown: they fill the width.
 const LABEL: usize = 130;
 
-/// So many ticks are written at most.
+/// How many ticks are written at most.
 const MOST_TICKS: u64 = 9;
 
-/// The head: how large it is, its title, its colours, and the span. The colours are literal ones, since viewers that are no browsers know no variables. Its holes are for the height, and the span. Where the image is a document of its own and has
-/// fewer than 700 pixels, it fits in them, and its labels are of twice the size, so that they can be read.
+/// The head: how large it is, its title, its colours, and the span. The colours are literal ones, since viewers other than browsers don't know
+/// variables. Its holes are for the height, and the span. If the image is a document of its own and has fewer than 700 pixels, it is scaled to fit.
+/// Its labels are then of twice the size, so that they can be read.
 const OPENING: &str =
     r#"<svg xmlns="http://www.w3.org/2000/svg" class="runs" viewBox="0 0 1000 $0" width="1000" height="$0" role="img">
 <title>Runs from $1 to $2</title>
@@ -59,18 +60,18 @@ const OPENING: &str =
 <text x="10" y="18">$1 to $2</text>
 "#;
 
-/// Its holes are for the place, the bottom of the rows, how the texts stand to the place, and the texts.
+/// Its holes are for the place, the bottom of the rows, how the texts are anchored at the place, and the texts.
 const TICK: &str =
     r#"<path class="tick" d="M$0 58V$1"/><text class="faint" x="$0" y="38" text-anchor="$2">$3</text><text class="faint" x="$0" y="52" text-anchor="$2">$4</text>
 "#;
 
-/// A label, cut if it is too wide and whole in its title, and the line on which the bars stand.
+/// A label, cut if it is too wide and whole in its title, and the line on which the bars are.
 const TOP: &str =
     r#"<g><text class="label" x="10" y="$">$$<title>$</title></text><path class="base" d="M10 $h980"/>
 "#;
 
-/// The beginning of a bar that stands for one run, and of one that stands for several, up to how they ended. The holes are for the class, the
-/// number of runs, and that of the first.
+/// The beginning of a bar for one run, and of one for several, up to how they ended. The holes are for the class, the number of runs, and that of the
+/// first.
 const RUN: &str = r#"<g class="$0" data-runs="$1"><title>run $2 "#;
 
 const RUNS: &str = r#"<g class="$0" data-runs="$1"><title>$1 runs from run $2 on; the gravest "#;
@@ -82,9 +83,9 @@ const BAR: &str = r#": $ to $</title><rect x="$" y="$" width="$" height="12"/></
 struct Look {
     /// The class of its bar.
     class: &'static str,
-    /// The end in words, with a hole for its code or signal.
+    /// The text on the end, with a hole for its code or signal.
     words: &'static str,
-    /// What stands at its bar's upper corner, if something does.
+    /// The sign at its bar's upper corner, if there is one.
     corner: &'static str,
 }
 
@@ -126,7 +127,7 @@ static LOOKS: [Look; 6] = [
     },
 ];
 
-/// The marks of each kind, from the middle of their upper edge; the holes are for their number, their place, and the first one's moment.
+/// The marks of each kind, from the middle of their upper edge; the holes are for their number, their place, and the time of the first one.
 const DEMAND: &str =
     r#"<path class="demand" data-count="$" d="M$ $m-5 0h10l-5 9z"><title>a demand: $"#;
 
@@ -153,7 +154,7 @@ const LEGEND: &str =
 <path class="refusal" d="M325 $2m-4 0.5l8 8m0 -8l-8 8"/><text class="faint" x="344" y="$3">a refusal</text>
 "#;
 
-/// The beginning of what tells what is not in the chart.
+/// The beginning of the text on what is not in the chart.
 const LEFT_OUT: &str = r#"<text class="faint" x="10" y="$">"#;
 
 /// Adds a piece of the chart as an element `svg`, from 0: its head, one for each row, its foot.
@@ -170,7 +171,7 @@ pub(crate) fn put_figure(page: &mut Page<'_>, chart: &Chart, index: usize) {
     }
 }
 
-// Where so many rows end.
+// Where this many rows end.
 fn below_rows(rows: usize) -> u64 {
     (rows as u64).saturating_mul(ROW).saturating_add(HEAD)
 }
@@ -191,7 +192,7 @@ fn put_head(page: &mut Page<'_>, chart: &Chart, bottom: u64) {
     drop(ticks);
 }
 
-// The ticks, with their texts above the rows. Near the edges they stand within the chart.
+// The ticks, with their texts above the rows. Near the edges the texts stay within the chart.
 fn put_ticks(page: &mut Page<'_>, axis: &Axis, ticks: &[Tick], bottom: u64) {
     for tick in ticks {
         let place = u64::from(axis.place(tick.at));

@@ -1,4 +1,4 @@
-//! The ticks of an axis: round moments of a civil clock.
+//! The ticks of an axis: whole times of a civil clock.
 
 use crate::moment::time_text;
 use crate::page::Page;
@@ -13,30 +13,30 @@ const DAY: u64 = 86_400;
 /// A quarter of an hour: clocks are set forward and back at whole ones.
 const QUARTER: u64 = 900;
 
-/// After so many looks at the clock no further tick is looked for.
+/// After this many looks at the clock it looks for no further tick.
 const MOST_LOOKS: u32 = 100_000;
 
-/// A round moment.
+/// A whole time, as an hour or a day.
 #[derive(Drop)]
 pub(crate) struct Tick {
     pub(crate) at: u64,
-    /// The moment whole.
+    /// The date and time in full.
     moment: String,
-    /// Where in it begins and ends what is written at the tick, and where ends what stands below.
+    /// Where in it the text at the tick begins and ends, and where the text below ends.
     from: usize,
     until: usize,
     below: usize,
 }
 
-/// What lies between two ticks.
+/// What is between two ticks.
 #[derive(Clone, Copy)]
 enum Step {
-    /// So many seconds, a part of a day.
+    /// How many seconds: a part of a day.
     Seconds(u64),
     Day,
     /// A week, from a Monday.
     Week,
-    /// So many months, from the first of one.
+    /// How many months, from the first of one.
     Months(u64),
 }
 
@@ -71,7 +71,7 @@ const STEPS: [(u64, Step); 27] = [
     (31_556_908_800, Step::Months(12_000)),
 ];
 
-// The least step of which not more than `most` lie in the span.
+// The least step of which not more than `most` are in the span.
 fn step_for(span: u64, most: u64) -> Step {
     for of in STEPS.iter() {
         let (length, step) = *of;
@@ -115,7 +115,7 @@ fn ahead(step: Step, at: &CivilMinute, second: u64) -> u64 {
     }
 }
 
-/// The round moments of the axis, so that not more than about `most` are written over it. If memory was refused for one, the page is refused.
+/// The whole times of the axis, so that not more than about `most` are written over it. If memory was refused for one, the page is refused.
 pub(crate) fn ticks(page: &mut Page<'_>, axis: &Axis, most: u64) -> Vec<Tick> {
     let step = step_for(axis.until - axis.from, most);
     let mut ticks = Vec::new(page.alloc);
@@ -136,7 +136,7 @@ pub(crate) fn ticks(page: &mut Page<'_>, axis: &Axis, most: u64) -> Vec<Tick> {
     ticks
 }
 
-// Adds the tick. What stands below the tick before it does not stand below it again.
+// Adds the tick. It does not repeat the text below the tick before it.
 fn add_tick(
     ticks: &mut Vec<Tick>,
     step: Step,
@@ -159,7 +159,7 @@ fn add_tick(
     }
 }
 
-// Where in a moment begins and ends what is written at a tick of the step, and where ends what stands below.
+// Where in a time the text at a tick of the step begins and ends, and where the text below ends.
 fn written_of(step: Step) -> (usize, usize, usize) {
     match step {
         Step::Seconds(length) => (15, if length < 60 { 23 } else { 20 }, 10),
@@ -168,7 +168,7 @@ fn written_of(step: Step) -> (usize, usize, usize) {
     }
 }
 
-// Where ends what stands below the next tick: at its beginning, if the same stands below the last one.
+// Where the text below the next tick ends: at its beginning, if the last one has the same text below it.
 fn end_below(ticks: &[Tick], moment: &str, end: usize) -> usize {
     match ticks.last() {
         Some(last) if last.moment.as_str().get(..end) == moment.get(..end) => 0,

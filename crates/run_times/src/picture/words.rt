@@ -1,4 +1,4 @@
-//! How wide a text is, and what is told of what is left out.
+//! How wide a text is, and what is said of what is left out.
 
 use crate::picture::chart::Chart;
 use plain_text::plain_char;
@@ -18,7 +18,7 @@ pub fn columns_of(text: &str) -> usize {
     columns
 }
 
-/// The text in at most so many columns: if it is wider, as much of its beginning as has room, and `…`.
+/// The text in at most this many columns: if it is wider, as much of its beginning as fits, and `…`.
 pub(crate) fn cut(text: &str, columns: usize) -> (&str, &'static str) {
     let mut used: usize = 0;
     // Where a column is left for the `…`.
@@ -35,7 +35,8 @@ pub(crate) fn cut(text: &str, columns: usize) -> (&str, &'static str) {
     (text.get(..end).unwrap_or(""), "…")
 }
 
-/// What may be missing in the chart: a sentence for each kind of it, with holes for the numbers behind it. It is told if one is not 0.
+/// What may be missing in the chart: a sentence for each kind of it, with holes for the numbers after it. A sentence is shown if one is not
+/// 0.
 pub(crate) fn missing(chart: &Chart) -> [(&'static str, u64, u64); 2] {
     [
         (

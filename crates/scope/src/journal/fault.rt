@@ -10,31 +10,31 @@ use std::io::ErrorKind;
 #[derive(Drop)]
 pub enum JournalFault {
     NoMemory,
-    /// The journal has no line, or none that is whole.
+    /// The journal has no line, or only one that is not whole.
     NoHeader,
-    /// The first line is no header.
+    /// The first line is not a header.
     BadHeader,
-    /// The header's zone is none.
+    /// The header's zone is not a zone.
     BadZone,
-    /// A name among the header's settings is no label, or its reading is past a limit.
+    /// A name among the header's settings is not a label, or its clock reading is past a limit.
     BadSettings,
-    /// The header's moment is behind the one that is asked of.
+    /// The header's time is after the one that is asked for.
     BeginsLater,
-    /// No clock of its zone shows the date of a moment.
+    /// No clock of its zone shows the date of a given time.
     NoDate,
-    /// A moment is asked of a journal that has no file.
+    /// A time is asked for, but the journal does not come from a file.
     NoFile,
     /// A line is longer than one may be.
     LongLine(u64),
     /// A read failed.
     Read(io::Error),
-    /// The clock can't be read, and this was told.
+    /// The clock can't be read, and this was reported.
     Clock,
     /// What is to be shown of it can't be written.
     Write(io::Error),
 }
 
-/// Tells that the line is too long, and answers the exit status.
+/// Reports that the line is too long, and returns the exit status.
 pub(crate) fn tell_long(host: &HostRuntime, name: &str, line: u64) -> u8 {
     let mut told = Ink::new(host.alloc());
     told.fill(
@@ -45,7 +45,7 @@ pub(crate) fn tell_long(host: &HostRuntime, name: &str, line: u64) -> u8 {
     BAD_FILE
 }
 
-/// Tells what keeps the journal from being read, and answers the exit status. An error for want of memory, or of a write.
+/// Reports what keeps the journal from being read, and returns the exit status. An error for want of memory, or of a write.
 pub(crate) fn tell_fault(host: &HostRuntime, name: &str, fault: JournalFault) -> io::Result<u8> {
     let words = match fault {
         JournalFault::NoMemory => return Err(io::Error::from(ErrorKind::OutOfMemory)),

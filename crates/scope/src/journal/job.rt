@@ -8,7 +8,7 @@ use job_defs::Def;
 use pace::Signal;
 use status_page::is_crash;
 
-/// After so many ends with code 0, each within a second of its begin, it is asked whether the program puts itself in the background.
+/// After this many exits with code 0, each within a second of its begin, `why` asks whether the program puts itself in the background.
 const QUICK_ENDS: u64 = 3;
 
 /// What was asked of a job, by a control client.
@@ -40,13 +40,13 @@ pub(crate) struct Totals {
     pub(crate) nonzero: u64,
     /// Runs that ended by a crash; each is among the signals.
     pub(crate) crashes: u64,
-    /// The time that runs which are over lived.
+    /// How long its completed runs ran, in all.
     pub(crate) lived: u64,
     /// The time that loads which are over lasted.
     pub(crate) loaded: u64,
     /// The longest time without a run while it was loaded.
     pub(crate) gap: u64,
-    /// The shortest and the longest run that is over; no run is shorter than the shortest if there is none.
+    /// The shortest and the longest completed run. If there is none, the shortest is the greatest number.
     pub(crate) shortest: u64,
     pub(crate) longest: u64,
 }
@@ -77,7 +77,7 @@ pub(crate) struct KeptJob {
 }
 
 impl KeptJob {
-    /// Its launcher is gone, and so is the job, if it was loaded.
+    /// Its launcher has exited, and with it the job, if it was loaded.
     pub(crate) fn lose(&mut self, at: Reading) {
         if self.def.is_some() {
             self.record.lose(at);
@@ -98,15 +98,15 @@ pub(crate) struct Record {
     /// Starts that were ordered since it was loaded, and how many of them ended.
     pub(crate) starts: u64,
     pub(crate) ends: u64,
-    /// The run whose order is not answered, or that lives.
+    /// The run whose order is not answered, or that is running.
     pub(crate) current: Option<JobRun>,
     /// The run of this load that ended last; a refused one does not count.
     pub(crate) last: Option<JobRun>,
-    /// The last start of this load that was refused, if none went well after it.
+    /// The last start of this load that was refused, if none succeeded after it.
     pub(crate) refused: Option<JobRun>,
     /// When the last start of this load was ordered.
     pub(crate) ordered: Option<Reading>,
-    /// The last stop, strike or unload since the last start was ordered, and which of the questions to all jobs it was.
+    /// The last stop, `kickstart -k` or unload since the last start was ordered, and its number among such requests to all jobs.
     pub(crate) asked: Option<(JobRequest, Reading)>,
     pub(crate) ask: u64,
     /// Whether the system refused to wait for the present run.
@@ -118,7 +118,7 @@ pub(crate) struct Record {
     pub(crate) is_first: bool,
     /// Whether it was lost with a launcher before.
     was_lost: bool,
-    /// Whether it is started again after each end with code 0.
+    /// Whether it is started again after each exit with code 0.
     pub(crate) is_kept_alive: bool,
     /// How many of its last runs ended one after another with code 0 within a second.
     pub(crate) quick_ends: u64,
@@ -126,7 +126,7 @@ pub(crate) struct Record {
     idle: Reading,
     /// From when on the times of the totals count.
     counted: Reading,
-    /// When the last of it was gone.
+    /// When its last load ended: the job was removed, or its launcher exited.
     pub(crate) gone: Reading,
     totals: Totals,
 }
@@ -168,7 +168,7 @@ impl Record {
         record
     }
 
-    /// It is counted from this reading on, and what was counted before is forgotten.
+    /// Counts from this clock reading on, and forgets what was counted before.
     pub(crate) fn count_from(&mut self, at: Reading) {
         self.totals = NOTHING;
         self.counted = at;
@@ -198,8 +198,9 @@ impl Record {
         }
     }
 
-    /// What came to its sockets, an answer to an order, or an end: what is told of it, and the run that is over then. A signal that was sent
-    /// is told by its order. A launcher is refused the wait for a run again in each of its rounds; that is told once.
+    /// Notes what came to its sockets, an answer to an order, or an exit. It returns what the log reports of that, and the run that is over
+    /// now. The order of a signal reports the signal, so its answer reports nothing. A launcher may be refused the wait for a run in each
+    /// pass of its event loop; only the first refusal is reported.
     pub(crate) fn note(
         &mut self,
         item: JobItem,
@@ -244,7 +245,7 @@ impl Record {
         }
     }
 
-    // The start that was ordered went well.
+    // The start that was ordered succeeded.
     fn begin(&mut self, at: Reading) {
         self.totals.gap = self.gap_at(at);
         self.refused = None;
@@ -307,7 +308,7 @@ impl Record {
         self.is_kept_alive && self.quick_ends >= QUICK_ENDS
     }
 
-    /// When the last start was refused, if none went well after it.
+    /// When the last start was refused, if none succeeded after it.
     pub(crate) fn refused_at(&self) -> Option<Reading> {
         match &self.refused {
             Some(run) => Some(run.ended),
@@ -315,19 +316,19 @@ impl Record {
         }
     }
 
-    /// Its launcher is gone: the present run counts as long as is known of it.
+    /// Its launcher has exited: the present run counts as far as it is known.
     pub(crate) fn lose(&mut self, at: Reading) {
         self.totals = self.totals_at(true, at);
         self.current = None;
         self.gone = at;
     }
 
-    /// Its launcher is gone, whether it was loaded then or not.
+    /// Its launcher has exited, whether the job was loaded then or not.
     pub(crate) fn follow(&mut self) {
         self.was_lost = true;
     }
 
-    /// It is gone.
+    /// The job was removed.
     pub(crate) fn leave(&mut self, at: Reading) {
         let loaded = at.up.saturating_sub(self.counted.up);
         self.totals.gap = self.gap_at(at);
@@ -340,7 +341,7 @@ impl Record {
         self.totals.gap.max(at.up.saturating_sub(self.idle.up))
     }
 
-    /// The counts as they are at this reading, a load and a run that last counted too.
+    /// The counts at this clock reading, with the present load and the present run.
     pub(crate) fn totals_at(&self, is_loaded: bool, at: Reading) -> Totals {
         let mut totals = self.totals;
         if is_loaded {

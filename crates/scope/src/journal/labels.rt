@@ -1,4 +1,4 @@
-//! What is known of labels beside their jobs: since when they are disabled, and their last refused load.
+//! What is known of labels besides their jobs: since when they are disabled, and their last refused load.
 
 use crate::journal::job::JobRequest;
 use crate::journal::past::MOST_LABELS;
@@ -11,7 +11,7 @@ use std::collections::BTreeMap;
 pub(crate) enum DisabledBy {
     /// By a setting that the journal begins with.
     Header,
-    /// By what a client asked at this reading.
+    /// A client disabled it by this request, at this clock reading.
     Client(JobRequest, Reading),
 }
 
@@ -29,7 +29,7 @@ const NOTHING: KnownLabel = KnownLabel {
     refused: None,
 };
 
-/// The labels of which something is known, at most `MOST_LABELS`: beyond them the first is forgotten for each new one.
+/// The labels of which something is known, at most `MOST_LABELS`. Beyond that, each new one takes the place of the first.
 #[derive(Drop)]
 pub(crate) struct KnownLabels {
     pub(crate) items: BTreeMap<String, KnownLabel>,

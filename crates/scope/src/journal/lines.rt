@@ -10,13 +10,13 @@ use std::alloc::Global;
 /// How many bytes of a journal's beginning are kept, to know it by.
 const HEAD: usize = 256;
 
-/// What hears a journal line by line.
+/// Receives a journal line by line.
 pub trait Hears {
-    /// It stands for these lines, the header first.
+    /// It represents these lines, the header first.
     ghost stands: { Self → List (List ℕ) → Type 0 };
 
-    /// Takes in the next line, of which the first is the header, and adds what is to be shown of it. It says whether the line is an event,
-    /// or the header; one that is not is left out.
+    /// Receives the next line, of which the first is the header, and adds what is to be shown of it. It returns whether the line is an
+    /// event, or the header. Another line is left out.
     fn hear(
         &mut self,
         line: &[u8],
@@ -33,7 +33,7 @@ pub struct JournalLines {
     is_long: bool,
     /// How many lines were read, the header too.
     pub(crate) count: u64,
-    /// How many of them are no event, and the number of the first of these.
+    /// How many of them are not events, and the number of the first of these.
     pub(crate) bad: u64,
     pub(crate) first_bad: u64,
     /// How many bytes came, and the first of them.
@@ -87,7 +87,7 @@ impl JournalLines {
         }
     }
 
-    // Hands the next whole line on, and says whether there was one.
+    // Passes on the next whole line, and returns whether there was one.
     fn hand_on<H: Hears>(&mut self, hearer: &mut H) -> Result<bool, JournalFault>
         ensures { IfOk result (λ more.
             HandsOn H.stands more self.old hearer.old self.new hearer.new) }
@@ -112,7 +112,7 @@ impl JournalLines {
         }
     }
 
-    /// Hands each whole line on.
+    /// Passes on each whole line.
     pub(crate) fn hand_all_on<H: Hears>(&mut self, hearer: &mut H) -> Result<(), JournalFault>
         ensures heard { OnOk result
             (HearsLines H.stands self.old.count hearer.old self.old.feed.lines hearer.new) }

@@ -1,4 +1,4 @@
-//! What is kept of an event of the journal, and told of it.
+//! Keeps what an event of the journal says, and makes the news of it for the log.
 
 use crate::journal::job::JobRequest;
 use crate::journal::labels::DisabledBy;
@@ -15,8 +15,8 @@ use serde_json::Value;
 use std::alloc::{AllocError, Global};
 
 impl Past {
-    /// Notes an event that came at the reading `now`, and was accepted at this one, or refused; the wait is that of its job, if it is of one. Of
-    /// refused events, a load or what a client asked is told; answers out of turn are left aside.
+    /// Notes an event that came at the clock reading `now`. `made` has the clock reading at which it was accepted, or the refusal. `wait` is
+    /// that of its job, if it is of one. Of refused events, only loads and requests of clients become news; refused answers do not.
     pub(crate) fn note(
         &mut self,
         alloc: Global,
@@ -52,7 +52,7 @@ impl Past {
         }
     }
 
-    // Tells what an event gave.
+    // Adds to the news what an event gave.
     fn add_news(&mut self, alloc: Global, label: &str, what: What) -> Result<(), AllocError> {
         let serial = match self.jobs.get(label) {
             Some(job) => Some(job.record.serial),
@@ -88,7 +88,7 @@ impl Past {
         }
     }
 
-    // A load that was made, or refused, at this reading.
+    // A load that was made, or refused, at this clock reading.
     fn note_load(
         &mut self,
         alloc: Global,
@@ -128,7 +128,7 @@ impl Past {
         }
     }
 
-    // The label may stand in what is no definition; if not, it is not known.
+    // Takes the label from the text, even if that is not a definition. Without one, the label is unknown.
     fn note_refused(
         &mut self,
         alloc: Global,
@@ -177,7 +177,7 @@ impl Past {
         }
     }
 
-    /// Notes an order of the last step: the demand and the wants are those of its job.
+    /// Notes an order of the last step. `demand` is the pending start request of its job, and `wants` are what wants that job.
     pub(crate) fn note_order(
         &mut self,
         alloc: Global,
@@ -229,7 +229,7 @@ impl Past {
     }
 }
 
-// The label that stands in the definition; the empty text if none does.
+// The label in the definition, or the empty text.
 fn label_in(def: &Value) -> &str {
     match def.get(key_name(KeyName::Label)) {
         Some(label) => match label.as_str() {
@@ -252,7 +252,7 @@ fn asked_by(ask: Ask) -> JobRequest {
     }
 }
 
-// What a client asked, and of which label; the empty one for all jobs.
+// What a client asked, and of which label; an empty label for all jobs.
 fn asked_in<'a>(event: &Event<'a>) -> Option<(&'a str, JobRequest)> {
     match event {
         Event::OfJob {

@@ -11,18 +11,18 @@ use std::alloc::{AllocError, Global};
 use std::collections::{BTreeMap, VecDeque};
 use std::mem;
 
-/// So many labels are kept. Beyond them, one that is not loaded is forgotten for each new one.
+/// How many labels are kept at most. Beyond that, each new one takes the place of one that is not loaded.
 pub(crate) const MOST_LABELS: usize = 8_192;
 
-/// So many runs that are over are kept, of all jobs together: the last ones.
+/// How many completed runs of all jobs are kept at most: the last ones.
 pub(crate) const MOST_RUNS: usize = 131_072;
 
 /// The jobs, and the runs that are over.
 #[derive(Drop)]
 pub(crate) struct Past {
-    /// The jobs by their labels, those that are gone too.
+    /// The jobs by their labels, also those that were removed.
     pub(crate) jobs: BTreeMap<String, KeptJob>,
-    /// What is known of labels beside.
+    /// What is known of labels besides.
     pub(crate) labels: KnownLabels,
     /// The runs that are over, in the order of their ends.
     pub(crate) runs: VecDeque<JobRun>,
@@ -59,8 +59,8 @@ impl Past {
         }
     }
 
-    /// The clocks went on from the one reading to the other. If the second from which on it counts is reached, what was counted before is
-    /// forgotten: it counts from the reading at that second, if both clocks went on alike.
+    /// The clocks went on from `last` to `now`. When they reach the second from which runs count, it forgets what was counted before. It counts from
+    /// the clock reading of that second, if both clocks went on alike.
     pub(crate) fn reach(&mut self, last: Reading, now: Reading) {
         if self.counts || now.wall < self.from {
             return;
@@ -74,8 +74,8 @@ impl Past {
         self.dropped = 0;
     }
 
-    /// It goes on at the second where that of a launcher before ended: what was counted stays, and what was loaded at this last reading of that launcher is
-    /// gone. A launcher that was asked for a shutdown starts nothing from then on.
+    /// Continues the history of an earlier launcher, which exited: its counts stay, and its loaded jobs count as removed at its last clock reading. A
+    /// launcher that was asked for a shutdown started nothing from then on.
     pub(crate) fn follow(&mut self, before: &mut Past, last: Reading, now: Reading) {
         let since = match before.shut_down {
             Some((_, at)) => at.wall,
@@ -141,7 +141,7 @@ impl Past {
         }
     }
 
-    // If as many labels are kept as may be, the first that is not loaded is forgotten.
+    // If the most labels are kept, forgets the first one that is not loaded.
     fn make_room(&mut self) -> Result<(), AllocError> {
         if self.jobs.len() < MOST_LABELS {
             return Ok(());

@@ -66,7 +66,7 @@ fn opened_by(alloc: Global, header: Header) -> Result<OpenJournal, JournalFault>
     }
 }
 
-// What is known of the past by the header alone: its settings, the last of a label deciding.
+// What the header says of the past: its settings, of which the last of a label decides.
 fn past_of(alloc: Global, header: &Header) -> Result<Past, AllocError> {
     let mut past = Past::new(alloc);
     for setting in header.overrides.as_slice() {
@@ -84,8 +84,8 @@ fn past_of(alloc: Global, header: &Header) -> Result<Past, AllocError> {
 }
 
 impl OpenJournal {
-    /// Takes in a line after the header. It says whether the line is an event; what it gave is the past's `news`.
-    /// After it the table keeps the machine's next state.
+    /// Applies a line after the header. It returns whether the line is an event; what it gave is the past's `news`. After it the table
+    /// keeps the machine's next state.
     pub fn take(&mut self, alloc: Global, line: &[u8]) -> Result<bool, AllocError>
         ensures { OnOk result (IsNextTable (event_in line.now) self.old.table self.new.table) }
     {
@@ -105,7 +105,7 @@ impl OpenJournal {
     }
 }
 
-// Tells the table an event, and notes what it gave.
+// Applies an event to the table, and notes what it gave.
 fn take_in(
     alloc: Global,
     table: &mut JobTable,

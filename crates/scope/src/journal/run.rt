@@ -2,12 +2,12 @@
 
 use history_model::{DemandKind, Reading};
 
-/// How a run stands, or how it ended.
+/// The state of a run, or how it ended.
 #[derive(Clone, Copy)]
 pub(crate) enum RunEnd {
     /// The answer to its order is awaited.
     Awaited,
-    /// Its child lives.
+    /// Its child is running.
     Lives,
     /// Its order was refused.
     Refused,
@@ -17,14 +17,14 @@ pub(crate) enum RunEnd {
     Signal(u8),
 }
 
-/// A run, and the readings at which it was ordered, began and ended.
+/// A run, and the clock readings at which it was ordered, began and ended.
 #[derive(Clone, Copy)]
 pub(crate) struct JobRun {
     /// The serial number of its job.
     pub(crate) job: u64,
     /// Its number among the runs of its job's load, from 1.
     pub(crate) run: u64,
-    /// What made the demand that was pending when it was ordered, if one was.
+    /// What made the start request that was pending when it was ordered, if one was.
     pub(crate) demand: Option<DemandKind>,
     pub(crate) ordered: Reading,
     /// When the order was answered; until then as `ordered`.
@@ -54,7 +54,7 @@ impl JobRun {
         }
     }
 
-    /// How many milliseconds it lived, or has lived up to this reading.
+    /// How many milliseconds it ran, or has run up to this clock reading.
     pub(crate) fn lived(&self, at: Reading) -> u64 {
         match self.end {
             RunEnd::Awaited | RunEnd::Refused => 0,

@@ -1,4 +1,4 @@
-//! A journal that words name: where it is, and its reading.
+//! Finds and reads the journal that the arguments name.
 
 ghost use Rattle.std.specs.Prelude.{◌≡◌, false, None, IfOk, OnOk};
 ghost use Rattle.std.specs.Io.KnownBytes.{IsAtEnd};
@@ -23,7 +23,7 @@ pub(crate) const INPUT: &str = "standard input";
 /// How many bytes are read at once.
 const PIECE: usize = 16_384;
 
-/// After so many pieces a line of progress is written anew.
+/// After this many pieces the line of progress is written again.
 const STRIDE: u64 = 128;
 
 /// What one read gave.
@@ -54,7 +54,7 @@ fn take_piece<R: Read>(source: &mut R, lines: &mut JournalLines) -> Result<Piece
     }
 }
 
-// Takes the next piece of the source, and each line that is whole now is heard. It says whether the source may have more.
+// Takes the next piece of the source, and passes on each line that is whole now. It returns whether the source may have more.
 fn take_lines<R: Read, H: Hears>(
     source: &mut R,
     lines: &mut JournalLines,
@@ -99,8 +99,9 @@ fn take_and_show<R: Read, H: Hears>(
     }
 }
 
-/// Reads the source to its end, in whatever pieces it comes, and each whole line is heard. What is to be shown is written as it comes. If
-/// nothing is, a line of progress stands on standard error meanwhile, if that is a terminal. After an error the lines before it were heard.
+/// Reads the source to its end, in whatever pieces it comes, and passes each whole line to the hearer. It writes what is to be shown at once. If
+/// `is_quiet`, it shows a line of progress on standard error meanwhile, if that is a terminal. After an error the hearer has received the lines
+/// before it.
 pub fn read_source<R: Read, H: Hears>(
     host: &HostRuntime,
     source: &mut R,
@@ -126,7 +127,7 @@ pub fn read_source<R: Read, H: Hears>(
     Err(JournalFault::Read(io::Error::from(ErrorKind::FileTooLarge)))
 }
 
-// Writes the line of progress anew.
+// Writes the line of progress again.
 fn tell_count(host: &HostRuntime, is_due: bool, count: u64) {
     if is_due {
         let _written = eprint!(host; "\r{count} lines");
@@ -140,14 +141,14 @@ fn tell_done(host: &HostRuntime, is_told: bool) {
     }
 }
 
-/// What is told of a file of the package that is read.
+/// The note on a file of the package that is read.
 pub(crate) const NONE_NAMED: &str = "read, since no journal is named";
 
 /// The journal of the package.
 const PACKAGED: &str = "/var/lib/jobd/journal.jsonl";
 
-/// The paths of the journals, the oldest first: those of the words, else that of `JOBD_JOURNAL`; and if standard input is a terminal, that of the
-/// package, which is told. None: the journal comes on standard input.
+/// The paths of the journals, the oldest first: those of the arguments, else that of `JOBD_JOURNAL`. If neither names one and standard input is a
+/// terminal, it takes the package's journal and prints a note. None: the journal comes on standard input.
 pub(crate) fn journal_paths(host: &HostRuntime, of: &ScopeCommand) -> Result<Paths, AllocError> {
     let mut paths = Vec::new(host.alloc());
     for path in of.journals.as_slice() {
@@ -168,7 +169,7 @@ pub(crate) fn journal_paths(host: &HostRuntime, of: &ScopeCommand) -> Result<Pat
     Ok(Paths::new(paths))
 }
 
-/// Whether a journal is found where the words name none: that of `JOBD_JOURNAL`, or in the place of a terminal that of the package.
+/// Whether a journal is found though the arguments name none: that of `JOBD_JOURNAL`, or the package's if standard input is a terminal.
 pub(crate) fn finds_journal(host: &HostRuntime) -> Result<bool, AllocError> {
     match env::var(host, "JOBD_JOURNAL") {
         Ok(path) if !path.is_empty() => Ok(true),
@@ -177,12 +178,12 @@ pub(crate) fn finds_journal(host: &HostRuntime) -> Result<bool, AllocError> {
     }
 }
 
-/// Whether the package's file at the path stands in for a terminal: standard input is one, and the file can be opened.
+/// Whether the package's file at the path is read instead of a terminal: standard input is one, and the file can be opened.
 pub(crate) fn stands_in(host: &HostRuntime, path: &str) -> bool {
     host.stdin().is_terminal() && open_journal(host, path).is_ok()
 }
 
-// Adds the path, if it is not empty. Behind the one with `.1`, if that is there, and if what is told of the past is asked for.
+// Adds the path, if it is not empty. If the task reports on the past, the path with `.1` comes before it, if that file exists.
 fn add_path(
     host: &HostRuntime,
     of: &ScopeCommand,
@@ -207,7 +208,7 @@ fn add_path(
     Ok(paths.push(Text::copy_of(alloc, path)?)?)
 }
 
-/// Opens a journal's file. InvalidInput for what is no plain file: it is not opened, so that nothing waits at a FIFO.
+/// Opens a journal's file. InvalidInput if it is not a plain file: it is not opened, so that nothing waits at a FIFO.
 pub(crate) fn open_journal(host: &HostRuntime, path: &str) -> io::Result<File> {
     if !metadata(host, path)?.is_file() {
         return Err(io::Error::new(ErrorKind::InvalidInput, "no plain file"));
@@ -215,7 +216,7 @@ pub(crate) fn open_journal(host: &HostRuntime, path: &str) -> io::Result<File> {
     File::open(host, path)
 }
 
-/// Tells the lines that are no event, which were left out, if there are some. It answers the exit status, which is 65 then.
+/// Reports the lines that are not events and were left out, if there are some. It returns the exit status, which is 65 then.
 pub(crate) fn tell_bad(host: &HostRuntime, name: &str, lines: &JournalLines) -> u8 {
     let first = lines.first_bad;
     let more = lines.bad.saturating_sub(1);

@@ -1,4 +1,4 @@
-//! What keeps a job from a start, and what wants it, as a list in the order in which it is told.
+//! What keeps a job from a start, and what wants it, as a list in the order in which it is shown.
 ghost use Rattle.std.specs.Prelude.{◌≡◌, ◌++◌, OnOk, IfOk};
 ghost use Rattle.scope.specs.Causes.{AreCauses};
 ghost use Rattle.scope.specs.CauseLists.{when, causes_holding, causes_wanting};
@@ -12,11 +12,11 @@ use std::alloc::{AllocError, Global};
 pub enum JobCause {
     /// An unload or a shutdown was asked.
     Removing,
-    /// A run lives.
+    /// A run is running.
     Child(StandingChild),
     /// The answer to this order is awaited.
     Awaited(Act),
-    /// `LaunchOnlyOnce`, and a start went well.
+    /// `LaunchOnlyOnce`, and a start succeeded.
     LaunchSpent,
     /// All runs are used up.
     RunsSpent,
@@ -25,7 +25,7 @@ pub enum JobCause {
     /// Nothing wants it.
     NotWanted,
     Demand,
-    /// So many connections wait.
+    /// This many connections wait.
     Connections(usize),
     KeepAlive,
     SuccessfulExit,

@@ -20,7 +20,7 @@ pub(crate) enum Wait {
     Unwanted,
     /// For the end of its throttle at this `up`, and for nothing else.
     Throttled(u64),
-    /// For what is told by the next line, as the answer to its start, or for what no clock brings.
+    /// For what the next line says, as the answer to its start, or for what the clocks don't bring.
     Other,
 }
 

@@ -17,7 +17,7 @@ use run_times::{Ink, Page, coming_second};
 use std::alloc::AllocError;
 use std::mem;
 
-/// An object has so many keys at most behind that of its kind.
+/// How many keys an object has at most after its kind.
 const MOST: usize = 9;
 
 /// The list of the causes of the job as JSON: an object for each thing that the table's reasons say, in order, and none besides. The page is as before,
@@ -59,7 +59,7 @@ fn put_cause(page: &mut Page<'_>, told: &ToldJob<'_>, cause: JobCause)
     put_object(page, "kind", kind_of(cause), &fields_of(told, cause));
 }
 
-// The word of a cause.
+// The name of a cause.
 fn kind_of(cause: JobCause) -> &'static str
     ensures { result.now ≡ kind_text cause }
 {
@@ -81,7 +81,7 @@ fn kind_of(cause: JobCause) -> &'static str
     }
 }
 
-// What is told of a cause beside its kind.
+// The fields of a cause besides its kind.
 fn fields_of<'a>(told: &ToldJob<'a>, cause: JobCause) -> [Field<'a>; MOST] {
     if let JobCause::Child(child) = cause {
         return child_fields(told, child);
@@ -107,7 +107,7 @@ fn fields_of<'a>(told: &ToldJob<'a>, cause: JobCause) -> [Field<'a>; MOST] {
     ]
 }
 
-// The first key of a cause behind that of its path.
+// The first key of a cause after that of its path.
 fn first_of(told: &ToldJob<'_>, cause: JobCause) -> (&'static str, Value<'static>) {
     match cause {
         JobCause::Removing => ("by", asked_by(told.asked)),
@@ -154,7 +154,7 @@ fn asked_at(asked: Option<(JobRequest, Reading)>) -> Value<'static> {
     }
 }
 
-// The run that lives, and what was asked and ordered for its end.
+// The run that is running, and what was asked and ordered for its end.
 fn child_fields<'a>(told: &ToldJob<'a>, child: StandingChild) -> [Field<'a>; MOST] {
     let (began, lived) = match &told.job.current {
         Some(run) => (Moment(run.begun.wall), Number(run.lived(told.at))),
@@ -187,7 +187,7 @@ fn coming(told: &ToldJob<'_>, when: OrderWhen) -> Value<'static> {
     }
 }
 
-// The word of an order whose answer is awaited, and its run.
+// The name of an order whose answer is awaited, and its run.
 fn order_of(act: Act) -> (&'static str, Value<'static>) {
     match act {
         Act::Spawn { run, .. } => ("start", Number(run)),

@@ -1,11 +1,11 @@
-//! How a file of a definition stands to what is loaded, as an object.
+//! How a file of a definition compares to what is loaded, as an object.
 
 use crate::objects::lines::text_of;
 use json_lines::Value::{Absent, Json, Text};
 use json_lines::{Field, put_line, put_texts};
 use run_times::{Ink, Page};
 
-/// Adds the line of a file, or of a loaded job that no file has: the word for how it stands, its label, the keys that differ, and the label that it had.
+/// Adds the line of a file, or of a loaded job that no file has: how it compares, its label, the keys that differ, and the former label.
 pub(crate) fn put_drift(
     page: &mut Page<'_>,
     word: &'static str,

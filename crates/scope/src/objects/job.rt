@@ -1,4 +1,4 @@
-//! Why a job stands as it does, as an object.
+//! Why a job is in its state, as an object.
 
 use crate::age::AsOf;
 use crate::journal::job::Record;
@@ -13,17 +13,17 @@ use json_lines::{Field, Value, put_line};
 use run_times::Page;
 use status_page::{Fault, Life};
 
-/// As of when jobs are told, and what is known of their launcher.
+/// As of when jobs are reported, and what is known of their launcher.
 #[derive(Clone, Copy)]
 pub(crate) struct Around {
     /// The second of the last event, or of the file.
     pub(crate) as_of: u64,
     pub(crate) launcher: Value<'static>,
-    /// Whether what is told of jobs may be so now.
+    /// Whether the report of the jobs may still hold now.
     pub(crate) may_live: bool,
 }
 
-/// What stands in the object of a job beside what is kept of its runs.
+/// What the object of a job has besides what is kept of its runs.
 #[derive(Clone, Copy)]
 pub(crate) struct Beside<'a> {
     pub(crate) state: &'static str,
@@ -32,13 +32,13 @@ pub(crate) struct Beside<'a> {
     pub(crate) fault: Option<Fault>,
     /// What the system said of its last start, which it refused.
     pub(crate) reason: Value<'a>,
-    /// When it starts by the clocks alone.
+    /// When time alone starts it.
     pub(crate) next: Value<'static>,
     pub(crate) is_disabled: bool,
     pub(crate) known: KnownLabel,
 }
 
-/// What is known of the launcher of a journal that is told so.
+/// What is known of the launcher of a journal that is reported as of then.
 pub(crate) fn around_journal(as_of: AsOf, last: Reading) -> Around {
     let (launcher, may_live) = match as_of {
         AsOf::Seen(_, Some(Writer::Process(_))) => (Text("lives"), true),
@@ -53,7 +53,7 @@ pub(crate) fn around_journal(as_of: AsOf, last: Reading) -> Around {
     }
 }
 
-/// What is known of that of a status file.
+/// What is known of the launcher of a status file.
 pub(crate) fn around_file(life: Life, at: Reading) -> Around {
     let launcher = match life {
         Life::Lives => "lives",

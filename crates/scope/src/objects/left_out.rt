@@ -7,7 +7,7 @@ use json_lines::{Field, put_line};
 use run_times::Page;
 use status_page::{LeftOut, Standing, is_told};
 
-/// Adds an object for each definition that the boot left out, or for those that words mean, and answers how many there are.
+/// Adds an object for each definition that the boot left out, or for those that the arguments mean. It returns how many there are.
 pub(crate) fn put_left_out(
     page: &mut Page<'_>,
     standing: &Standing,

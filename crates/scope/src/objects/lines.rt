@@ -3,10 +3,10 @@
 use history_model::{Ended, Reading};
 use json_lines::{Field, Value};
 
-/// What stands where an object has no further key.
+/// Fills the places where an object has no further key.
 pub(crate) const NONE: Field<'static> = Field("", Value::Absent);
 
-/// The moment of a reading, if there is one.
+/// The time of a clock reading, if there is one.
 pub(crate) fn moment_of(reading: Option<Reading>) -> Value<'static> {
     match reading {
         Some(at) => Value::Moment(at.wall),

@@ -10,7 +10,7 @@ use run_times::{Ink, Page};
 use std::alloc::{AllocError, Global};
 use std::str::from_utf8;
 
-/// Adds the line of a job: when it was loaded, where what it writes goes, what of its definition is not acted on, and the definition.
+/// Adds the line of a job: when it was loaded, where its output goes, which keys of its definition are ignored, and the definition.
 pub(crate) fn put_loaded(page: &mut Page<'_>, label: &str, def: &Def, text: &str, at: Reading) {
     match (unheeded(page.alloc, def), on_one_line(page.alloc, text)) {
         (Ok(unheeded), Ok(definition)) => {
@@ -56,7 +56,7 @@ fn unheeded(alloc: Global, def: &Def) -> Result<String, AllocError> {
     ink.into_text()
 }
 
-// The JSON without what stands between its parts for people. No text of JSON goes over a line.
+// The JSON without the white space between its parts. A string of JSON never goes over a line.
 fn on_one_line(alloc: Global, text: &str) -> Result<String, AllocError> {
     let bytes = laid_out(alloc, text)?;
     let mut ink = Ink::new(alloc);

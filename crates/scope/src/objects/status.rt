@@ -98,7 +98,7 @@ fn word_of(state: ShownState) -> &'static str
     }
 }
 
-// When it starts by the clocks alone, also one that has been due since, or what it waits for.
+// When time alone starts it, also a start that is overdue, or what it waits for.
 fn next_of(row: &Row<'_>) -> (Value<'static>, Value<'static>) {
     match row.next {
         Next::Clock(StartWhen::At(second) | StartWhen::Since(second)) => {

@@ -1,4 +1,4 @@
-//! Why each job of a journal or of a status file stands as it does, an object a job.
+//! Why each job of a journal or of a status file is in its state, an object a job.
 
 use crate::age::{AsOf, clock_as_of, reading_as_of};
 use crate::journal::job::Record;
@@ -6,6 +6,7 @@ use crate::journal::labels::KnownLabel;
 use crate::journal::reader::OpenJournal;
 use crate::objects::causes::causes_list;
 use crate::objects::job::{Around, Beside, around_file, around_journal, put_job, put_unloaded};
+use crate::objects::left::put_left;
 use crate::objects::left_out::put_left_out;
 use crate::texts::failing::job_fault;
 use crate::texts::since::start_second;
@@ -17,12 +18,13 @@ use history_model::{Entry, Reading};
 use json_lines::Value;
 use json_lines::Value::{Absent, Json, Moment, Text};
 use launchctl_words::ScopeCommand;
+use leftovers::RunProcess;
 use run_times::Page;
 use status_file::{JobFacts, JobStatus, StatusLine, state_name, state_of};
 use status_page::{Standing, gone_on, is_asked, reading_of, told_as_of, within_limits};
 use std::alloc::{AllocError, Global};
 
-/// An object for each job or label that `why_text` tells, in order, or for those alone that fail; and how many fail.
+/// An object for each job or label that `why_text` shows, in order, or only for those that fail; and how many fail.
 pub(crate) fn why_objects(
     alloc: Global,
     journal: &OpenJournal,
@@ -101,7 +103,7 @@ struct Clocks<'a> {
     clock: Reading,
 }
 
-// Adds the line of a job, with its causes, and when it starts by the clocks alone.
+// Adds the line of a job, with its causes, and when time alone starts it.
 fn put_living(
     page: &mut Page<'_>,
     label: &str,
@@ -146,15 +148,16 @@ fn put_whole<'x>(
     put_job(page, label, told.job, &whole, around);
 }
 
-/// An object for each job of the file, or for each of those named, in order, or for those alone that fail; and how many fail.
+/// An object for each job of the file, or for each of those named, in order, or only for those that fail; and how many fail.
 pub(crate) fn standing_objects(
     alloc: Global,
     standing: &Standing,
     of: &ScopeCommand,
     second: u64,
+    left: &[RunProcess],
 ) -> Result<(String, u64), AllocError> {
     let zone = standing.zone(alloc, false)?;
-    let objects = objects_in(alloc, standing, of, second, &zone);
+    let objects = objects_in(alloc, standing, of, second, &zone, left);
     drop(zone);
     objects
 }
@@ -166,6 +169,7 @@ fn objects_in(
     of: &ScopeCommand,
     second: u64,
     zone: &Zone,
+    left: &[RunProcess],
 ) -> Result<(String, u64), AllocError> {
     let shown = standing.zone(alloc, of.is_utc)?;
     let last = reading_of(standing);
@@ -194,6 +198,9 @@ fn objects_in(
             }
         }
     }
+    if !of.is_failing {
+        put_left(&mut page, left, around);
+    }
     let left_out = put_left_out(&mut page, standing, of.words.as_slice(), around);
     count = count.saturating_add(left_out);
     let text = page.into_text();
@@ -204,7 +211,7 @@ fn objects_in(
     }
 }
 
-/// A launcher's zone, its last reading, and its clocks as they went on since.
+/// A launcher's zone, its last clock reading, and its clocks as they went on since.
 #[derive(Clone, Copy)]
 struct ByFile<'a> {
     zone: &'a Zone,
@@ -212,7 +219,7 @@ struct ByFile<'a> {
     clock: Reading,
 }
 
-// Adds the line of a job of a file. Of a launcher that is gone its causes are not told.
+// Adds the line of a job of a file. If its launcher has exited, the causes are left out.
 fn put_status(
     page: &mut Page<'_>,
     line: &StatusLine,
@@ -236,7 +243,7 @@ fn put_status(
     }
 }
 
-// Adds the line of a job of a launcher that may live.
+// Adds the line of a job of a launcher that may be running.
 fn put_standing(
     page: &mut Page<'_>,
     job: &JobStatus<'_>,
@@ -267,7 +274,7 @@ fn reason_of<'a>(job: &JobStatus<'a>) -> Value<'a> {
     }
 }
 
-/// A status file tells of a label by its job alone.
+/// A status file knows of a label only what its job has.
 const NOTHING: KnownLabel = KnownLabel {
     disabled: None,
     refused: None,

@@ -1,4 +1,4 @@
-//! What the texts say of a job by its facts, as plain values: when TERM and KILL come, and by which word a client can ask for a start.
+//! What the texts say of a job by its facts, as plain values: when TERM and KILL come, and with which command a client can ask for a start.
 
 ghost use Rattle.std.specs.Prelude.{◌≡◌, ℕ, Bool};
 ghost use Rattle.history_model.specs.NextMomentByFacts.{has_come};
@@ -10,7 +10,7 @@ ghost use Rattle.scope.specs.ByFacts.{ComesSo, AsksBy};
 use history_model::Reasons;
 use job_table::Moments;
 
-/// When an order comes, if nothing but readings happens.
+/// When an order comes, if nothing happens but that the clocks go on.
 #[derive(Clone, Copy)]
 pub(crate) enum OrderWhen {
     Never,
@@ -20,7 +20,7 @@ pub(crate) enum OrderWhen {
     At(u64),
 }
 
-/// When KILL comes for the run that lives, by the moments that the table gives at this `up`.
+/// When KILL comes for the run that is running, by the deadlines that the table gives at this `up`.
 pub(crate) fn kill_when(moments: &Moments, up: u64) -> OrderWhen
     ensures { (past : History) → AreMoments past moments.now →
         ComesSo (λ at. may_kill_when at past) up result }
@@ -28,7 +28,7 @@ pub(crate) fn kill_when(moments: &Moments, up: u64) -> OrderWhen
     order_when(moments.kill, up)
 }
 
-/// When TERM comes for the run that lives, once more if one was refused.
+/// When TERM comes for the run that is running, once more if one was refused.
 pub(crate) fn term_when(moments: &Moments, up: u64) -> OrderWhen
     ensures { (past : History) → AreMoments past moments.now →
         ComesSo (λ at. may_term_when at past) up result }
@@ -46,16 +46,16 @@ fn order_when(from: Option<u64>, up: u64) -> OrderWhen
     }
 }
 
-/// By which word of `jobctl` a client can ask for a start.
+/// With which command of `jobctl` a client can ask for a start.
 #[derive(Clone, Copy)]
 pub(crate) enum StartWord {
     Start,
-    /// `kickstart -k`, which ends the run that lives.
+    /// `kickstart -k`, which ends the present run.
     Kickstart,
 }
 
-/// By which word a client can ask for a start: `start`, where it is a demand. It is none of a job that runs and is not being stopped. While a
-/// start is awaited the reasons do not tell whether a stop was asked.
+/// With which command a client can ask for a start: `start`, where that makes a start request. A job that runs and is not being stopped has
+/// none. While a start is awaited the reasons don't say whether a stop was asked.
 pub(crate) fn start_word(reasons: &Reasons) -> StartWord
     ensures { (past : History) → reasons.now ≡ reasons_of past → AsksBy past result }
 {

@@ -12,8 +12,8 @@ use crate::texts::told::{Sentence, ToldJob};
 use run_times::Page;
 use status_page::can_start_again;
 
-/// Adds a line for each cause of the job, in order: for each thing that the table's reasons say, and for nothing else. It says whether the only
-/// one is that nothing wants the job.
+/// Adds a line for each cause of the job, in order: for each thing that the table's reasons say, and for nothing else. It returns whether the
+/// only one is that nothing wants the job.
 pub(crate) fn add_causes(page: &mut Page<'_>, told: &ToldJob<'_>) -> bool
     ensures { page.new.ink.is_refused ≡ false →
         TellsCauses told.now.facts.reasons page.old.ink page.new.ink }
@@ -43,7 +43,7 @@ fn add_lines(page: &mut Page<'_>, told: &ToldJob<'_>, causes: &[JobCause])
     }
 }
 
-// The line of a cause: its first words, and the sentences that end it.
+// The line of a cause: how it begins, and the sentences that end it.
 fn add_line(page: &mut Page<'_>, told: &ToldJob<'_>, cause: JobCause)
     ensures { (more : List ℕ) × Adds (front_of cause ++ (more ++ 10 ∷ [])) page.old.ink page.new.ink }
 {

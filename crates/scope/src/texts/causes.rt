@@ -1,4 +1,4 @@
-//! What stands behind the first words of the line of a cause.
+//! What follows the beginning of the line of a cause.
 
 use crate::journal::job::{JobRequest, Record};
 use crate::journal::telling::JobCause;
@@ -45,7 +45,7 @@ fn removing_said(asked: Option<(JobRequest, Reading)>) -> Sentences<'static> {
     }
 }
 
-// Since when the run lives, and what was asked and ordered for its end.
+// Since when the run is running, and what was asked and ordered for its end.
 fn child_said(told: &ToldJob<'_>, child: StandingChild) -> Sentences<'static> {
     let mut said = match &told.job.current {
         Some(run) => alone(
@@ -63,8 +63,8 @@ fn child_said(told: &ToldJob<'_>, child: StandingChild) -> Sentences<'static> {
     said
 }
 
-// Which signals were ordered for the run that lives, and when KILL follows. That it is due, and waits for the answer to TERM, is so of a run
-// that a `kickstart -k` struck.
+// Which signals were ordered for the present run, and when KILL follows. That KILL is due, and waits for the answer to TERM, is so of a run
+// that `kickstart -k` kills.
 fn signals_said(told: &ToldJob<'_>) -> Sentence<'static> {
     let when = kill_when(&told.facts.moments, told.at.up);
     let (form, at, up) = match (told.job.kill, told.job.term, when) {
@@ -166,7 +166,7 @@ pub(crate) fn path_said<'a>(told: &ToldJob<'a>) -> Sentences<'a> {
     alone(form, Text(path), NONE)
 }
 
-/// That of `QueueDirectories`. A path of `PathState` is named in place of a folder.
+/// The end of the line of `QueueDirectories`. A path of `PathState` is named in place of a folder.
 pub(crate) fn queue_said<'a>(told: &ToldJob<'a>) -> Sentences<'a> {
     let folder = match told.facts.path {
         Some(path) if !told.facts.reasons.wants.path_state => path,

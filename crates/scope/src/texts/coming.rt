@@ -1,4 +1,4 @@
-//! By what a job that nothing wants will be wanted, in words.
+//! What can come to want a job that nothing wants now, in sentences.
 
 use crate::texts::by_facts::{StartWord, start_word};
 use crate::texts::told::{
@@ -41,7 +41,7 @@ pub(crate) fn queued_said<'a>(folders: KeyPaths<'a>) -> Sentence<'a> {
     )
 }
 
-/// By its sockets, and by which word of a client.
+/// Its sockets, and the command with which a client can ask for a start.
 pub(crate) fn asked_said(told: &ToldJob<'_>) -> Sentences<'static> {
     let mut said = [SILENCE; MOST_SENTENCES];
     said[0] = said_if(
@@ -58,7 +58,7 @@ pub(crate) fn asked_said(told: &ToldJob<'_>) -> Sentences<'static> {
     said
 }
 
-// By which path it comes to be wanted: the form for one path alone, or that for the first of several.
+// The path by which it comes to be wanted. One form is for a single path, and the other for the first of several.
 fn paths_said<'a>(paths: KeyPaths<'a>, one: &'static str, several: &'static str) -> Sentence<'a> {
     let Some(first) = paths.first else {
         return SILENCE;
@@ -146,7 +146,7 @@ fn calendar_said(next: CalendarNext) -> Sentence<'static> {
     (form, [Minute(wall), NONE, NONE, NONE])
 }
 
-// The moment at which its interval is over, and its seconds.
+// When its interval is over, and its seconds.
 fn interval_said(interval: Option<u32>, end: Option<u64>) -> Sentence<'static> {
     match (interval, end) {
         (Some(seconds), Some(up)) => (

@@ -72,7 +72,7 @@ fn add_if_failing(
     true
 }
 
-/// Why a loaded job is told as failing, if it is: also since a minute of its calendar passed while no launcher ran.
+/// Why a loaded job is reported as failing, if it is: also since a minute of its calendar passed while no launcher ran.
 pub(crate) fn job_fault(
     journal: &OpenJournal,
     job: &KeptJob,
@@ -97,7 +97,7 @@ pub(crate) fn missed_by(journal: &OpenJournal, job: &KeptJob) -> Option<u64> {
     )
 }
 
-// Why a job is told as failing, if it is, by what is kept of its past.
+// Why a job is reported as failing, if it is, by what is kept of its past.
 fn fault_in(facts: &JobFacts<'_>, record: &Record, may_live: bool) -> Option<Fault> {
     let is_refused = record.refused_at().is_some();
     fault_of(may_live, &facts.reasons, is_refused, last_end_in(record))

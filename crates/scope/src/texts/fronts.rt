@@ -1,4 +1,4 @@
-//! The first words of the line of a cause.
+//! How the line of a cause begins.
 
 ghost use Rattle.std.specs.Prelude.{◌++◌};
 ghost use Rattle.std.specs.Fmt.{decimal};
@@ -10,7 +10,7 @@ use history_model::{Act, StandingChild};
 use run_times::Ink;
 use run_times::Piece::{Number, Text};
 
-/// Adds the words by which the line of the cause begins, with its numbers.
+/// Adds how the line of the cause begins, with its numbers.
 pub(crate) fn put_front(ink: &mut Ink, cause: JobCause)
     ensures { Adds (front_of cause) ink.old ink.new }
 {
@@ -49,7 +49,7 @@ fn put_numbered(ink: &mut Ink, words: &str, number: u64)
     ink.put_all(&[Text(words), Number(number)]);
 }
 
-// Those of an order whose answer is awaited.
+// Adds how the line of an order begins whose answer is awaited.
 fn put_order(ink: &mut Ink, act: Act)
     ensures { Adds (front_of_order act) ink.old ink.new }
 {

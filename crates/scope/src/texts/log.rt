@@ -17,7 +17,7 @@ use run_times::{Filling, Page, coming_second};
 const BACKGROUND: &str =
     ". Does its program put itself in the background? It has to stay in the foreground.\n";
 
-/// Whether the label is among those; each is if there is none.
+/// Whether the label is among those; without labels, each is.
 pub(crate) fn is_named(labels: &[history_model::Text], label: &str) -> bool {
     for named in labels {
         if named.as_str() == label {
@@ -48,7 +48,7 @@ pub(crate) fn add_lines(
     }
 }
 
-// Behind a load stands that a minute of its calendar passed while no launcher ran, if one did.
+// After a load it adds that a minute of the job's calendar passed while no launcher ran, if one did.
 fn add_missed(page: &mut Page<'_>, journal: &OpenJournal, news: &News) {
     let missed = match news.what {
         What::Loaded => match journal.past.jobs.get(news.label.as_str()) {
@@ -90,7 +90,7 @@ fn until_of(journal: &OpenJournal, news: &News, now: Reading) -> u64 {
     }
 }
 
-// The path is that which holds its job wanted, if what is told is an order of a start; until then its throttle lasts, if it waits for that.
+// For an order of a start, `path` is the one that keeps its job wanted. If the job waits for its throttle, this lasts until `until`.
 fn add_news(page: &mut Page<'_>, news: &News, path: Option<&str>, until: u64) {
     let label = news.label.as_str();
     let front = if label.is_empty() { "$  " } else { "$  $: " };
@@ -122,7 +122,7 @@ fn add_refused(page: &mut Page<'_>, refusal: Refusal) {
     page.add(form, &[Text(words), Text(reason), Text(key)]);
 }
 
-// What is told by one form with two holes.
+// The news that one form with two holes can say.
 fn add_what(page: &mut Page<'_>, what: &What) {
     let none = Text("");
     let (form, first, second) = match *what {

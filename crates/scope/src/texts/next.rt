@@ -1,4 +1,4 @@
-//! The coming starts of a journal's jobs by the clocks.
+//! The coming starts of a journal's jobs by time alone.
 
 use crate::age::{AsOf, add_head};
 use crate::journal::job::KeptJob;
@@ -16,10 +16,10 @@ use std::alloc::{AllocError, Global};
 /// What is asked of the coming starts.
 #[derive(Clone, Copy)]
 pub(crate) struct AskedStarts<'a> {
-    /// The zone in which moments are shown.
+    /// The zone in which times are shown.
     pub(crate) zone: &'a Zone,
     pub(crate) as_of: AsOf,
-    /// Each of them, and not the next of each job alone.
+    /// Each of them, and not only the next of each job.
     pub(crate) is_all: bool,
     pub(crate) telling: Telling,
 }
@@ -119,7 +119,7 @@ fn add_starts<'a>(
 struct Adding<'a> {
     label: &'a str,
     def: &'a Def,
-    /// Its starts behind the next one are asked for.
+    /// The starts after its next one are asked for.
     is_all: bool,
 }
 

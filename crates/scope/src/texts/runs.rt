@@ -10,10 +10,11 @@ use std::alloc::{AllocError, Global};
 const HEAD: &str =
     "label\tstarts\trefused\tcode\tsignal\tcrashes\tshortest\tmedian\tlongest\tup\tgap\tnonzero\n";
 
-/// A head, and a line for each job, or for each of those named that the journal has: starts, those refused, ends with a code and by
-/// a signal, crashes; the shortest, median and longest run in seconds (the median of the runs that are over and kept; of an even number
-/// the lower of the two in the middle), the share of the time that it was up while it was loaded, and the longest time without a
-/// run in seconds; last the exits with a code above 0. `-` stands where there is none.
+/// A head, and a line for each job, or for each of the named ones that the journal has. Its first columns are starts, refused starts, exits
+/// with a code and by a signal, and crashes. Then come the shortest, median and longest run in seconds. The median is that of the completed
+/// runs that are kept; of an even number it is the lower of the two in the middle. Then come the share of the time that the job was up
+/// while it was loaded, and the longest time without a run in seconds. The last column is the exits with a code above 0. `-` means that
+/// there is no value.
 pub(crate) fn runs_table(
     alloc: Global,
     past: &Past,
@@ -36,7 +37,7 @@ pub(crate) fn runs_table(
     ink.into_text()
 }
 
-/// The jobs of the rows: all, or those named, in the order of the words.
+/// The jobs of the rows: all, or those named, in the order of the arguments.
 pub(crate) fn asked_jobs<'a>(
     alloc: Global,
     past: &'a Past,
@@ -57,7 +58,7 @@ pub(crate) fn asked_jobs<'a>(
     Ok(jobs)
 }
 
-/// The job of each run that is kept, and how long it lived, in rising order.
+/// The job of each run that is kept, and how long it ran, in rising order.
 pub(crate) fn lengths(
     alloc: Global,
     past: &Past,
@@ -133,12 +134,12 @@ fn add_known(ink: &mut Ink, is_known: bool, milliseconds: u64) {
     }
 }
 
-// Where the lengths of the job begin, or those of the next that has some.
+// Where the lengths of the job begin, or the lengths of the next job that has some.
 fn first_from(lengths: &[(u64, u64)], job: u64) -> usize {
     lengths.partition_point(|of| of.0 < job)
 }
 
-// Seconds with three digits behind the point.
+// Seconds with three digits after the point.
 fn add_seconds(ink: &mut Ink, milliseconds: u64) {
     let rest = milliseconds % 1000;
     ink.put_all(&[

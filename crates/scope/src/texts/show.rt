@@ -11,8 +11,9 @@ use run_times::Page;
 use std::alloc::{AllocError, Global};
 use std::str::from_utf8;
 
-/// For each loaded job, or for those of the named ones that are loaded: when it was loaded, where what it writes goes, what of its definition
-/// is not acted on, and the definition, a line for each member and item; or the same as an object. Moments are shown in the zone.
+/// For each loaded job, or for those of the named ones that are loaded: when it was loaded, where its output goes, and which keys of its
+/// definition are ignored. The definition follows, a line for each member and item. With JSON it is all one object. Times are shown in the
+/// zone.
 pub(crate) fn show_text(
     alloc: Global,
     journal: &OpenJournal,
@@ -67,7 +68,7 @@ fn add_stream(page: &mut Page<'_>, front: &str, path: Option<&str>) {
     }
 }
 
-// What of its definition nothing acts on.
+// Which keys of its definition are ignored.
 fn add_unheeded(page: &mut Page<'_>, def: &Def) {
     for name in def.not_acted_on() {
         page.add("  Nothing acts on $.\n", &[Text(name.as_str())]);

@@ -1,4 +1,4 @@
-//! What came due by the clocks alone since a journal's last event or since a launcher wrote its file, and when they start a job.
+//! What came due by time alone since a journal's last event or since a launcher wrote its file, and when time alone starts jobs.
 
 ghost use Rattle.std.specs.Prelude.{◌≡◌, ◌≤◌, ℕ, Bool};
 ghost use Rattle.history_model.specs.declared.TheConstants.{MAX_UP, MAX_WALL};
@@ -15,7 +15,7 @@ use run_times::{Page, coming_second};
 use status_file::JobFacts;
 use status_page::{StartWhen, ThrottleEnd, second_told, start_when};
 
-/// When KILL came due for the run that lives: after this `up` of the last reading, and up to now.
+/// When KILL came due for the present run: after this `up` of the last clock reading, and not after now.
 pub(crate) fn kill_since(moments: &Moments, last: u64, now: u64) -> Option<u64>
     ensures { (past : History) → AreMoments past moments.now →
         ComesSince (λ at. may_kill_when at past) last now result }
@@ -53,8 +53,8 @@ pub(crate) fn reasons_then(reasons: &Reasons, up: u64) -> Reasons
     then
 }
 
-/// Adds when the job starts by the clocks alone, or what came due by them after the last reading and up to now. Of a job that waits for
-/// nothing but to be wanted, a start that comes was told among the ways.
+/// Adds when time alone starts the job, or what came due after the last clock reading and up to now. If the job waits only to be wanted, the ways
+/// to its start have named the coming start already.
 pub(crate) fn add_coming(
     page: &mut Page<'_>,
     facts: &JobFacts<'_>,
@@ -94,8 +94,8 @@ pub(crate) fn add_coming(
     add_since(page, "TERM for its run", term, last);
 }
 
-/// The second at which the job starts by the clocks alone, also one that is over: then the start has been due since. One at the end of the throttle is
-/// told as by `add_coming`.
+/// The second at which time alone starts the job. It may be past: then the start is overdue since that second. The end of the throttle is shown as
+/// by `add_coming`.
 pub(crate) fn start_second(
     facts: &JobFacts<'_>,
     entries: &[Entry],

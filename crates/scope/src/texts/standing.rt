@@ -1,4 +1,4 @@
-//! Why each job stands as it does, by its launcher's file, and which of them fail.
+//! Why each job is in its state, by its launcher's file, and which of them fail.
 
 use crate::journal::job::Record;
 use crate::journal::run::{JobRun, RunEnd};
@@ -8,6 +8,7 @@ use crate::texts::told::ToldJob;
 use crate::texts::why::{add_last_end, add_refused, add_stand, facts_then, throttle_shown};
 use calendar_due::Zone;
 use history_model::{Ended, Entry, Reading, StandingChild};
+use leftovers::RunProcess;
 use run_times::Filling::{Number, Text, Time};
 use run_times::Page;
 use status_file::{DisabledBy, JobNote, JobStatus, RunEnd as EndOfRun, StatusLine};
@@ -17,20 +18,21 @@ use status_page::{
 };
 use std::alloc::{AllocError, Global};
 
-/// A job is in the file at most so many seconds after its load.
+/// How many seconds after its load a job is in the file at the latest.
 const WRITTEN: u64 = 2;
 
-/// For each job of the file, or for those named: its state, a line for each thing that keeps it from a start or wants it, how it ended last, that its
-/// last start was refused, with the system's reason, and when it starts, told at a second. Moments are shown in the launcher's zone or in UTC.
+/// For each job of the file, or for those named: its state, a line for each thing that keeps it from a start or wants it, and its last exit. The
+/// system's reason follows if its last start was refused, and then when it starts, as of a second. Times are shown in the launcher's zone or in UTC.
 pub(crate) fn standing_text(
     alloc: Global,
     standing: &Standing,
     labels: &[history_model::Text],
     is_utc: bool,
     second: u64,
+    left: &[RunProcess],
 ) -> Result<String, AllocError> {
     let zone = standing.zone(alloc, false)?;
-    let text = text_in(alloc, standing, labels, is_utc, second, &zone);
+    let text = text_in(alloc, standing, labels, is_utc, second, &zone, left);
     drop(zone);
     text
 }
@@ -43,6 +45,7 @@ fn text_in(
     is_utc: bool,
     second: u64,
     zone: &Zone,
+    left: &[RunProcess],
 ) -> Result<String, AllocError> {
     let shown = standing.zone(alloc, is_utc)?;
     let last = reading_of(standing);
@@ -56,16 +59,67 @@ fn text_in(
         if let Ok(job) = line.job() {
             if is_asked(labels, job.label) {
                 add_job(&mut page, zone, standing, line, &job, clock);
+                add_left(&mut page, job.label, left);
             }
         }
     }
+    add_left_of_others(&mut page, standing, left);
     let _count = add_left_out(&mut page, standing, labels);
     let text = page.into_text();
     drop(shown);
     text
 }
 
-// What is told of a job. Of a launcher that is gone its causes are not: they were those of another moment.
+// A line for each process that runs of the job left running.
+fn add_left(page: &mut Page<'_>, label: &str, left: &[RunProcess]) {
+    for process in left {
+        if process.label.as_str() == label {
+            add_process(page, process);
+        }
+    }
+}
+
+// The same of labels that are not loaded.
+fn add_left_of_others(page: &mut Page<'_>, standing: &Standing, left: &[RunProcess]) {
+    for process in left {
+        let label = process.label.as_str();
+        if !has_line(standing, label) {
+            page.add(
+                "\nProcess $ ($) of run $ of $, which is not loaded, still runs.\n",
+                &[
+                    Number(u64::from(process.pid)),
+                    Text(process.name.as_str()),
+                    Number(process.run),
+                    Text(label),
+                ],
+            );
+        }
+    }
+}
+
+// Whether the file has a line of this job that was asked for.
+fn has_line(standing: &Standing, label: &str) -> bool {
+    for line in standing.jobs() {
+        match line.job() {
+            Ok(job) if job.label == label => return true,
+            _ => {}
+        }
+    }
+    false
+}
+
+fn add_process(page: &mut Page<'_>, process: &RunProcess) {
+    page.add(
+        "  Process $ ($) of its run $ still runs.\n",
+        &[
+            Number(u64::from(process.pid)),
+            Text(process.name.as_str()),
+            Number(process.run),
+        ],
+    );
+}
+
+// The report on a job. If the launcher has exited, its causes are left out: they were those of another time.
 fn add_job(
     page: &mut Page<'_>,
     zone: &Zone,
@@ -118,7 +172,7 @@ fn add_living(
     add_coming(page, facts, entries, zone, last, clock, is_idle, end);
 }
 
-/// What is told of a job of a launcher that may live, whose zone this is.
+/// What the report on a job needs, if its launcher may be running and has this zone.
 pub(crate) fn told_of<'a>(
     page: &Page<'_>,
     zone: &Zone,
@@ -136,7 +190,7 @@ pub(crate) fn told_of<'a>(
     }
 }
 
-// That a job's launcher is gone, and which process its run had.
+// That a job's launcher has exited, and the PID of its run.
 fn add_gone(page: &mut Page<'_>, job: &JobStatus<'_>) {
     page.add(
         "\n$ is run by no launcher: that of this file is gone.\n",
@@ -179,7 +233,7 @@ fn add_disabled(page: &mut Page<'_>, job: &JobStatus<'_>) {
     page.add(form, &[Text(job.label)]);
 }
 
-/// What a launcher heard of a job, as it is kept of a journal.
+/// What a launcher knows of a job, in the form that is kept of a journal.
 pub(crate) fn record_of(note: &JobNote<'_>, child: Option<StandingChild>) -> Record {
     let mut record = Record::new(0, note.since);
     record.starts = note.starts;
@@ -326,7 +380,7 @@ fn add_if_failing(
     true
 }
 
-/// Why a job of a file is told as failing, if it is: also since a minute of its calendar passed while no launcher ran.
+/// Why a job of a file is reported as failing, if it is: also since a minute of its calendar passed while no launcher ran.
 pub(crate) fn line_fault(
     alloc: Global,
     standing: &Standing,
@@ -356,7 +410,7 @@ pub(crate) fn missed_fault(minute: Option<u64>) -> Option<Fault> {
     }
 }
 
-// Why a job of a file is told as failing, if it is, by its runs.
+// Why a job of a file is reported as failing, if it is, by its runs.
 fn file_fault(job: &JobStatus<'_>, may_live: bool) -> Option<Fault> {
     let note = &job.note;
     let is_refused = match &note.refused {

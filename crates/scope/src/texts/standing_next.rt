@@ -1,4 +1,4 @@
-//! The next starts of a launcher's jobs by the clocks, by its own file.
+//! The next starts of a launcher's jobs by time alone, by its own file.
 
 ghost use Rattle.std.specs.Prelude.{◌≤◌};
 ghost use Rattle.history_model.specs.declared.TheConstants.{MAX_UP, MAX_WALL};
@@ -16,7 +16,7 @@ use status_page::{
 };
 use std::alloc::{AllocError, Global};
 
-/// As of when a file is told: the launcher's reading, the second that is now, and the later one of both.
+/// As of when a file is reported: the launcher's clock reading, the second that is now, and the later one of both.
 #[derive(Clone, Copy)]
 struct Moments {
     at: Reading,
@@ -26,7 +26,8 @@ struct Moments {
     ghost wall: { at.wall ≤ MAX_WALL },
 }
 
-/// The next start of each job of the file, told at a second. Of a launcher that is gone none is told, and no job as one that has no clock.
+/// The next start of each job of the file, as of a second. If the launcher has exited, no start is shown, and no job is reported to have no
+/// schedule.
 pub(crate) fn standing_lines(
     alloc: Global,
     standing: &Standing,
@@ -90,7 +91,7 @@ fn lines_of(
     }
 }
 
-// The text, by the zone in which moments are shown.
+// The text, by the zone in which times are shown.
 fn text_of(
     alloc: Global,
     standing: &Standing,

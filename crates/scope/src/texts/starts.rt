@@ -1,4 +1,4 @@
-//! Coming starts by the clocks, in the order of time: a line each, or an object.
+//! Coming starts by time alone, in the order of time: a line each, or an object.
 
 use calendar_due::Zone;
 use definition_files::{calendar_after, put_start};
@@ -20,18 +20,18 @@ pub(crate) struct ComingLines {
 pub(crate) struct Start<'a> {
     pub(crate) label: &'a str,
     pub(crate) at: u64,
-    /// Its interval, of so many seconds, is over then; where none, an entry of its calendar matches, or both clocks together start it.
+    /// How many seconds its interval has, which is over then. None: an entry of its calendar matches, or interval and calendar together start it.
     pub(crate) every: Option<u32>,
-    /// Its definition, if its starts behind this one are asked for.
+    /// Its definition, if its starts after this one are asked for.
     pub(crate) def: Option<&'a Def>,
 }
 
-/// How starts are told.
+/// How starts are listed.
 #[derive(Clone, Copy)]
 pub(crate) struct Telling {
-    /// They come behind this second.
+    /// They come after this second.
     pub(crate) now: u64,
-    /// At most so many are told.
+    /// How many are listed at most.
     pub(crate) count: u64,
     /// Each as an object of JSON.
     pub(crate) is_json: bool,
@@ -58,7 +58,7 @@ pub(crate) fn put_starts(
     }
 }
 
-// The place of the start that comes first, of several the first; the place behind them if none comes.
+// The index of the start that comes first, of several the first; the length of the slice if none comes.
 fn soonest(starts: &[Start<'_>]) -> usize {
     let mut found = starts.len();
     let mut least = u64::MAX;

@@ -1,20 +1,20 @@
-//! What is told of one job, and the sentences that tell it.
+//! What is reported of one job, and the sentences that say it.
 
 use crate::journal::job::{JobRequest, Record};
 use history_model::Reading;
 use run_times::Filling;
 use status_file::{JobFacts, JobKeys};
 
-/// A sentence: its form, and what stands in the holes. An empty form says nothing.
+/// A sentence: its form, and what fills its holes. An empty form says nothing.
 pub(crate) type Sentence<'a> = (&'static str, [Filling<'a>; 4]);
 
-/// What stands where a form has no hole.
+/// Fills the places for which a form has no hole.
 pub(crate) const NONE: Filling<'static> = Filling::Text("");
 
 /// What says nothing.
 pub(crate) const SILENCE: Sentence<'static> = ("", [NONE; 4]);
 
-/// How many sentences a line may have behind its first words.
+/// How many sentences a line may have after its beginning.
 pub(crate) const MOST_SENTENCES: usize = 6;
 
 /// The sentences of a line, in order.
@@ -25,7 +25,7 @@ pub(crate) fn said_if(holds: bool, words: &'static str) -> Sentence<'static> {
     (if holds { words } else { "" }, [NONE; 4])
 }
 
-/// One sentence alone, with two holes at most.
+/// A single sentence, with two holes at most.
 pub(crate) fn alone<'a>(
     form: &'static str,
     first: Filling<'a>,
@@ -39,7 +39,7 @@ pub(crate) fn alone<'a>(
 /// A job, what the table says of it, and what is kept of its past.
 #[derive(Clone, Copy)]
 pub(crate) struct ToldJob<'a> {
-    /// The reading as of which it is told.
+    /// The clock reading as of which the job is reported.
     pub(crate) at: Reading,
     pub(crate) facts: JobFacts<'a>,
     /// What was asked of it last, or of all jobs.

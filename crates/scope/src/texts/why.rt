@@ -1,4 +1,4 @@
-//! Why each job stands as it does, at the journal's end or at a moment before.
+//! Why each job is in its state, at the journal's end or at an earlier time.
 
 use crate::age::{AsOf, add_head, clock_as_of, reading_as_of};
 use crate::journal::job::{KeptJob, Record};
@@ -22,8 +22,8 @@ use status_file::{JobFacts, JobKeys};
 use status_page::{ThrottleEnd, within_limits};
 use std::alloc::{AllocError, Global};
 
-/// For each loaded job, or for those named: its state, a line for each thing that keeps it from a start or wants it, how it ended
-/// last, and when it starts. Moments are shown in the zone.
+/// For each loaded job, or for those named: its state, what keeps it from a start or wants it (a line each), its last exit, and its next start. Times
+/// are shown in the zone.
 pub(crate) fn why_text(
     alloc: Global,
     journal: &OpenJournal,
@@ -51,7 +51,7 @@ pub(crate) fn why_text(
     page.into_text()
 }
 
-/// The labels that are told: of those named the known ones; where none is named each that is loaded, and then each other of which something is known.
+/// The labels to report: the known ones of those named. If none is named, each that is loaded, and then each other of which something is known.
 pub(crate) fn asked_labels<'a>(
     alloc: Global,
     journal: &'a OpenJournal,
@@ -83,7 +83,7 @@ fn add_labels<'a>(journal: &'a OpenJournal, asked: &mut Vec<&'a str>) -> Result<
     Ok(())
 }
 
-/// Whether something is told of the label: it is or was loaded, a setting disables it, or its last load was refused.
+/// Whether something is reported of the label: it is or was loaded, a setting disables it, or its last load was refused.
 pub(crate) fn is_known(journal: &OpenJournal, label: &str) -> bool {
     journal.past.jobs.get(label).is_some() || journal.past.labels.items.get(label).is_some()
 }
@@ -93,7 +93,7 @@ fn add_unloaded(page: &mut Page<'_>, journal: &OpenJournal, label: &str) {
     add_label(page, label, journal.past.labels.of(label));
 }
 
-// What is known of the label beside its job: since when it is disabled, and why its last load was refused.
+// What is known of the label besides its job: since when it is disabled, and why its last load was refused.
 fn add_label(page: &mut Page<'_>, label: &str, known: KnownLabel) {
     match known.disabled {
         Some(DisabledBy::Client(asked, at)) => page.add(
@@ -158,7 +158,7 @@ fn add_job<'x>(
     );
 }
 
-/// What is told of a loaded job, as of a reading.
+/// What the report on a loaded job needs, as of a clock reading.
 pub(crate) fn told_job<'a>(
     journal: &'a OpenJournal,
     job: &'a KeptJob,
@@ -176,8 +176,8 @@ pub(crate) fn told_job<'a>(
     }
 }
 
-/// Adds how the job stands, and a line for each thing that keeps it from a start or wants it. It says whether the only one is that nothing wants
-/// the job: then the ways by which it comes to start were told.
+/// Adds the state of the job, and a line for each thing that keeps it from a start or wants it. It returns whether the only one is that nothing wants
+/// the job: then it has added the ways by which the job comes to start.
 pub(crate) fn add_stand(
     page: &mut Page<'_>,
     label: &str,
@@ -191,7 +191,7 @@ pub(crate) fn add_stand(
     add_causes(page, told)
 }
 
-/// The end of the throttle, as of the last reading.
+/// The end of the throttle, as of the last clock reading.
 pub(crate) fn throttle_shown(
     told: &ToldJob<'_>,
     facts: &JobFacts<'_>,
@@ -226,7 +226,7 @@ fn add_past(page: &mut Page<'_>, job: &Record) {
     }
 }
 
-/// Adds how the last run ended, if one did, and of how many starts so many came to what the word says.
+/// Adds how the last run ended, if one did, and how many of the starts came to what `word` says.
 pub(crate) fn add_last_end(page: &mut Page<'_>, job: &Record, count: u64, word: &'static str) {
     let Some(last) = &job.last else {
         return;
@@ -256,7 +256,7 @@ pub(crate) fn add_refused(page: &mut Page<'_>, run: &JobRun) {
     page.add(form, &[Number(run.run), Time(run.ended.wall)]);
 }
 
-// The conditions of `KeepAlive` among the keys that nothing acts on.
+// The conditions of `KeepAlive` among the ignored keys.
 fn add_inert(page: &mut Page<'_>, keys: &[history_model::Text]) {
     for key in keys {
         if let Some(condition) = key.as_str().strip_prefix("KeepAlive.") {

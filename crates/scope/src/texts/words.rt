@@ -1,11 +1,11 @@
-//! Names for what a journal tells.
+//! Names for what a journal reports.
 
 use crate::journal::job::JobRequest;
 use crate::journal::run::RunEnd;
 use history_model::{DemandKind, Refusal};
 use json_kinds::{key_name, reason_name};
 
-/// What was asked, as the word of `jobctl`.
+/// What was asked, as the command of `jobctl`.
 pub(crate) fn asked_name(asked: JobRequest) -> &'static str {
     match asked {
         JobRequest::Start => "start",
@@ -51,7 +51,7 @@ pub(crate) fn refusal_name(refusal: Refusal) -> &'static str {
     }
 }
 
-/// How a run ended: the words before the number, and the number.
+/// How a run ended: the text before the number, and the number.
 pub(crate) fn end_words(end: RunEnd) -> (&'static str, u8) {
     match end {
         RunEnd::Code(code) => ("with code ", code),
@@ -60,7 +60,7 @@ pub(crate) fn end_words(end: RunEnd) -> (&'static str, u8) {
     }
 }
 
-/// What made a demand.
+/// What made a pending start request.
 pub(crate) fn demand_words(demand: Option<DemandKind>) -> &'static str {
     match demand {
         Some(DemandKind::Load) => "it starts at its load",

@@ -7,7 +7,7 @@ use std::alloc::Global;
 /// A call, and the answer that is expected of it.
 pub type Told = (EdgeCall, Scripted);
 
-/// A child whose process id is not known beforehand.
+/// A child whose PID is not known beforehand.
 pub const SOME_CHILD: Scripted = Scripted::Started(0);
 
 macro_rules! told {
@@ -20,15 +20,15 @@ macro_rules! told {
     };
 }
 
-/// The two definitions that calls are about. They are made in one function, and lent from there on: a function that has one at an early
-/// return is dear to prove.
+/// The two definitions that calls are about. They are made in one function, and lent from there on: a function that has one at an early return is
+/// expensive to prove.
 #[derive(Drop)]
 pub struct Jobs {
     first: Def,
     second: Def,
 }
 
-/// The definitions of these texts. None if one is no definition, or without memory.
+/// The definitions of these texts. None if one is not a definition, or without memory.
 pub fn jobs_of(alloc: Global, first: &str, second: &str) -> Option<Jobs> {
     match (
         read_def(alloc, first.as_bytes()),

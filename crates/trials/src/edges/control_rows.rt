@@ -1,10 +1,10 @@
-//! What is expected of the control socket in each round, where its clients are many, greedy or still.
+//! What is expected of the control socket in each pass, where its clients are many, greedy or still.
 
 use crate::cases::Case;
 use crate::edges::control_stage::Step;
 use crate::edges::control_stage::Step::*;
 
-/// The first line of each client is answered before the second of any, and the 17th of a client in the next round.
+/// The first line of each client is answered before the second of any, and the 17th of a client in the next pass.
 const A_CLIENT_HAS_16_LINES_A_ROUND: &[Step] = &[
     Connect(2),
     Rounds(1),
@@ -21,8 +21,8 @@ const A_CLIENT_HAS_16_LINES_A_ROUND: &[Step] = &[
     Asked(""),
 ];
 
-/// A round in which there is time for two lines ends with the second. The next one begins with the client behind, also where the
-/// time ended among further lines.
+/// A pass in which there is time for two lines ends with the second. The next one begins with the next client, also where the time ended among
+/// further lines.
 const A_ROUND_ENDS_WITH_ITS_TIME: &[Step] = &[
     Connect(3),
     Rounds(1),
@@ -49,7 +49,7 @@ const A_ROUND_ENDS_WITH_ITS_TIME: &[Step] = &[
     Asked("a\n"),
 ];
 
-/// A round answers one line also where the limit never has time, and each client has its turn.
+/// A pass answers one line also where the limit never has time, and each client has its turn.
 const A_ROUND_WITHOUT_TIME_ANSWERS_A_LINE: &[Step] = &[
     Connect(3),
     Rounds(1),
@@ -66,7 +66,7 @@ const A_ROUND_WITHOUT_TIME_ANSWERS_A_LINE: &[Step] = &[
     Busy(false),
 ];
 
-/// At 64 clients the one that has been silent for longest gives way to a new one, also with half a line, and is told so.
+/// At 64 clients the one that has been silent for longest gives way to a new one, also with half a line. A last line says so to it.
 const THE_LONGEST_SILENT_CLIENT_GIVES_WAY: &[Step] = &[
     Connect(64),
     Rounds(1),
@@ -87,7 +87,7 @@ const THE_LONGEST_SILENT_CLIENT_GIVES_WAY: &[Step] = &[
     Hears(6, "{\"code\":0,\"text\":\"c\"}\n"),
 ];
 
-/// Who sent something since the last round is not silent, and keeps its place.
+/// A client that sent something since the last pass is not silent, and keeps its place.
 const A_CLIENT_THAT_SENT_ITS_LINE_LATE_KEEPS_ITS_PLACE: &[Step] = &[
     Connect(64),
     Rounds(2),
@@ -100,7 +100,7 @@ const A_CLIENT_THAT_SENT_ITS_LINE_LATE_KEEPS_ITS_PLACE: &[Step] = &[
     Hears(64, ""),
 ];
 
-/// Where all sent something since the last round, a new one waits. A round later the first of them is silent.
+/// Where all sent something since the last pass, a new one waits. A pass later the first of them is silent.
 const A_NEW_CLIENT_WAITS_WHERE_ALL_SENT_SOMETHING: &[Step] = &[
     Connect(64),
     Rounds(2),
@@ -119,7 +119,7 @@ const A_NEW_CLIENT_WAITS_WHERE_ALL_SENT_SOMETHING: &[Step] = &[
     Hears(64, "{\"code\":0,\"text\":\"b\"}\n"),
 ];
 
-/// Of 65 that come at once the last waits until a round looked at the others. The first of them is then the longest silent.
+/// Of 65 that come at once the last waits until a pass looked at the others. The first of them is then the longest silent.
 const CLIENTS_THAT_COME_AT_ONCE_GET_IN: &[Step] = &[
     Connect(65),
     Rounds(1),
@@ -133,7 +133,7 @@ const CLIENTS_THAT_COME_AT_ONCE_GET_IN: &[Step] = &[
     Hears(1, ""),
 ];
 
-/// In the round in which a client leaves, another takes its place. A further one waits, and is turned away if all 64 ask on for a second.
+/// In the pass in which a client leaves, another takes its place. A further one waits, and is turned away if all 64 ask on for a second.
 const A_CLIENT_BEHIND_64_IS_TURNED_AWAY: &[Step] = &[
     Connect(64),
     Rounds(1),
@@ -186,7 +186,7 @@ const A_CLIENT_THAT_TAKES_NOTHING_GIVES_WAY: &[Step] = &[
     ),
 ];
 
-/// Who may give way is known only once a round looked at every client. Until then a new one waits.
+/// Which client may give way is known only once a pass looked at every client. Until then a new one waits.
 const A_NEW_CLIENT_WAITS_FOR_A_WHOLE_ROUND: &[Step] = &[
     Connect(64),
     Rounds(1),
@@ -223,7 +223,7 @@ const A_CLIENT_THAT_NEVER_READ_MAY_LEAVE: &[Step] = &[
     Quiet(true),
 ];
 
-/// At most 65,536 bytes of a client are read in a round, so that the next one has its turn.
+/// At most 65,536 bytes of a client are read in a pass, so that the next one has its turn.
 const A_CLIENT_WITH_MUCH_TO_SAY_HOLDS_UP_NOBODY: &[Step] = &[
     Connect(2),
     Rounds(1),

@@ -12,31 +12,31 @@ use std::os::unix::net::UnixStream;
 
 /// What is done, and what is expected of it.
 pub enum Step {
-    /// So many clients connect.
+    /// This many clients connect.
     Connect(usize),
     /// The client sends the text, which is taken whole.
     Sends(usize, &'static str),
-    /// The client sends the text so many times, which is taken whole.
+    /// The client sends the text this many times, which is taken whole.
     SendsTimes(usize, &'static str, usize),
     /// Each client that is left sends the text, but for the one of this number.
     OthersSend(usize, &'static str),
-    /// The client sends so many blocks of 4,096 letters, which are taken whole.
+    /// The client sends this many blocks of 4,096 letters, which are taken whole.
     SendsBlocks(usize, usize),
-    /// The client sends no more, and goes on reading.
+    /// The client half-closes, and goes on reading.
     HalfCloses(usize),
     /// The client goes away.
     Leaves(usize),
-    /// In each further round there is time for so many lines.
+    /// In each further pass there is time for this many lines.
     Time(u32),
-    /// The clock goes on by so many milliseconds.
+    /// The clock goes on by this many milliseconds.
     Later(u64),
-    /// So many rounds: the clients are served, and then those that wait are taken.
+    /// This many passes: the clients are served, and then those that wait are taken.
     Rounds(usize),
     /// Those that wait are taken, and no client is served before.
     Accepts,
-    /// A round, and whether it tells that one may go on at once.
+    /// A pass, and whether it says that the next one may begin at once.
     Busy(bool),
-    /// These lines were asked since the last such step, each told with a newline.
+    /// These lines were asked since the last such step, each followed by a newline.
     Asked(&'static str),
     /// The client has got this since the last such step, and no end.
     Hears(usize, &'static str),
@@ -186,7 +186,7 @@ impl Stage {
         }
     }
 
-    // Rounds of a loop: whether a client may go on at once after the last.
+    // Passes of a loop: whether a client may go on at once after the last.
     fn rounds(&mut self, rt: &HostRuntime, count: usize) -> bool {
         let mut is_busy = false;
         for _ in 0..count {
@@ -208,7 +208,7 @@ impl Stage {
     }
 }
 
-/// Sends the piece so many times, and says whether all is taken whole.
+/// Sends the piece this many times, and returns whether all is taken whole.
 fn sends(client: &mut UnixStream, piece: &[u8], count: usize) -> bool {
     let mut is_whole = true;
     for _ in 0..count {
@@ -217,7 +217,7 @@ fn sends(client: &mut UnixStream, piece: &[u8], count: usize) -> bool {
     is_whole
 }
 
-/// The client of the number, or each of the others, sends the piece so many times. Whether there is one, and all is taken whole.
+/// The client of the number, or each of the others, sends the piece this many times. It returns whether there is one, and all is taken whole.
 fn send(
     clients: &mut [Option<UnixStream>],
     number: usize,
@@ -238,7 +238,7 @@ fn send(
     is_sent && is_whole
 }
 
-/// Takes what is there for the client to be read, and says whether the end came behind it. None if that can't be told.
+/// Takes what is there for the client to be read, and returns whether the end came after it. None if that can't be known.
 pub fn heard(client: &mut UnixStream, heard: &mut Vec<u8>) -> Option<bool> {
     let mut piece = [0u8; 4096];
     for _ in 0..1_000u32 {
@@ -252,7 +252,7 @@ pub fn heard(client: &mut UnixStream, heard: &mut Vec<u8>) -> Option<bool> {
     Some(false)
 }
 
-/// Whether what is there for the client to be read is this text, and the end came behind it or did not.
+/// Whether what is there for the client to be read is this text, and the end came after it or did not.
 fn hears(
     alloc: Global,
     clients: &mut [Option<UnixStream>],

@@ -4,11 +4,11 @@ use control_socket::{Answers, Limit};
 use history_model::{Refusal, Reply, Text};
 use std::alloc::{AllocError, Global};
 
-/// Keeps each line that is asked, and says it back. `long` gets a text of 100,000 bytes, and `some` one of 10,000; a line of more than 100
-/// bytes counts as `much`.
+/// Keeps each line that is asked, and says it back. `long` gets 100,000 bytes of text, and `some` gets 10,000; a line of more than 100 bytes counts
+/// as `much`.
 #[derive(Drop)]
 pub struct Echo {
-    /// The lines, each with a newline behind it.
+    /// The lines, each followed by a newline.
     pub asked: Vec<u8>,
 }
 
@@ -36,7 +36,7 @@ fn said(alloc: Global, line: &[u8], asked: &mut Vec<u8>) -> Result<String, Alloc
 }
 
 impl Answers for Echo {
-    // What it answers is tried, and not promised.
+    // What it answers is tested, and not promised.
     ghost Answered = { λ line reply old new. Unit {0} };
 
     fn answer(&mut self, alloc: Global, line: &[u8]) -> Reply {
@@ -53,14 +53,14 @@ impl Answers for Echo {
     }
 }
 
-/// Time for so many lines in each round. The clock goes on only by the steps of the test.
+/// Time for `lines` lines in each pass. The clock goes on only by the steps of the test.
 #[derive(Drop)]
 pub struct Budget {
-    /// How many lines are answered in a round.
+    /// How many lines are answered in a pass.
     pub lines: u32,
     /// The milliseconds that the clock says.
     pub up: u64,
-    /// How many further lines in this round.
+    /// How many further lines in this pass.
     pub left: u32,
 }
 

@@ -1,4 +1,4 @@
-//! The edge over a system that refuses each call: what it answers, counts, keeps and tells.
+//! The edge over a system that refuses each call: what it answers, keeps and logs. That it counts each refusal is proved.
 
 use crate::edges::calls::{Jobs, Told, are_answered, jobs_of};
 use crate::edges::places::edge_over;
@@ -6,13 +6,11 @@ use crate::edges::refusing::{Found, Grants, Refusing, new_refusing};
 use child_edge::{EdgeCall, OsEdge, Scripted};
 use std::io::ErrorKind;
 
-/// How every call fails, the child that starts if one does, the calls, how many of them fail, and what is then told, if that is
-/// looked at.
+/// How every call fails, the child that starts if one does, the calls, and what it then logs, if that is looked at.
 pub struct Refused {
     kind: ErrorKind,
     child: Option<Found>,
     calls: &'static [Told],
-    failures: u64,
     told: Option<&'static [&'static str]>,
 }
 
@@ -22,7 +20,7 @@ const LOST: Option<Found> = Some(Found {
     refusals: u32::MAX,
 });
 
-/// One with a process id that no child has.
+/// One with a PID that no child has.
 const NO_CHILD: Option<Found> = Some(Found {
     pid: 0,
     refusals: u32::MAX,
@@ -53,7 +51,7 @@ const CLOSE: EdgeCall = EdgeCall::Close { job: 0, conn: 1 };
 
 const RELEASE: EdgeCall = EdgeCall::Release { job: 0 };
 
-/// Each call is answered by its fault, want of memory told apart, and counted; a close and a release count nothing.
+/// Each call is answered by its fault; want of memory has one of its own.
 pub const NO_MEMORY: &Refused = &Refused {
     kind: ErrorKind::OutOfMemory,
     child: None,
@@ -66,7 +64,6 @@ pub const NO_MEMORY: &Refused = &Refused {
         (CLOSE, Scripted::Done),
         (RELEASE, Scripted::Done),
     ],
-    failures: 5,
     told: None,
 };
 
@@ -82,11 +79,10 @@ pub const NO_RIGHT: &Refused = &Refused {
         (CLOSE, Scripted::Done),
         (RELEASE, Scripted::Done),
     ],
-    failures: 5,
     told: None,
 };
 
-/// A child that can't be waited for is kept, and told; another is started beside it.
+/// A child that can't be waited for is kept and reported; another is started next to it.
 pub const A_LOST_CHILD: &Refused = &Refused {
     kind: ErrorKind::PermissionDenied,
     child: LOST,
@@ -98,7 +94,6 @@ pub const A_LOST_CHILD: &Refused = &Refused {
         (START, Scripted::Refused),
         (SECOND, Scripted::Started(7)),
     ],
-    failures: 4,
     told: Some(&[
         "no look-out can be started from /proc/self/exe: a path that hangs stops the launcher",
         "a: run 1: cannot wait for its end: permission denied",
@@ -108,12 +103,11 @@ pub const A_LOST_CHILD: &Refused = &Refused {
     ]),
 };
 
-/// A process id of 0 is no child.
+/// A PID of 0 is not a child.
 pub const CHILD_0: &Refused = &Refused {
     kind: ErrorKind::PermissionDenied,
     child: NO_CHILD,
     calls: &[(START, Scripted::Refused), (POLL, Scripted::Refused)],
-    failures: 2,
     told: None,
 };
 
@@ -123,7 +117,7 @@ const PLAIN: &str =
 const FILED: &str =
     "{\"Label\":\"a\",\"Program\":\"/bin/x\",\"StandardInPath\":\"/in\",\"inetdCompatibility\":{\"Wait\":false},\"Sockets\":{\"s\":{\"SockServiceName\":7}}}";
 
-/// Whether these lines wait to be told, and no others.
+/// Whether these lines wait to be printed, and no others.
 fn are_told(edge: &mut OsEdge<Refusing>, lines: &[&str]) -> bool {
     let mut are_so = true;
     for line in lines {
@@ -136,18 +130,17 @@ fn are_told(edge: &mut OsEdge<Refusing>, lines: &[&str]) -> bool {
     are_so && is_all
 }
 
-/// Whether the calls are answered, counted and told as it says.
+/// Whether the calls are answered and logged as it says.
 fn goes(edge: &mut OsEdge<Refusing>, jobs: &Jobs, refused: &Refused) -> bool {
     let are_answered = are_answered(edge, jobs, refused.calls);
-    let are_counted = edge.failures() == refused.failures;
     let are_told = match refused.told {
         Some(lines) => are_told(edge, lines),
         None => true,
     };
-    are_answered && are_counted && are_told
+    are_answered && are_told
 }
 
-/// Whether each refusal of the system is counted, kept and told.
+/// Whether the edge answers, keeps and logs each refusal of the system.
 pub fn is_so(rt: &HostRuntime, refused: &Refused) -> Option<bool> {
     let system = new_refusing(rt, refused.kind, refused.child, Grants::Nothing)?;
     let mut edge = edge_over(system, "/none")?;

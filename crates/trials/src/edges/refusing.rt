@@ -1,5 +1,5 @@
-//! A system that refuses, by a runtime of the tests' own: what is asked of it fails with one kind of error, but for the clock since
-//! its start and what it grants.
+//! A system that refuses, by a runtime of the tests' own: what is asked of it fails with one kind of error. The exceptions are the clock since its
+//! start, and what it grants.
 
 use std::alloc::{Allocator, Global};
 use std::cell::RefCell;
@@ -22,7 +22,7 @@ pub enum Grants {
     Openings,
 }
 
-/// A child that starts, by its process id, and how many waits for it are refused; after them it has ended with code 3.
+/// A child that starts, by its PID, and how many waits for it are refused; after them it has exited with code 3.
 #[derive(Clone, Copy)]
 pub struct Found {
     pub pid: u32,
@@ -36,7 +36,7 @@ pub struct Refusing {
     /// The child that a spawn gives, if it gives one.
     pub child: Option<Found>,
     pub grants: Grants,
-    /// What was told on standard error.
+    /// What was printed on standard error.
     pub told: Rc<RefCell<String>>,
 }
 
@@ -210,7 +210,7 @@ impl Net for Refusing {
     fn bind(&self, _addr: SocketAddr) -> io::Result<TcpListener> {
         match self.grants {
             Grants::Nothing => refused(self.kind),
-            // It was never told to listen.
+            // Nothing ever made it listen.
             Grants::Openings => Ok(TcpListener::from(self.host.unix_socket()?)),
         }
     }

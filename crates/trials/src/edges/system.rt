@@ -24,8 +24,6 @@ pub enum Step {
     IsOver(JobNo, (JobNo, u64)),
     /// No child is over from this job's number on.
     NoneIsOver(JobNo),
-    /// So many calls have failed.
-    HasFailed(u64),
     /// Job 0 has sockets, by another bind than at the last such step; or it has none.
     HasSockets(bool),
     /// No client waits at job 0.
@@ -103,7 +101,6 @@ fn is_so(
         }
         Step::IsOver(job, run) => edge.over_from(job) == Some(run),
         Step::NoneIsOver(job) => edge.over_from(job).is_none(),
-        Step::HasFailed(count) => edge.failures() == count,
         Step::NobodyCalls => edge.accept(0).is_none(),
         Step::IsTaken(wanted) => match edge.accept(0) {
             Some(client) => takes(rt.alloc(), edge, client) == Some(wanted),
@@ -168,11 +165,12 @@ fn comes(
     false
 }
 
-/// Whether each step goes well, over an edge and a poll of its own.
+/// Whether each step succeeds, over an edge and a poll of its own.
 fn all_come(rt: &HostRuntime, place: Place<'_>, steps: &[Step]) -> Option<bool> {
-    let mut edge = edge_over(rt.clone().ok()?, place.folder)?;
-    let Some(mut watch) = new_watch(rt) else {
-        drop(edge);
+    let own = rt.clone().ok()?;
+    let mut watch = new_watch(rt)?;
+    let Some(mut edge) = edge_over(own, place.folder) else {
+        drop(watch);
         return None;
     };
     let mut last = None;

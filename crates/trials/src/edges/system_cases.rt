@@ -38,7 +38,7 @@ const KILL: EdgeCall = EdgeCall::Kill { job: 0, run: 1 };
 
 const BIND: EdgeCall = EdgeCall::Bind { job: 0 };
 
-/// Of a child that runs and one that has ended, the second alone is over, from its job's number on and no further, until it is polled.
+/// Of a child that runs and one that has ended, only the second is over, from its job's number on and no further, until it is polled.
 const OVER: &Scene = &Scene {
     name: "over",
     scripts: ["exec sleep 60", "exit 3"],
@@ -57,18 +57,16 @@ const OVER: &Scene = &Scene {
     ],
 };
 
-/// A run whose end was told has no child: a poll, TERM and KILL are refused, and so is a second start of a run that goes on.
+/// A run whose end was reported has no child: a poll, TERM and KILL are refused, and so is a second start of a run that goes on.
 const AGAIN: &Scene = &Scene {
     name: "again",
     scripts: ["exit 7", "exec sleep 60"],
     steps: &[
         Step::Answers(START, SOME_CHILD),
         Step::Ends(POLL, Scripted::Over(Ended::Code(7))),
-        Step::HasFailed(0),
         Step::Answers(POLL, Scripted::Refused),
         Step::Answers(TERM, Scripted::Refused),
         Step::Answers(KILL, Scripted::Refused),
-        Step::HasFailed(3),
         Step::Answers(START_2, SOME_CHILD),
         Step::Answers(START_2, Scripted::Refused),
         Step::Answers(EdgeCall::Term { job: 0, run: 2 }, Scripted::Done),
@@ -76,11 +74,10 @@ const AGAIN: &Scene = &Scene {
             EdgeCall::Poll { job: 0, run: 2 },
             Scripted::Over(Ended::Signal(15)),
         ),
-        Step::HasFailed(4),
     ],
 };
 
-/// A child that has ended keeps its process id until it is polled: TERM and KILL are done, and it is told to have ended as it did.
+/// A child that has ended keeps its PID until it is polled: TERM and KILL are done, and the poll reports how it ended.
 const ENDED: &Scene = &Scene {
     name: "ended",
     scripts: ["exit 3", ":"],
@@ -90,11 +87,10 @@ const ENDED: &Scene = &Scene {
         Step::Answers(TERM, Scripted::Done),
         Step::Answers(KILL, Scripted::Done),
         Step::Ends(POLL, Scripted::Over(Ended::Code(3))),
-        Step::HasFailed(0),
     ],
 };
 
-/// Each bind has a number of its own, while its sockets stand.
+/// Each bind has a number of its own, while its sockets are open.
 const BINDS: &Scene = &Scene {
     name: "binds",
     scripts: ["exit 0", ":"],
@@ -120,12 +116,10 @@ const TWICE: &Scene = &Scene {
         Step::Answers(EdgeCall::Bind { job: 1 }, Scripted::Refused),
         Step::Answers(BIND, Scripted::Refused),
         Step::NobodyCalls,
-        Step::HasFailed(2),
         Step::CallPort,
         Step::IsTaken(true),
         Step::CallPort,
         Step::IsTaken(false),
-        Step::HasFailed(3),
         Step::IsSpooled(true),
         Step::Answers(EdgeCall::Close { job: 0, conn: 1 }, Scripted::Done),
         Step::IsSpooled(false),

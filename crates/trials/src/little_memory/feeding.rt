@@ -13,8 +13,13 @@ const PIECE: &[u8] =
 
 const FIRST: &[u8] = b"first";
 
+/// The lines after the first.
 const SECOND: &[u8] =
-    b"second, which is so long that the buffer has to grow for it: more than a hundred bytes, and some more than that";
+    b"second, which is so long that the buffer has to grow for it: more than a hundred bytes, and some more than that\n";
+
+/// All lines.
+const BOTH: &[u8] =
+    b"first\nsecond, which is so long that the buffer has to grow for it: more than a hundred bytes, and some more than that\n";
 
 /// A feed that was given the first piece, and also the second if a line is to be taken.
 pub fn fed(alloc: Global, is_whole: bool) -> Option<LineFeed> {
@@ -28,12 +33,24 @@ pub fn fed(alloc: Global, is_whole: bool) -> Option<LineFeed> {
     }
 }
 
-/// Whether the feed gives this line next.
-fn gives(feed: &mut LineFeed, line: &[u8]) -> bool {
-    match feed.next_line() {
-        Ok(Some(given)) => given.as_slice() == line,
-        _ => false,
+/// More lines than the feed has.
+const LINES: usize = 4;
+
+/// Adds the lines that the feed has, each with its newline, and says whether these are all.
+fn add_lines(feed: &mut LineFeed, lines: &mut Vec<u8>) -> bool {
+    for _ in 0..LINES {
+        match feed.next_line() {
+            Ok(Some(line)) => {
+                let is_added = lines.extend_from_slice(line.as_slice()).is_ok();
+                if !is_added || lines.push(b'\n').is_err() {
+                    return false;
+                }
+            }
+            Ok(None) => return true,
+            Err(_) => return false,
+        }
     }
+    false
 }
 
 /// Feeds the piece, or takes the first line. If that is refused, the feed has what it had, and the same call with memory is not.
@@ -53,12 +70,13 @@ pub fn fed_or_taken(feed: &mut LineFeed, is_taking: bool) -> Answer {
 }
 
 /// Whether the lines that were not taken come, each once and whole, and what no newline has ended is kept.
-pub fn is_kept(feed: &mut LineFeed, is_taking: bool, answer: Answer) -> bool {
+pub fn is_kept(alloc: Global, feed: &mut LineFeed, is_taking: bool, answer: Answer) -> bool {
     let is_made = answer == Answer::Made;
-    let is_kept = is_made || is_taking || feed.rest() == b"sec".as_slice();
-    let is_fed = is_made || is_taking || fed_or_taken(feed, false) == Answer::Made;
-    let has_first = (is_made && is_taking) || gives(feed, FIRST);
-    let has_second = gives(feed, SECOND);
-    let is_out = matches!(feed.next_line(), Ok(None));
-    is_kept && is_fed && has_first && has_second && is_out && feed.rest() == b"third".as_slice()
+    if !is_made && !is_taking && feed.feed(PIECE).is_err() {
+        return false;
+    }
+    let wanted = if is_made && is_taking { SECOND } else { BOTH };
+    let mut lines = Vec::new(alloc);
+    let is_all = add_lines(feed, &mut lines);
+    is_all && lines.as_slice() == wanted && feed.rest() == b"third".as_slice()
 }

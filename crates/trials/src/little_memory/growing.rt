@@ -1,10 +1,10 @@
-//! The call of a heap of moments that takes memory.
+//! The call of a heap of deadlines that takes memory.
 
 use crate::little_memory::trial::Answer;
 use std::alloc::Global;
 use timer_heap::TimerHeap;
 
-/// A heap with one moment: 5, of job 1.
+/// A heap with one deadline: 5, of job 1.
 pub fn heap_of(alloc: Global) -> Option<TimerHeap> {
     let mut heap = TimerHeap::new(alloc).ok()?;
     let is_made = heap.reserve(alloc, 2).is_ok();
@@ -25,7 +25,7 @@ pub fn grown(alloc: Global, heap: &mut TimerHeap) -> Answer {
     }
 }
 
-/// Whether the moment is still there, and a job of the greater room gets one.
+/// Whether the deadline is still there, and a job of the greater room gets one.
 pub fn is_kept(alloc: Global, heap: &mut TimerHeap) -> bool {
     let was = heap.least();
     let is_made = heap.reserve(alloc, 1_000).is_ok();

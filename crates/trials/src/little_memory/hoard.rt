@@ -1,4 +1,4 @@
-//! Takes all memory that is to be had, and gives it back.
+//! Takes all memory that is available, and gives it back.
 
 use std::alloc::{AllocError, Global};
 
@@ -21,8 +21,7 @@ impl Hoard {
         Ok(Hoard { blocks })
     }
 
-    /// Takes blocks of all sizes, the great ones first, until not even the least is to be had, and tells whether it came
-    /// to that.
+    /// Takes blocks of all sizes, the great ones first, until not even the least is available. It returns whether it came to that.
     pub fn take_all(&mut self, alloc: Global) -> bool {
         let mut size = GREATEST;
         let mut is_all = false;
@@ -40,7 +39,7 @@ impl Hoard {
         is_all
     }
 
-    /// Takes blocks of this size until one is refused, and tells whether one was.
+    /// Takes blocks of this size until one is refused, and returns whether one was.
     fn take(&mut self, alloc: Global, size: usize) -> bool {
         for _ in self.blocks.len()..BLOCKS {
             let is_taken = match Vec::with_capacity(alloc, size) {

@@ -1,5 +1,4 @@
-//! The making of a live loop where memory is short. What lets a launcher go is proved for its whole type, so all but its making is generic
-//! over it.
+//! The making of a live loop where memory is short. What drops a launcher is proved for its whole type, so all but its making is generic over it.
 
 use crate::edges::places::new_folder;
 use crate::little_memory::hoard::Hoard;
@@ -49,7 +48,7 @@ impl Makes<RoundLauncher<MemoryStore, OsEdge<HostRuntime>, Sink>> for Folder<'_,
     }
 }
 
-/// The call, and what is handed in to it.
+/// The call, and what it takes.
 #[derive(Drop)]
 struct Looping<'a, R, H, M> {
     rt: &'a R,
@@ -65,7 +64,7 @@ impl<R: System, H: LoopHost + Drop, M: Makes<H>> Trial for Looping<'_, R, H, M> 
         self.given.is_some()
     }
 
-    // Want of memory in a call of the system is told as the poll.
+    // Want of memory in a call of the system is reported as a failed poll.
     fn call(&mut self, alloc: Global) -> Answer {
         match self.given.take() {
             Some((host, control)) => match Live::new(self.rt, alloc, host, control) {
@@ -80,7 +79,7 @@ impl<R: System, H: LoopHost + Drop, M: Makes<H>> Trial for Looping<'_, R, H, M> 
         }
     }
 
-    // What was handed in is let go: the socket's lock can be taken again.
+    // What the call took is released: the socket's lock can be taken again.
     fn is_right(&mut self, alloc: Global, _answer: Answer) -> bool {
         let is_prepared = self.prepare(alloc);
         is_prepared && self.call(alloc) == Answer::Made

@@ -27,7 +27,7 @@ const OUTCOMES: &[u8] =
 /// How many bytes the writer takes with no memory; more than are written.
 pub const ROOM: usize = 4096;
 
-/// Replays the journal. If that is refused, what stands written is the outcome lines of the lines before.
+/// Replays the journal. If that is refused, the outcome lines of the lines before are written.
 pub fn replayed(alloc: Global, written: &mut Vec<u8>) -> Answer {
     let mut reader = JOURNAL;
     match replay(alloc, &mut reader, written) {

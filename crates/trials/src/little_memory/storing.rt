@@ -1,5 +1,5 @@
-//! The calls on a store that take memory: its opening, over a file of the first version, and those on an open one, over a database
-//! in memory. What lets a store go is proved for its whole type, so all but the connections is generic over what the store stands on.
+//! The calls on a store that take memory: its opening, over a file of the first version, and those on an open one, over a database in memory. What
+//! drops a store is proved for its whole type, so all but the connections is generic over what the store is built on.
 
 use crate::little_memory::hoard::Hoard;
 use crate::little_memory::trial::{Answer, Trial, tried};
@@ -129,7 +129,7 @@ fn is_kept<S: Alter>(
     is_kept && is_made && is_stored
 }
 
-/// Whether the store has the settings of the first version. It is let go.
+/// Whether the store has the settings of the first version. It drops the store.
 fn has_moved<S: Alter + Drop>(alloc: Global, store: Option<OverrideStore<S>>) -> bool {
     match store {
         Some(mut store) => {

@@ -10,7 +10,7 @@ use std::alloc::Global;
 pub enum Answer {
     /// What it was asked for.
     Made,
-    /// That no memory was to be had.
+    /// That memory was not available.
     NoMemory,
     /// Anything else.
     Other,
@@ -18,7 +18,7 @@ pub enum Answer {
 
 /// A call that takes memory.
 pub trait Trial {
-    /// What is to be there before the call. Tells whether it is; there is ample memory.
+    /// What must be there before the call. It returns whether it is; there is ample memory.
     fn prepare(&mut self, alloc: Global) -> bool;
 
     /// The call.
@@ -35,16 +35,16 @@ const FILLER: usize = 4096;
 /// How many times a call is made at most.
 const ROUNDS: u32 = 4096;
 
-/// So many times a call has a little more than before; then the steps are greater, for a call that needs megabytes.
+/// How many times a call has a little more than before; then the steps are greater, for a call that needs megabytes.
 const SMALL_STEPS: u32 = 128;
 
-/// How a call stood its trial.
+/// How a call passed its trial.
 enum Verdict {
-    /// It was refused memory so many times, each time answered so and left what it should, and then was made.
+    /// It was refused memory this many times, each time answered so and left what it should, and then was made.
     Stood(u32),
-    /// It answered or left something else, if so many bytes were left to it.
+    /// It answered or left something else, if this many bytes were left to it.
     Fell(usize),
-    /// The memory was not limited, or what the call needs was not to be had.
+    /// The memory was not limited, or what the call needs was not available.
     NotTried,
 }
 
@@ -74,7 +74,7 @@ fn stand<T: Trial>(alloc: Global, hoard: &mut Hoard, trial: &mut T) -> Verdict {
     Verdict::NotTried
 }
 
-/// What the call answers if so many bytes are left. None if the memory is not limited.
+/// What the call answers if this many bytes are left. None if the memory is not limited.
 fn answer_with<T: Trial>(
     alloc: Global,
     hoard: &mut Hoard,
@@ -95,8 +95,8 @@ fn answer_with<T: Trial>(
     answer
 }
 
-/// Tries a call, and says how it stood that. An error if it answered or left something else than it should, or if the memory was not
-/// limited. The trial is let go here, since each place that lets it go is proved for its whole type.
+/// Tries a call, and reports how that went. An error if it answered or left something else than it should, or if the memory was not limited. The
+/// trial is dropped here, since each place that drops it is proved for its whole type.
 pub fn tried<T: Trial + Drop>(
     rt: &HostRuntime,
     hoard: &mut Hoard,

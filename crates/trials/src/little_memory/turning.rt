@@ -139,8 +139,8 @@ static CALLS: &[(&str, Option<&Turn>)] = &[
     ),
 ];
 
-/// The making of a launcher over a store that has one setting, or a turn on one whose job runs. What a making refuses is gone, so all is
-/// made anew for each call.
+/// The making of a launcher over a store that has one setting, or a turn on one whose job runs. A making that is refused keeps nothing, so all is
+/// made again for each call.
 #[derive(Drop)]
 struct Turning<H> {
     turn: Option<&'static Turn>,
@@ -165,7 +165,7 @@ fn taken<H: Launched>(alloc: Global, host: &mut H, turn: &Turn) -> (u8, Answer) 
     (code, answer)
 }
 
-/// Whether a refused turn left all as it was, but for so many calls, and is made with memory.
+/// Whether a refused turn left all as it was, but for `calls` calls, and is made with memory.
 fn is_undone<H: Launched>(alloc: Global, host: &mut H, turn: &Turn, calls: usize) -> bool {
     let is_uncalled = host.calls() == calls;
     let was_so = asked(alloc, host, Input::Line(turn.probe), turn.was) == (0, true);

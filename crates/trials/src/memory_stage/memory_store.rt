@@ -1,4 +1,4 @@
-//! A store of settings in memory, which refuses if it was told to.
+//! A store of settings in memory, which refuses if it was made so.
 
 ghost use Rattle.std.specs.Prelude.{◌≡◌, None, MatchResult};
 ghost use Rattle.trials.specs.MemoryAnswers.{MayGive};
@@ -13,16 +13,16 @@ pub struct MemoryStore {
     pub alloc: Global,
     /// What it holds, oldest first.
     pub held: Vec<Setting>,
-    /// What it answers if it is told a setting.
+    /// What it answers if it gets a setting.
     pub answer: bool,
     /// What it answers if it is asked for its settings and does not give them.
     pub fault: Option<StoreFault>,
-    /// How often it was told a setting.
+    /// How often it got a setting.
     pub asked: u64,
 }
 
 impl MemoryStore {
-    /// Keeps the setting if it answers so and there is memory for it, and tells whether it did.
+    /// Keeps the setting if it answers so and there is memory for it, and returns whether it did.
     fn keep(&mut self, label: &str, disabled: bool) -> bool {
         if !self.answer {
             return false;

@@ -10,7 +10,7 @@ pub struct Sink {
     pub taken: Vec<u8>,
     /// The most bytes that one write takes.
     pub piece: usize,
-    /// How many writes go well.
+    /// How many writes succeed.
     pub writes: usize,
     /// Whether the write after them takes no byte; if not, it is an error.
     pub is_full: bool,
@@ -20,7 +20,7 @@ pub struct Sink {
     pub refuses_flush: bool,
 }
 
-/// One that takes so many writes, each whole, and refuses no flush.
+/// One that takes this many writes, each whole, and refuses no flush.
 pub fn new_sink(alloc: Global, writes: usize) -> Sink {
     Sink {
         taken: Vec::new(alloc),

@@ -1,7 +1,6 @@
 //! A launcher over an edge, a store and a journal in memory. What lets a launcher go is proved for its whole type, so most trials are
 //! generic over it.
 
-use crate::memory_stage::handed_edge::{ABSENT, Handed, HandedEdge};
 use crate::memory_stage::memory_store::MemoryStore;
 use crate::memory_stage::sink::{Sink, new_sink};
 use child_edge::{EdgeCall, MemoryEdge, Scripted};
@@ -10,33 +9,27 @@ use history_model::{Reading, Reply, Setting, Text};
 use launcher::{Host, HostFault, Input};
 use std::alloc::{AllocError, Global};
 
-pub type Stage = Host<MemoryStore, HandedEdge, Sink>;
+pub type Stage = Host<MemoryStore, MemoryEdge, Sink>;
 
 /// What a launcher is made of.
-pub type Parts = (Header, MemoryStore, HandedEdge);
+pub type Parts = (Header, MemoryStore, MemoryEdge);
 
 /// How many lines a journal takes; more than are written.
 pub const LINES: usize = 10_000;
 
 /// The clocks as launchers begin.
-pub const START: Reading = Reading {
+const START: Reading = Reading {
     up: 0,
     wall: 1_700_000_000,
 };
 
-/// An edge that gives the answers beside these calls.
-pub fn edge(alloc: Global, calls: &[(EdgeCall, Scripted)]) -> Option<HandedEdge> {
+/// An edge that gives the answers besides these calls.
+pub fn edge(alloc: Global, calls: &[(EdgeCall, Scripted)]) -> Option<MemoryEdge> {
     let mut answers = Vec::new(alloc);
     for (_call, answer) in calls {
         answers.push(*answer).ok()?;
     }
-    let orders = MemoryEdge::new(alloc, answers, 16).ok()?;
-    Some(HandedEdge {
-        orders,
-        now: START,
-        slept: 0,
-        sights: [ABSENT, ABSENT],
-    })
+    MemoryEdge::new(alloc, answers, 16).ok()
 }
 
 /// A header of this zone and `up`.
@@ -62,8 +55,8 @@ fn disabled(alloc: Global, names: &[&str]) -> Result<Vec<Setting>, AllocError> {
     Ok(held)
 }
 
-/// What a launcher is made of: a header of this zone and `up`, a store that disables these labels and takes each setting, and an edge that
-/// gives the answers beside these calls.
+/// What a launcher is made of: a header of this zone and `up`, a store that disables these labels and takes each setting, and an edge. The edge gives
+/// these calls their answers.
 pub fn parts_of(
     alloc: Global,
     zone: &str,
@@ -94,7 +87,7 @@ pub fn parts_of(
 
 /// A launcher, whatever it is made of.
 pub trait Launched {
-    /// A launcher of the parts, whose journal takes so many writes.
+    /// A launcher of the parts, whose journal takes this many writes.
     fn open(alloc: Global, parts: Parts, writes: usize) -> Result<Self, HostFault>;
 
     /// What it replies to the input.
@@ -103,7 +96,7 @@ pub trait Launched {
     /// How many calls it has made.
     fn calls(&mut self) -> usize;
 
-    /// Whether its journal was closed, and that was not told yet.
+    /// Whether its journal was closed, and that was not reported yet.
     fn has_closed(&mut self) -> bool;
 
     /// What is left of it.
@@ -115,7 +108,7 @@ pub trait Launched {
 pub struct Left {
     pub has_job: bool,
     pub store: MemoryStore,
-    pub edge: HandedEdge,
+    pub edge: MemoryEdge,
     pub journal: Option<Sink>,
 }
 
@@ -130,7 +123,7 @@ impl Launched for Stage {
     }
 
     fn calls(&mut self) -> usize {
-        self.edge().orders().len()
+        self.edge().calls().len()
     }
 
     fn has_closed(&mut self) -> bool {

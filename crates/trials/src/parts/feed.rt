@@ -1,15 +1,13 @@
 //! A feed of lines as its caller uses it, step by step.
 
 use crate::parts::feed::Step::*;
-use ctl_protocol::{LINE_LIMIT, LineFault, LineFeed};
+use ctl_protocol::{LINE_LIMIT, LineFeed};
 use std::alloc::Global;
 
 /// What is asked of a feed, and what is expected of it.
 pub enum Step {
     /// The piece is taken.
     Taken(&'static [u8]),
-    /// The piece is refused, since a line is too long, or one before was.
-    TooLong(&'static [u8]),
     /// The next line is this.
     Next(&'static [u8]),
     /// There is no line.
@@ -41,7 +39,6 @@ pub const CUT: &Fed = &Fed {
 fn goes(feed: &mut LineFeed, step: &Step) -> bool {
     match *step {
         Taken(piece) => feed.feed(piece).is_ok(),
-        TooLong(piece) => matches!(feed.feed(piece), Err(LineFault::TooLong)),
         Next(wanted) => match feed.next_line() {
             Ok(Some(line)) => line.as_slice() == wanted,
             _ => false,

@@ -1,4 +1,4 @@
-//! The heap of moments as its caller uses it, step by step.
+//! The heap of deadlines as its caller uses it, step by step.
 
 use crate::parts::heap::Step::*;
 use std::alloc::Global;
@@ -6,19 +6,17 @@ use timer_heap::TimerHeap;
 
 /// What is asked of a heap, and what is expected of it.
 pub enum Step {
-    /// Room for so many numbers is made: at once, or at the second try.
+    /// Room for this number of entries is made.
     Reserve(u32),
-    /// The job of this number has this moment.
+    /// The job of this number has this deadline.
     Set(u32, u64),
-    /// The job of this number has none.
-    Clear(u32),
-    /// The least moment is this, of the job of this number.
+    /// The least deadline is this, of the job of this number.
     Least(Option<(u32, u64)>),
-    /// At this moment this job's comes out.
+    /// At this time this job's deadline comes out.
     Due(u64, Option<u32>),
 }
 
-/// A job's newer moment takes the place of the older one; a moment comes once it is reached, and not before.
+/// A job's newer deadline takes the place of the older one; a deadline comes once it is reached, and not before.
 pub const BY_MOMENTS: &[Step] = &[
     Reserve(2),
     Set(0, 500),
@@ -34,10 +32,7 @@ pub const BY_MOMENTS: &[Step] = &[
 /// Whether the step goes as it says.
 fn goes(alloc: Global, heap: &mut TimerHeap, step: &Step) -> bool {
     match *step {
-        Reserve(count) => {
-            let is_made = heap.reserve(alloc, count).is_ok();
-            is_made || heap.reserve(alloc, count).is_ok()
-        }
+        Reserve(count) => heap.reserve(alloc, count).is_ok(),
         // If room for the number was made before, no more is made.
         Set(number, moment) => match number.checked_add(1) {
             Some(numbers) => {
@@ -49,10 +44,6 @@ fn goes(alloc: Global, heap: &mut TimerHeap, step: &Step) -> bool {
             }
             None => false,
         },
-        Clear(number) => {
-            heap.clear(number);
-            true
-        }
         Least(wanted) => heap.least() == wanted,
         Due(now, wanted) => heap.pop_due(now) == wanted,
     }

@@ -18,14 +18,6 @@ pub enum Kind {
     Target,
 }
 
-/// The text with a label of 255 bytes for an `@`.
-fn placed(alloc: Global, text: &str) -> Result<String, AllocError> {
-    match text.split_once("@") {
-        Some((front, back)) => format!(in alloc; "{front}{}{back}", cases::LABEL),
-        None => String::from_str(alloc, text),
-    }
-}
-
 /// The bytes of a label, and a newline.
 fn label_line(alloc: Global, label: &str) -> Result<Vec<u8>, AllocError> {
     let mut line = Vec::new(alloc);
@@ -73,24 +65,19 @@ pub fn again(alloc: Global, kind: Kind, line: &str) -> Result<Vec<u8>, ReadFault
     }
 }
 
-/// Whether the case is written again as it stands, or as stands behind ` = `; or is refused. Not if memory ran out.
-fn is_kept(alloc: Global, kind: Kind, is_taken: bool, case: &str) -> bool {
-    let (line, full) = case.split_once(" = ").unwrap_or((case, case));
-    match (placed(alloc, line), placed(alloc, full)) {
-        (Ok(line), Ok(full)) => match again(alloc, kind, line.as_str()) {
-            Ok(written) => is_taken && outcomes::is_line(written.as_slice(), full.as_str()),
-            Err(ReadFault::BadRequest) => !is_taken,
-            Err(ReadFault::NoMemory) => false,
-        },
-        _ => false,
+/// Whether the line is written again as it is. Not if memory ran out.
+fn is_kept(alloc: Global, kind: Kind, line: &str) -> bool {
+    match again(alloc, kind, line) {
+        Ok(written) => outcomes::is_line(written.as_slice(), line),
+        Err(_) => false,
     }
 }
 
 /// Whether each line is.
-pub fn are_kept(alloc: Global, kind: Kind, are_taken: bool, lines: &str) -> bool {
+pub fn are_kept(alloc: Global, kind: Kind, lines: &str) -> bool {
     let mut are_kept = true;
     for line in lines.lines() {
-        are_kept &= is_kept(alloc, kind, are_taken, line);
+        are_kept &= is_kept(alloc, kind, line);
     }
     are_kept
 }

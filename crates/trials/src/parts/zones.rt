@@ -4,8 +4,8 @@ use calendar_due::{Zone, ZoneFault};
 use history_model::{CivilMinute, MAX_WALL};
 use std::alloc::Global;
 
-/// How far a clock is ahead of UTC, in seconds; two seconds of Unix time, and the minutes that a step from the one to the other crosses, the
-/// last of which the clock shows at the second one.
+/// How far a clock is ahead of UTC, in seconds; two seconds of Unix time, and the minutes that a step from the one to the other crosses. The clock
+/// shows the last of them at the second one.
 pub struct Offset {
     pub ahead: i32,
     pub previous: u64,
@@ -28,7 +28,7 @@ pub const HOUR: &Offset = &Offset {
     }],
 };
 
-/// Offsets that no clock has: a day and more.
+/// Offsets that no zone has: a day and more.
 pub const NONE: &[i32] = &[86_400, -86_400, i32::MAX, i32::MIN];
 
 fn is_last(minutes: &[CivilMinute], shown: CivilMinute) -> bool {

@@ -1,5 +1,5 @@
-//! Rounds of the loop over the real system, with children of its own. The launcher's store and its journal are in memory; the jobs are loaded by
-//! turns, and a client of the control socket asks the rest.
+//! Passes of the event loop over the real system, with children of its own. The launcher's store and its journal are in memory. The jobs are loaded
+//! by turns, and a client of the control socket asks the rest.
 
 use crate::edges::control_stage::heard;
 use crate::edges::places::new_folder;
@@ -43,7 +43,7 @@ pub struct Ends {
     pub steps: &'static [Step],
 }
 
-/// So many rounds a case has at most.
+/// How many passes a case has at most.
 const MOST: u32 = 6_000;
 
 /// How long it waits between two looks at what is to come, in milliseconds: an end by KILL is a second away.
@@ -160,7 +160,7 @@ fn is_whole(line: &[u8]) -> bool {
     }
 }
 
-/// What a case is played with: the loop, its client, what was replied so far, and how many rounds are left.
+/// What a case is played with: the loop, its client, what was replied so far, and how many passes are left.
 #[derive(Drop)]
 struct Stage<'a, R, H> {
     rt: &'a R,
@@ -172,7 +172,7 @@ struct Stage<'a, R, H> {
 }
 
 impl<R: System, H: LoopHost + Drop> Stage<'_, R, H> {
-    // Makes a round, if one is left. Whether the loop goes on.
+    // Makes a pass, if one is left. It returns whether the loop goes on.
     fn goes_on(&mut self) -> bool {
         if self.left == 0 {
             return false;
@@ -181,7 +181,7 @@ impl<R: System, H: LoopHost + Drop> Stage<'_, R, H> {
         matches!(round(self.rt, self.rt.alloc(), &mut self.live), Ok(false))
     }
 
-    // Sends the request, and makes rounds until its reply has come.
+    // Sends the request, and makes passes until its reply has come.
     fn reply_to(&mut self, request: &str) -> Option<Vec<u8>> {
         let sent = self.client.write(request.as_bytes()).ok()?;
         if sent != request.len() {
@@ -296,7 +296,7 @@ fn asked_by(rt: &HostRuntime, folder: &str) -> Option<(ControlSocket, UnixStream
     Some((control, client))
 }
 
-/// Plays the steps over the launcher. Gives whether each went as it says, what was replied, and the launcher.
+/// Plays the steps over the launcher. It returns whether each went as it says, what was replied, and the launcher.
 fn played<R: System, H: LoopHost + Drop>(
     rt: &R,
     host: H,
@@ -333,15 +333,13 @@ fn played<R: System, H: LoopHost + Drop>(
 fn is_played(rt: &HostRuntime, ends: &Ends, folder: &str) -> Option<bool> {
     let alloc = rt.alloc();
     let own = rt.clone().ok()?;
-    let mut host = launcher_over(own, folder)?;
-    let mut replies = Vec::new(alloc);
-    let loaded = load_all(alloc, &mut host, folder, ends.jobs, &mut replies);
-    if loaded.is_none() {
-        drop(host);
-        drop(replies);
-        return None;
-    }
     let asked_by = asked_by(rt, folder)?;
+    let Some(mut host) = launcher_over(own, folder) else {
+        drop(asked_by);
+        return None;
+    };
+    let mut replies = Vec::new(alloc);
+    let are_loaded = load_all(alloc, &mut host, folder, ends.jobs, &mut replies).is_some();
     let slept = host.edge().slept();
     let launcher = RoundLauncher::new(host, slept);
     let (all_go, replies, launcher) = played(rt, launcher, asked_by, folder, replies, ends.steps)?;
@@ -352,7 +350,8 @@ fn is_played(rt: &HostRuntime, ends: &Ends, folder: &str) -> Option<bool> {
     drop(edge);
     match journal {
         Some(sink) => {
-            Some(all_go && are_replayed(alloc, sink.taken.as_slice(), replies.as_slice()))
+            let are_replayed = are_replayed(alloc, sink.taken.as_slice(), replies.as_slice());
+            Some(are_loaded & all_go & are_replayed)
         }
         None => None,
     }

@@ -1,4 +1,4 @@
-//! Rounds over a system that refuses, with one job. The launcher's store and its journal are in memory.
+//! Passes of the event loop over a system that refuses, with one job. The launcher's store and its journal are in memory.
 
 use crate::edges::places::{edge_over, new_folder};
 use crate::edges::refusing::{Found, Grants, Refusing, new_refusing};
@@ -14,14 +14,14 @@ use std::io::ErrorKind;
 const LOAD: &[u8] =
     b"{\"req\":\"load\",\"def\":\"{\\\"Label\\\":\\\"a\\\",\\\"Program\\\":\\\"/bin/x\\\",\\\"RunAtLoad\\\":true,\\\"WatchPaths\\\":[\\\"/w\\\"],\\\"Sockets\\\":{\\\"s\\\":{\\\"SockNodeName\\\":\\\"localhost\\\",\\\"SockServiceName\\\":7}},\\\"inetdCompatibility\\\":{\\\"Wait\\\":false}}\"}";
 
-/// No reading, no sight and no connection, and each wait as it was answered.
+/// It has neither clock readings nor observations nor connections. It has each wait as it was answered.
 const JOURNAL: &[u8] = b"{\"overrides\":{},\"up\":0,\"wall\":1700000000,\"zone\":\"UTC0\"}\n\
 {\"F\":false,\"bind\":true,\"def\":\"{\\\"Label\\\":\\\"a\\\",\\\"Program\\\":\\\"/bin/x\\\",\\\"RunAtLoad\\\":true,\\\"WatchPaths\\\":[\\\"/w\\\"],\\\"Sockets\\\":{\\\"s\\\":{\\\"SockNodeName\\\":\\\"localhost\\\",\\\"SockServiceName\\\":7}},\\\"inetdCompatibility\\\":{\\\"Wait\\\":false}}\",\"ev\":\"load\",\"store\":true,\"w\":false}\n\
 {\"ev\":\"spawned\",\"job\":\"a\",\"pid\":7,\"run\":1}\n\
 {\"ev\":\"wait_refused\",\"job\":\"a\",\"run\":1}\n\
 {\"code\":3,\"ev\":\"ended\",\"job\":\"a\",\"run\":1}\n";
 
-/// The first round tells each refusal; the second finds the child's end.
+/// The first pass reports each refusal; the second finds the child's end.
 const TOLD: &str =
     "jobd: no look-out can be started from /proc/self/exe: a path that hangs stops the launcher
 jobd: a: run 1: cannot wait for its end: permission denied
@@ -57,7 +57,7 @@ pub fn launcher_over<R: System>(
     Host::new(alloc, header, store, edge, Some(new_sink(alloc, LINES))).ok()
 }
 
-/// Makes two rounds with the control socket, and gives whether both go on, and the launcher back.
+/// Makes two passes with the control socket, and returns whether both go on, and the launcher.
 fn rounds_of<R: System, H: LoopHost + Drop>(
     rt: &R,
     host: H,
@@ -69,7 +69,7 @@ fn rounds_of<R: System, H: LoopHost + Drop>(
     Some((first && second, live.into_host()))
 }
 
-/// Whether the journal is as wanted.
+/// Whether the journal is as expected.
 fn holds<R: System>(host: Host<MemoryStore, OsEdge<R>, Sink>) -> bool {
     let (table, store, edge, journal) = host.into_parts();
     drop(table);
@@ -81,7 +81,7 @@ fn holds<R: System>(host: Host<MemoryStore, OsEdge<R>, Sink>) -> bool {
     }
 }
 
-/// Whether two rounds of a launcher that has the job, with a control socket in the folder, go on, and the journal then is as wanted.
+/// Whether two passes of a launcher that has the job, with a control socket in the folder, go on, and the journal then is as expected.
 fn is_journaled(host_rt: &HostRuntime, rt: &Refusing, folder: &str) -> Option<bool> {
     let own = rt.clone().ok()?;
     let path = format!(in rt.alloc(); "{folder}/socket").ok()?;
@@ -101,8 +101,8 @@ fn is_journaled(host_rt: &HostRuntime, rt: &Refusing, folder: &str) -> Option<bo
     }
 }
 
-/// Whether a round takes each refusal as it should, goes on, and tells it: a refused wait is an event, and the next wait's end too; a
-/// refused look, reading or client is none.
+/// Whether a pass takes each refusal as it should, goes on, and reports it. A refused wait is an event, and the next wait's end too. A refused path
+/// check, clock or client does not become an event.
 pub fn are_taken(rt: &HostRuntime) -> Option<bool> {
     let system = new_refusing(rt, ErrorKind::PermissionDenied, FOUND, Grants::Openings)?;
     let Some(folder) = new_folder(rt, "refusals") else {

@@ -1,4 +1,4 @@
-//! One call each, and whether it went well.
+//! One call each, and whether it succeeded.
 
 use history_model::Setting;
 use job_defs::is_label;

@@ -1,4 +1,4 @@
-//! Disks in memory that stop after so many calls.
+//! Disks in memory that stop after a number of calls.
 
 use sqlite::Files;
 use sqlite_disk::{Disk, Fuse, Memory};
@@ -18,7 +18,7 @@ pub fn new_disks(alloc: Global) -> Disks {
     }
 }
 
-/// A disk that holds the same, and stops after so many calls.
+/// A disk that holds the same, and stops after this many calls.
 fn copy(alloc: Global, disk: &Fuse<Memory>, calls: u64) -> Option<Fuse<Memory>> {
     let mut out = Memory::new(alloc);
     let is_written = out.write_at(0, disk.inner().bytes()).is_ok();
@@ -30,7 +30,7 @@ fn copy(alloc: Global, disk: &Fuse<Memory>, calls: u64) -> Option<Fuse<Memory>> 
     }
 }
 
-/// Disks that hold the same; that of the log stops after so many calls, and that of the database after so many.
+/// Disks that hold the same. That of the log stops after `log` calls, and that of the database after `db` calls.
 pub fn copies(alloc: Global, from: &Disks, log: u64, db: u64) -> Option<Disks> {
     match (copy(alloc, &from.log, log), copy(alloc, &from.db, db)) {
         (Some(log), Some(db)) => Some(Files { log, db }),
@@ -42,7 +42,7 @@ pub fn copies(alloc: Global, from: &Disks, log: u64, db: u64) -> Option<Disks> {
     }
 }
 
-/// Whether there are any. They are let go.
+/// Whether there are any. They are dropped.
 pub fn are_there(disks: Option<Disks>) -> bool {
     let are_there = disks.is_some();
     drop(disks);

@@ -1,4 +1,5 @@
-//! What is done with a store over files that may stop. The store over files is named here alone: each function that names it is dear to prove.
+//! What is done with a store over files that may stop. Only this module names the store over files: each function that names it is expensive to
+//! prove.
 
 use crate::stores::calls::{all_of, opened, runs};
 use crate::stores::disks::Disks;
@@ -13,7 +14,7 @@ use std::alloc::Global;
 pub enum Task<'a> {
     Execute(&'static str),
     /// Settings are made and listed as it says, and the files are closed whole.
-    List(&'a Listed<'a>),
+    List(Listed<'a>),
     SetTwice,
     Turn,
     /// What is listed may follow what was acknowledged.
@@ -61,7 +62,7 @@ fn done_on<S: Alter + Drop>(
             (None, is_so, Left::Store(conn.into_store()))
         }
         Task::List(listed) => {
-            let (is_so, conn) = is_listed_on(alloc, conn, listed)?;
+            let (is_so, conn) = is_listed_on(alloc, conn, &listed)?;
             (None, is_so, Left::Conn(conn))
         }
         Task::SetTwice => {

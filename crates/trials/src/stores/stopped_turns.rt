@@ -1,8 +1,9 @@
-//! A launcher over a store whose disks stop after so many calls, for each number of calls: a setting that was acknowledged is
-//! found by the store that is opened again, and one that was refused is not made.
+//! A launcher over a store whose disks stop after a number of calls, for each such number. A setting that was acknowledged is found by the store that
+//! is opened again, and one that was refused is not made.
 
-use crate::memory_stage::{HandedEdge, Sink, edge, header};
+use crate::memory_stage::{Sink, edge, header};
 use crate::stores::stops::{NO_LAUNCHER, Said};
+use child_edge::MemoryEdge;
 use launcher::{Host, Input};
 use outside::SettingStore;
 use override_store::opened;
@@ -15,7 +16,7 @@ const LOAD: &[u8] =
     b"{\"req\":\"load\",\"def\":\"{\\\"Label\\\":\\\"a\\\",\\\"ProgramArguments\\\":[\\\"/bin/a\\\"]}\"}";
 
 /// A launcher over this store; none if the store refused.
-fn launched<T: SettingStore + Drop>(alloc: Global, store: T) -> Option<Host<T, HandedEdge, Sink>> {
+fn launched<T: SettingStore + Drop>(alloc: Global, store: T) -> Option<Host<T, MemoryEdge, Sink>> {
     match (header(alloc, "UTC0", 0), edge(alloc, &[])) {
         (Some(header), Some(edge)) => Host::new(alloc, header, store, edge, None).ok(),
         (header, edge) => {
@@ -27,7 +28,7 @@ fn launched<T: SettingStore + Drop>(alloc: Global, store: T) -> Option<Host<T, H
     }
 }
 
-fn code<T: SettingStore>(alloc: Global, host: &mut Host<T, HandedEdge, Sink>, line: &[u8]) -> u8 {
+fn code<T: SettingStore>(alloc: Global, host: &mut Host<T, MemoryEdge, Sink>, line: &[u8]) -> u8 {
     match host.turn(alloc, Input::Line(line)).refusal {
         Some(refusal) => refusal.code(),
         None => 0,
@@ -35,7 +36,7 @@ fn code<T: SettingStore>(alloc: Global, host: &mut Host<T, HandedEdge, Sink>, li
 }
 
 /// The store once `a` was disabled and loaded.
-fn turned<T: SettingStore + Drop>(alloc: Global, host: Host<T, HandedEdge, Sink>) -> (Said, T) {
+fn turned<T: SettingStore + Drop>(alloc: Global, host: Host<T, MemoryEdge, Sink>) -> (Said, T) {
     let mut host = host;
     let disabled = code(alloc, &mut host, DISABLE);
     let loaded = code(alloc, &mut host, LOAD);

@@ -1,9 +1,9 @@
-//! Disks in memory that stop after so many calls, from the opening of a first version's file to the second of two
-//! settings, or from the opening of a new one through a launcher's turns: what was acknowledged is found again.
+//! Disks in memory that stop after a number of calls: what was acknowledged is found again. The calls go from the opening of a first version's file
+//! to the second of two settings, or from the opening of a new one through a launcher's turns.
 
-use crate::stores::calls::{Row, SECOND, sets, show_all};
+use crate::stores::calls::{FIRST_VERSION, Row, SECOND, sets, show_all};
 use crate::stores::disks::{Disks, MANY, are_there, copies};
-use crate::stores::files::{Begin, left_by};
+use crate::stores::files::left_by;
 use crate::stores::on_disks::NOTHING;
 use crate::stores::over_files::{Task, done_on_disks, so_over};
 use history_model::Setting;
@@ -14,6 +14,13 @@ use std::alloc::Global;
 const ON: Row<'static> = ("c", true, SECOND);
 
 const OFF: Row<'static> = ("c", false, SECOND);
+
+/// What may be found: the settings of the first version, and one of the two after them or neither.
+static WITH_NEITHER: [Row<'static>; 2] = [("a", true, 0), ("b", false, 0)];
+
+static WITH_ON: [Row<'static>; 3] = [("a", true, 0), ("b", false, 0), ON];
+
+static WITH_OFF: [Row<'static>; 3] = [("a", true, 0), ("b", false, 0), OFF];
 
 /// What was acknowledged.
 #[derive(Clone, Copy)]
@@ -71,10 +78,10 @@ pub fn may_follow(said: Said, all: &[Setting]) -> bool {
             first,
             second,
         } => {
-            let old = show_all(all, &[("a", true, 0), ("b", false, 0)]) && !first && !second;
-            let on = show_all(all, &[("a", true, 0), ("b", false, 0), ON]) && opened && !second;
-            let off = show_all(all, &[("a", true, 0), ("b", false, 0), OFF]) && opened;
-            old || on || off
+            let is_old = show_all(all, &WITH_NEITHER);
+            let is_on = show_all(all, &WITH_ON);
+            let is_off = show_all(all, &WITH_OFF);
+            (is_old & !first & !second) | (is_on & opened & !second) | (is_off & opened)
         }
         Said::Turns { disabled, loaded } => match (disabled, loaded, all) {
             (0, 5, [one]) | (9, 0, [one]) => one.label.as_str() == "a" && one.disabled,
@@ -84,7 +91,7 @@ pub fn may_follow(said: Said, all: &[Setting]) -> bool {
     }
 }
 
-/// Whether a store over copies of these files, on disks that do not stop, lists what may follow. The files are let go.
+/// Whether a store over copies of these files, on disks that do not stop, lists what may follow. The files are dropped.
 fn is_followed(alloc: Global, files: Disks, said: Said) -> bool {
     let left = copies(alloc, &files, MANY, MANY);
     drop(files);
@@ -101,8 +108,8 @@ pub enum Run {
     Turns,
 }
 
-/// Whether the run was acknowledged whole; none if what is found does not follow. A launcher that is not made acknowledges nothing, and what its
-/// store stood on may be lost.
+/// Whether the run was acknowledged whole; None if what is found does not follow. A launcher that is not made acknowledges nothing, and the disks of
+/// its store may be lost.
 fn stops(alloc: Global, run: Run, from: &Disks, log: u64, db: u64) -> Option<bool> {
     let (task, nothing) = match run {
         Run::Settings => (Task::SetTwice, NO_STORE),
@@ -145,8 +152,8 @@ fn each_is_followed(alloc: Global, run: Run, from: &Disks, is_log: bool) -> bool
 /// The same, from files of the first version for settings, and from a store with no setting for a launcher.
 pub fn are_followed(alloc: Global, run: Run, is_log: bool) -> bool {
     let from = match run {
-        Run::Settings => left_by(alloc, Begin::Old, &[]),
-        Run::Turns => left_by(alloc, Begin::New, &[NOTHING]),
+        Run::Settings => left_by(alloc, FIRST_VERSION, &[]),
+        Run::Turns => left_by(alloc, "", &[NOTHING]),
     };
     match from {
         Some(from) => {

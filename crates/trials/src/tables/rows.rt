@@ -1,9 +1,10 @@
-//! What is done with a table of jobs, and what is to come of it: how many jobs one event asks for their order, and what no line of a journal
-//! shows. A reading asks those whose next moment it reaches and those with a calendar entry of a crossed minute, a sight those that list its
-//! path, a load the loaded job, an answer its job, an unload none where the job leaves.
+//! What is done with a table of jobs, and what is to come of it: how many jobs one event asks for their order. It also has what no line of a journal
+//! shows. A clock reading asks those whose next deadline it reaches and those with a calendar entry of a crossed minute. An observation asks those
+//! that list its path, a load the loaded job, and an answer its job. An unload asks none if the job leaves.
 
 use crate::tables::rows::Event::*;
 use crate::tables::rows::Row::*;
+use history_model::JobNo;
 
 /// What happens.
 pub enum Event {
@@ -18,10 +19,10 @@ pub enum Event {
 pub enum Row {
     /// An event, with how many jobs are asked and how many orders come; none if the event is refused.
     Asks(Event, Option<(u32, usize)>),
-    /// A load. The job has the number of this place, which is the place's from its first such row on, and another place's never.
-    Numbered(&'static str, usize),
-    /// Behind this label the next child is of this label, the number of the place, and this run; or there is none.
-    Child(&'static str, Option<(&'static str, usize, u64)>),
+    /// A load. The job has this number.
+    Numbered(&'static str, JobNo),
+    /// Behind this label the next child is of this label, number and run; or there is none.
+    Child(&'static str, Option<(&'static str, JobNo, u64)>),
     /// Behind this path this one is listed next; or none is.
     Path(&'static str, Option<&'static str>),
     /// No job is there.
@@ -44,13 +45,13 @@ pub const GIVEN_BACK: &[Row] = &[Numbered(RESTS_A, 0), Asks(Unload("a"), Some((0
 
 /// Children come in the order of labels.
 pub const CHILDREN: &[Row] = &[
-    Numbered(RUNS_B, 1),
-    Numbered(RUNS_A, 0),
+    Numbered(RUNS_B, 0),
+    Numbered(RUNS_A, 1),
     Asks(Load(RUNS_C), Some((1, 1))),
     Asks(Spawned("a", 1), Some((1, 0))),
     Asks(Spawned("b", 1), Some((1, 0))),
-    Child("", Some(("a", 0, 1))),
-    Child("a", Some(("b", 1, 1))),
+    Child("", Some(("a", 1, 1))),
+    Child("a", Some(("b", 0, 1))),
     Child("b", None),
 ];
 
@@ -72,13 +73,13 @@ pub const MANY: &[Row] = &[
     Asks(Saw("/w"), Some((0, 0))),
 ];
 
-/// After an hour the interval of each of these jobs is over; a moment later that of none.
+/// After an hour the interval of each of these jobs is over; a millisecond later none is.
 pub const ALL: &[Row] = &[
     Asks(Clock(3_600_000), Some((100, 100))),
     Asks(Clock(3_600_001), Some((0, 0))),
 ];
 
-/// The first reading is at 22:13:20.
+/// The first clock reading is at 22:13:20.
 const HALF_PAST: &str = r#"{"Label":"m","Program":"/bin/x","StartCalendarInterval":{"Minute":30}}"#;
 
 const FIRST_TO_WATCH: &str = r#"{"Label":"a0005","Program":"/bin/x","WatchPaths":["/w"]}"#;
@@ -94,7 +95,7 @@ pub const WATCHED: &[Row] = &[
     Asks(Saw("/u"), Some((1, 0))),
 ];
 
-/// The minute 22:14 is that of no job, 22:30 that of one.
+/// No job has the minute 22:14, and one has 22:30.
 pub const MINUTES: &[Row] = &[
     Asks(Load(HALF_PAST), Some((1, 0))),
     Asks(Clock(40_000), Some((0, 0))),

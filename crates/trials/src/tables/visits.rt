@@ -6,13 +6,7 @@ use history_model::{JobNo, Obs, Reading, Refusal};
 use job_table::{JobTable, Step};
 use std::alloc::Global;
 
-/// The numbers of places.
-type Numbers = [Option<JobNo>; 3];
-
-/// A number that no job has.
-const NOBODY: Option<JobNo> = Some(7);
-
-/// The reading at so many milliseconds of `up`.
+/// The clock reading at this `up`.
 fn at(up: u64) -> Reading {
     Reading {
         up,
@@ -57,48 +51,12 @@ fn happens(alloc: Global, table: &mut JobTable, event: &Event) -> Option<(u32, u
     }
 }
 
-/// Whether the job has the number of the place, which is the place's from now on if it has none, and not that of the other place.
-fn is_numbered(numbers: &mut Numbers, place: usize, job: Option<JobNo>) -> bool {
-    let [first, second, _] = *numbers;
-    let (own, other) = if place == 0 {
-        (first, second)
-    } else {
-        (second, first)
-    };
-    let is_so = job.is_some() && job != other && (own.is_none() || own == job);
-    if is_so {
-        *numbers = if place == 0 {
-            [job, second, NOBODY]
-        } else {
-            [first, job, NOBODY]
-        };
-    }
-    is_so
-}
-
-/// The number of the place.
-fn number_at(numbers: &Numbers, place: usize) -> Option<JobNo> {
-    match numbers.get(place) {
-        Some(number) => *number,
-        None => None,
-    }
-}
-
 /// Whether the row goes as it says.
-fn goes(alloc: Global, table: &mut JobTable, numbers: &mut Numbers, row: &Row) -> bool {
+fn goes(alloc: Global, table: &mut JobTable, row: &Row) -> bool {
     match *row {
         Row::Asks(ref event, wanted) => happens(alloc, table, event) == wanted,
-        Row::Numbered(definition, place) => {
-            let job = load(alloc, table, definition);
-            is_numbered(numbers, place, job)
-        }
-        Row::Child(behind, wanted) => match (table.child_after(behind), wanted) {
-            (Some((label, job, run)), Some((its, place, of))) => {
-                label == its && Some(job) == number_at(numbers, place) && run == of
-            }
-            (None, None) => true,
-            _ => false,
-        },
+        Row::Numbered(definition, number) => load(alloc, table, definition) == Some(number),
+        Row::Child(behind, wanted) => table.child_after(behind) == wanted,
         Row::Path(behind, wanted) => table.path_after(behind) == wanted,
         Row::Empty => table.is_empty(),
     }
@@ -123,24 +81,23 @@ fn are_loaded(alloc: Global, table: &mut JobTable) -> Option<bool> {
 }
 
 /// Whether the rows go as they say, one after another.
-fn all_go(alloc: Global, table: &mut JobTable, numbers: &mut Numbers, rows: &[Row]) -> bool {
+fn all_go(alloc: Global, table: &mut JobTable, rows: &[Row]) -> bool {
     for row in rows {
-        if !goes(alloc, table, numbers, row) {
+        if !goes(alloc, table, row) {
             return false;
         }
     }
     true
 }
 
-/// Whether the rows go as they say over a new table, so many times, with the hundred jobs or with none. The table is let go in one place,
-/// since each is proved for its whole type.
+/// Whether the rows go as they say over a new table, `times` times, with the hundred jobs or with none. The table is dropped in one place, since each
+/// place that drops it is proved for its whole type.
 pub fn all_happen(alloc: Global, is_full: bool, times: u32, rows: &[Row]) -> Option<bool> {
     let zone = Zone::fixed(0).ok()?;
     let mut table = JobTable::new(alloc, at(0), zone, Vec::new(alloc)).ok()?;
     let mut are_so = !is_full || are_loaded(alloc, &mut table) == Some(true);
-    let mut numbers = [None, None, NOBODY];
     for _ in 0..times {
-        are_so = are_so && all_go(alloc, &mut table, &mut numbers, rows);
+        are_so = are_so && all_go(alloc, &mut table, rows);
     }
     drop(table);
     Some(are_so)

@@ -1,5 +1,5 @@
-//! A journal over writers that take few bytes or refuse: what it then holds, and how often its closing is told. The expected
-//! lines are those of the line protocol, and off no run of this code.
+//! A journal over writers that take few bytes or refuse: what it then holds, and how often it reports its closing. The expected lines are those of
+//! the line protocol, and off no run of this code.
 
 use crate::cases::Case;
 use crate::memory_stage::{Sink, header, new_sink};
@@ -17,7 +17,7 @@ const LINES: &[u8] = b"{\"overrides\":{},\"up\":0,\"wall\":1700000000,\"zone\":\
 pub struct Row {
     /// The most bytes that one write takes.
     piece: usize,
-    /// How many writes go well: each number from the first to the second.
+    /// How many writes succeed: each number from the first to the second.
     writes: (usize, usize),
     /// Whether the write after them takes no byte; if not, it is an error.
     is_full: bool,
@@ -29,7 +29,7 @@ pub struct Row {
     is_whole: bool,
 }
 
-/// Whatever the pieces, all is written; the journal stays open, and nothing is told.
+/// Whatever the pieces, all is written; the journal stays open, and nothing is reported.
 const OPEN: Row = Row {
     piece: 7,
     writes: (1000, 1000),
@@ -70,7 +70,7 @@ pub const FULL: Row = Row {
     ..FRONT
 };
 
-/// What is told of a journal: twice whether it was closed, and whether its writer is given back.
+/// What a journal reports: twice whether it was closed, and whether its writer is given back.
 type Told = (bool, bool, bool);
 
 /// The second of the two events.
@@ -81,7 +81,7 @@ fn event() -> Event<'static> {
     }
 }
 
-/// Notes a list and the event, ends the turn, and tells what is told of the journal.
+/// Notes a list and the event, ends the turn, and returns what the journal reports.
 fn turned(alloc: Global, journal: Journal<&mut Sink>) -> Told {
     let mut journal = journal;
     journal.note(alloc, &Event::List);
@@ -93,8 +93,8 @@ fn turned(alloc: Global, journal: Journal<&mut Sink>) -> Told {
     (first, second, given)
 }
 
-/// Says whether the journal over a writer for which so many writes go well becomes what the row says. Its closing is told once, and a
-/// writer that fails at nothing is flushed twice: behind the header's line, and at the turn's end.
+/// Returns whether the journal over a writer for which this many writes go well becomes what the row says. Its closing is reported once. A writer
+/// that fails at nothing is flushed twice: after the header's line, and at the turn's end.
 fn becomes(alloc: Global, row: &Row, writes: usize, header: &Header) -> bool {
     let mut writer = Sink {
         piece: row.piece,
@@ -123,10 +123,4 @@ pub fn become_so(alloc: Global, row: &Row) -> Option<bool> {
     }
     drop(header);
     Some(are_so)
-}
-
-/// Says whether no journal stays silent: nothing is told and nothing is given back.
-pub fn is_silent(alloc: Global) -> Option<bool> {
-    let told = turned(alloc, Journal::none());
-    Some(told == (false, false, false))
 }

@@ -4,27 +4,25 @@
 
 use crate::cases::{Case, Line};
 use crate::little_memory::turning::{LIST, LOAD, LOAD_LISTENING};
-use crate::memory_stage::{Handed, Launched, Left, asked, parts_of};
+use crate::memory_stage::{Launched, Left, asked, parts_of};
 use child_edge::{EdgeCall, Scripted};
 use history_model::{Ended, JobNo, Reading};
 use launcher::Input;
 use std::alloc::Global;
 
-/// What the launcher is told, the code and the text of its reply, and how many calls were then made in all.
+/// What the launcher gets, the code and the text of its reply, and how many calls were then made in all.
 type Told = (Input<'static>, u8, &'static str, usize);
 
-/// What a launcher is told, and what comes of it.
+/// What a launcher gets, and what comes of it.
 pub struct Turns {
-    /// The labels that its store disables.
-    held: &'static [&'static str],
-    /// What its store answers if it is told a setting.
+    /// What its store answers if it is given a setting.
     answer: bool,
     /// How many lines its journal takes.
     writes: usize,
     told: &'static [Told],
     /// The calls that are made with their answers, and no other.
     calls: &'static [(EdgeCall, Scripted)],
-    /// How often its store is told a setting.
+    /// How often its store gets a setting.
     asked: u64,
     /// The one label that its store then disables.
     disabled: Option<&'static str>,
@@ -43,14 +41,7 @@ const LOAD_AT_ONCE: Input<'static> = Input::Line(
 
 const STOP: Input<'static> = Input::Line(b"{\"req\":\"stop\",\"job\":\"a\"}");
 
-const DISABLE_A: Input<'static> = Input::Line(b"{\"req\":\"disable\",\"job\":\"a\"}");
-
-/// A reading is no request.
-const CLOCK_LINE: Input<'static> = Input::Line(b"{\"req\":\"clock\",\"up\":1,\"wall\":1}");
-
 const KILLED: Input<'static> = Input::Ended("a", 1, Ended::Signal(9));
-
-const HEADER: &[u8] = b"{\"overrides\":{},\"up\":0,\"wall\":1700000000,\"zone\":\"UTC0\"}\n";
 
 /// The header's line, that of the load of the first job, and that of its start.
 const STARTS: &[u8] = b"{\"overrides\":{},\"up\":0,\"wall\":1700000000,\"zone\":\"UTC0\"}\n\
@@ -65,11 +56,6 @@ const STARTS_NOT: &[u8] = b"{\"overrides\":{},\"up\":0,\"wall\":1700000000,\"zon
 /// The header's line, and that of the load of the job with a socket, which the store refused.
 const NOT_STORED: &[u8] = b"{\"overrides\":{},\"up\":0,\"wall\":1700000000,\"zone\":\"UTC0\"}\n\
 {\"F\":false,\"bind\":true,\"def\":\"{\\\"Label\\\":\\\"s\\\",\\\"ProgramArguments\\\":[\\\"/bin/x\\\"],\\\"Sockets\\\":{\\\"l\\\":{\\\"SockPathName\\\":\\\"/s\\\"}},\\\"inetdCompatibility\\\":{\\\"Wait\\\":false}}\",\"ev\":\"load\",\"store\":false,\"w\":true}\n";
-
-/// The header's line of a launcher whose store held one setting, and that of a load which it refused.
-const BEGUN: &[u8] =
-    b"{\"overrides\":{\"a\":true},\"up\":0,\"wall\":1700000000,\"zone\":\"UTC0\"}\n\
-{\"F\":false,\"bind\":true,\"def\":\"{\\\"Label\\\":\\\"a\\\",\\\"ProgramArguments\\\":[\\\"/bin/a\\\"],\\\"RunAtLoad\\\":true}\",\"ev\":\"load\",\"store\":true,\"w\":false}\n";
 
 /// The number that the first job has.
 const FIRST: JobNo = 0;
@@ -135,9 +121,8 @@ const AT_60_000: Input<'static> = Input::Clock(Reading {
     wall: 1_700_000_000,
 });
 
-/// A launcher with no setting, whose store takes each and whose journal takes all, and that has a job in the end.
+/// A launcher whose store takes each setting and whose journal takes all, and that has a job in the end.
 const WITH_A_JOB: Turns = Turns {
-    held: &[],
     answer: true,
     writes: 1_000,
     told: &[],
@@ -278,7 +263,7 @@ static LINES: &[Line] = &[
             ..WITH_A_JOB
         })],
     ),
-    // The sockets are bound, the store is told once and refuses, and they are given up again. The one line tells so.
+    // The sockets are bound, the store gets one setting and refuses, and they are given up again. The one line says so.
     (
         "a_refused_store_releases_the_sockets",
         &[Case::Launched(&Turns {
@@ -298,16 +283,6 @@ static LINES: &[Line] = &[
             ..WITHOUT
         })],
     ),
-    // A label that is disabled is so in the store, and for loads.
-    (
-        "a_setting_is_stored",
-        &[Case::Launched(&Turns {
-            told: &[(DISABLE_A, 0, "", 0), (Input::Line(LOAD), 5, "", 0)],
-            asked: 1,
-            disabled: Some("a"),
-            ..WITHOUT
-        })],
-    ),
     (
         "a_setting_of_no_job_is_stored",
         &[Case::Launched(&Turns {
@@ -323,28 +298,6 @@ static LINES: &[Line] = &[
             ..WITHOUT
         })],
     ),
-    (
-        "a_setting_that_is_not_stored_is_not_made",
-        &[Case::Launched(&Turns {
-            answer: false,
-            told: &[(DISABLE_A, 9, "", 0), (Input::Line(LOAD), 0, "", 1)],
-            calls: &[(START_1, STARTED)],
-            asked: 1,
-            ..WITH_A_JOB
-        })],
-    ),
-    // The launcher begins with the settings of its store.
-    (
-        "a_launcher_begins_with_the_store",
-        &[Case::Launched(&Turns {
-            held: &["a"],
-            writes: 10,
-            told: &[(Input::Line(LOAD), 5, "", 0)],
-            disabled: Some("a"),
-            journal: Some(BEGUN),
-            ..WITHOUT
-        })],
-    ),
     // Turns go on if the journal's writer refuses, and its closing is told once.
     (
         "a_refused_line_stops_no_turn",
@@ -356,37 +309,9 @@ static LINES: &[Line] = &[
             ..WITH_A_JOB
         })],
     ),
-    // What is told is no event: the journal holds its header alone.
-    (
-        "a_line_that_is_no_request_is_no_event",
-        &[Case::Launched(&Turns {
-            told: &[
-                (Input::Line(b"{\"req\":\"lists\"}"), 2, "", 0),
-                (CLOCK_LINE, 2, "", 0),
-                (Input::Line(b"{\"ev\":\"list\"}"), 2, "", 0),
-                (Input::Line(b""), 2, "", 0),
-            ],
-            journal: Some(HEADER),
-            ..WITHOUT
-        })],
-    ),
-    // The same of what happens under a name that is no label.
-    (
-        "a_name_that_is_no_label_is_no_event",
-        &[Case::Launched(&Turns {
-            told: &[
-                (Input::Came("", 1), 2, "", 0),
-                (Input::Left("a/b", 1), 2, "", 0),
-                (Input::Ended("a\n", 1, Ended::Code(0)), 2, "", 0),
-                (Input::WaitRefused("", 1), 2, "", 0),
-            ],
-            journal: Some(HEADER),
-            ..WITHOUT
-        })],
-    ),
 ];
 
-/// Whether each input is answered as it says, and so many calls were then made.
+/// Whether each input is answered as it says, and this many calls were then made.
 fn are_answered<H: Launched>(alloc: Global, host: &mut H, told: &[Told]) -> bool {
     let mut are_so = true;
     for (input, code, text, made) in told {
@@ -396,7 +321,7 @@ fn are_answered<H: Launched>(alloc: Global, host: &mut H, told: &[Told]) -> bool
     are_so
 }
 
-/// Whether the launcher answers as it is said, and tells once, and not before, that its journal was closed if it was.
+/// Whether the launcher answers as expected. It must report once, and not before, that its journal was closed if it was.
 fn answers<H: Launched>(alloc: Global, host: &mut H, turns: &Turns) -> bool {
     let was_told = host.has_closed();
     let are_so = are_answered(alloc, host, turns.told);
@@ -407,7 +332,7 @@ fn answers<H: Launched>(alloc: Global, host: &mut H, turns: &Turns) -> bool {
 
 /// Whether the calls were made, the store has the one setting, or none, and the journal holds what is looked at.
 fn is_left(left: &Left, turns: &Turns) -> bool {
-    let is_called = left.edge.orders() == turns.calls && left.has_job == turns.has_job;
+    let is_called = left.edge.calls() == turns.calls && left.has_job == turns.has_job;
     let is_held = match (turns.disabled, left.store.held.as_slice()) {
         (Some(label), [setting]) => setting.label.as_str() == label && setting.disabled,
         (None, []) => true,
@@ -423,7 +348,7 @@ fn is_left(left: &Left, turns: &Turns) -> bool {
 
 /// Whether the launcher answers, calls, stores and writes as it is said.
 pub fn is_so<H: Launched + Drop>(alloc: Global, turns: &Turns) -> Option<bool> {
-    let (header, mut store, edge) = parts_of(alloc, "UTC0", 0, turns.held, turns.calls)?;
+    let (header, mut store, edge) = parts_of(alloc, "UTC0", 0, &[], turns.calls)?;
     store.answer = turns.answer;
     let mut launcher = H::open(alloc, (header, store, edge), turns.writes).ok()?;
     let answers = answers(alloc, &mut launcher, turns);

@@ -1,4 +1,4 @@
--- By the rounds, and by the life of each client.
+-- By the calls of `serve`, and by the life of each client.
 use Rattle.control_socket.proofs.LivesLemmas.{all-alive, all-answered, answered-of, sent-to}
 use Rattle.control_socket.proofs.laws.each_line_is_a_clients_next.Goals as goal
 

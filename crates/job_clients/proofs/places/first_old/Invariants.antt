@@ -5,7 +5,7 @@ use Rattle.job_clients.specs.declared.places.Heard.{Heard}
 use Rattle.job_clients.specs.Places.{is_rival}
 use Rattle.job_clients.proofs.places.first_old.Given as goal
 
--- of the first so many callers, if one of them is a rival
+-- of the callers so far, if one of them is a rival
 abbrev pub IsEarliest : (Heard → Bool) → List Heard → ℕ → Option Heard → Type 0
 IsEarliest is_rival callers seen None =
     (k : ℕ) (d : Heard) → k < seen → is_rival (get_or callers k d) ≡ false

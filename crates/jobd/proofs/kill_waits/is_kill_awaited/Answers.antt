@@ -1,4 +1,4 @@
--- Each child that is asked is behind those before, and none of them waits.
+-- Each child that is asked is after those before, and none of them waits.
 use Rattle.std.proofs.Common.{rules, ◌≡◌, ◌+◌, false, inl, inr, subst, ◌∙◌, arith}
 use Rattle.history_model.specs.Machine.{State, past_of}
 use Rattle.history_model.specs.declared.TheConstants.{MAX_JOBS}

@@ -1,4 +1,4 @@
--- A job with a child waits by its moment.
+-- A job with a child waits by its time.
 use Rattle.std.proofs.Common.{sym, subst, ◌∙◌}
 use Rattle.loaded_jobs.specs.Waking.{HasMoments}
 use Rattle.jobd.proofs.KillWaitsLemmas.{waits-by, waits-none}

@@ -1,4 +1,4 @@
--- The table hears the answer under the number of its job, and its own answer is handed on.
+-- The table hears the answer under the number of its job, and its own answer is passed on.
 use Rattle.launcher.specs.HostTurns.{answer_event}
 use Rattle.launcher.proofs.OneEventLemmas.{answer-on, refused-rows}
 use Rattle.launcher.proofs.events.hear_answer.Goals as goal

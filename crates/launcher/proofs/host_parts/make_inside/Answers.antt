@@ -1,4 +1,4 @@
--- A header for which a table stands has no fault, and can be written.
+-- A header that a table represents has no fault, and can be written.
 use Rattle.std.proofs.Common.{◌≡◌, true, false, inr, sym, ◌∙◌, subst}
 use Rattle.history_model.specs.MachineLaws.{AreInOrder}
 use Rattle.ctl_protocol.proofs.HeaderReaderLemmas.{labels_in}

@@ -1,4 +1,4 @@
--- By the rounds, one after another.
+-- By the passes, one after another.
 use Rattle.live_loop.proofs.CountingLemmas.{counts}
 use Rattle.live_loop.proofs.laws.each_client_has_a_number_of_its_own.Goals as goal
 

@@ -1,4 +1,4 @@
--- What the looks of a round do.
+-- What the path checks of a pass do.
 use Rattle.std.proofs.Common.{rules}
 use Rattle.live_loop.proofs.RoundsLemmas.{early_or_due}
 use Rattle.live_loop.proofs.rounds.round.Goals as goal

@@ -1,4 +1,4 @@
--- What was gone over is copied.
+-- The part that was passed is copied.
 use Rattle.std.proofs.Common.{◌≡◌, take}
 use Rattle.override_store.specs.KnownSettings.{settings_of}
 use Rattle.override_store.proofs.known.rising.Given as goal

@@ -1,4 +1,4 @@
--- Round by round.
+-- Pass by pass.
 use Rattle.round_laws.proofs.StartingRoundLemmas.{round_starts, rounds_start, waiting_starts}
 use Rattle.round_laws.proofs.laws.a_due_start_is_ordered_in_its_round.Goals as goal
 

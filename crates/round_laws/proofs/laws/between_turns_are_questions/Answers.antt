@@ -1,4 +1,4 @@
--- Round by round.
+-- Pass by pass.
 use Rattle.round_laws.proofs.CalledLemmas.{rounds_go}
 use Rattle.round_laws.proofs.laws.between_turns_are_questions.Goals as goal
 

@@ -1,4 +1,4 @@
--- Round by round.
+-- Pass by pass.
 use Rattle.round_laws.proofs.TurnsLemmas.{rounds_go}
 use Rattle.round_laws.proofs.laws.rounds_are_turns.Goals as goal
 

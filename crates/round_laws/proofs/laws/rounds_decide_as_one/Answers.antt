@@ -1,4 +1,4 @@
--- Round by round.
+-- Pass by pass.
 use Rattle.round_laws.proofs.DecidingLemmas.{decides}
 use Rattle.round_laws.proofs.laws.rounds_decide_as_one.Goals as goal
 

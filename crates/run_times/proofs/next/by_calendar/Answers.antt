@@ -1,4 +1,4 @@
--- What keeps the calendar from a start, and the moment from which it starts the job.
+-- What keeps the calendar from a start, and from when on it starts the job.
 use Rattle.std.proofs.Common.{◌+◌, ◌*◌, unwrap_or, nat_le, ap, sym, ◌∙◌, arith, rules}
 use Rattle.std.specs.Prelude.{max}
 use Rattle.history_model.specs.declared.TheConstants.{SECOND}

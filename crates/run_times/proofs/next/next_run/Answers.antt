@@ -1,4 +1,4 @@
--- The number that is found is the least after which a reading makes the spawn due.
+-- The number that is found is the least after which a clock reading makes the spawn due.
 use Rattle.std.proofs.Common.{◌+◌, ◌*◌, ◌≤◌, not, ◌&&◌, ◌||◌, unwrap_or, nat_le, sym, subst, ◌∙◌}
 use Rattle.std.specs.Prelude.{IfSome}
 use Rattle.history_model.specs.declared.TheConstants.{SECOND}

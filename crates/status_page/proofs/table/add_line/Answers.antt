@@ -1,4 +1,4 @@
--- What stands before the word of the state, the word, and what stands behind it.
+-- What comes before the name of the state, the name, and what follows it.
 use Rattle.std.proofs.Common.{◌++◌, ◌∷◌, [], subst}
 use Rattle.run_times.specs.Written.{Adds}
 use Rattle.run_times.proofs.GrowingLemmas.{adds, adds_on}

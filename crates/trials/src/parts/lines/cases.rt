@@ -1,5 +1,5 @@
-//! Lines as other programs write them, one to a line: by the rows of the tables, and not from what `ctl_protocol` writes. An `@`
-//! stands for a label of 255 bytes, the longest that there are. Lines of a journal that tell no event lie in `data/` of `try_replay`.
+//! Lines as other programs write them, one to a line: by the rows of the tables, and not from what `ctl_protocol` writes. Lines of a journal that
+//! are no event lie in `data/` of `try_replay`.
 
 /// Lines of a journal as they are written. Each is read, and written again.
 pub const EVENTS: &str = r#"{"F":false,"bind":true,"def":"..","ev":"load","store":true,"w":false}
@@ -36,7 +36,3 @@ pub const REQUESTS: &str = r#"{"F":false,"def":"..","req":"load","w":true}
 {"req":"list"}
 {"job":"a","req":"print"}
 {"req":"shutdown"}"#;
-
-/// The label that an `@` stands for, of 255 bytes.
-pub const LABEL: &str =
-    "bbbbbbbbbbbbbbbbbbbbbbbbbbbbbbbbbbbbbbbbbbbbbbbbbbbbbbbbbbbbbbbbbbbbbbbbbbbbbbbbbbbbbbbbbbbbbbbbbbbbbbbbbbbbbbbbbbbbbbbbbbbbbbbbbbbbbbbbbbbbbbbbbbbbbbbbbbbbbbbbbbbbbbbbbbbbbbbbbbbbbbbbbbbbbbbbbbbbbbbbbbbbbbbbbbbbbbbbbbbbbbbbbbbbbbbbbbbbbbbbbbbbbbbbbbbbbbb";

@@ -1,40 +1,15 @@
-//! What is written for an outcome and a reply, to the byte.
-use ctl_protocol::{outcome_line, reply_line};
-use history_model::{Act, Refusal, Reply, Text};
+//! What is written for a reply, to the byte.
+use ctl_protocol::reply_line;
+use history_model::{Reply, Text};
 use std::alloc::Global;
 
-/// A refusal if there is one, a text, the orders of an outcome or none for a reply, and the line that is wanted.
-pub type Told = (
-    Option<Refusal>,
-    &'static str,
-    Option<&'static [(&'static str, Act)]>,
-    &'static str,
-);
+/// The text of a reply, and the line that is wanted.
+pub type Told = (&'static str, &'static str);
 
 pub const TOLD: &[Told] = &[
+    ("", r#"{"code":0,"text":""}"#),
     (
-        None,
-        "a\t\"b\"\n",
-        Some(&[
-            ("a", Act::Spawn { run: 1, conn: None }),
-            (
-                "a",
-                Act::Spawn {
-                    run: 1,
-                    conn: Some(3),
-                },
-            ),
-            ("a", Act::Term { run: 1 }),
-            ("a", Act::Kill { run: 1 }),
-            ("a", Act::Close { conn: 3 }),
-            ("a", Act::Gone),
-        ]),
-        r#"{"code":0,"orders":[{"job":"a","order":"spawn","run":1},{"conn":3,"job":"a","order":"spawn","run":1},{"job":"a","order":"term","run":1},{"job":"a","order":"kill","run":1},{"conn":3,"job":"a","order":"close"},{"job":"a","order":"gone"}],"text":"a\t\"b\"\n"}"#,
-    ),
-    (
-        None,
         "PID\tStatus\tLabel\n",
-        None,
         r#"{"code":0,"text":"PID\tStatus\tLabel\n"}"#,
     ),
 ];
@@ -45,15 +20,15 @@ pub fn is_line(line: &[u8], text: &str) -> bool {
 }
 
 fn is_told(alloc: Global, told: &Told) -> bool {
-    let (refusal, text, orders, wanted) = *told;
+    let (text, wanted) = *told;
     let Ok(text) = Text::copy_of(alloc, text) else {
         return false;
     };
-    let reply = Reply { refusal, text };
-    let line = match orders {
-        Some(orders) => outcome_line(alloc, &reply, orders),
-        None => reply_line(alloc, &reply),
+    let reply = Reply {
+        refusal: None,
+        text,
     };
+    let line = reply_line(alloc, &reply);
     drop(reply);
     match line {
         Ok(line) => is_line(line.as_slice(), wanted),

@@ -1,4 +1,4 @@
--- What came is taken, and the round in which it was looked at is forgotten.
+-- What came is taken, and the `serve` in which it was checked is forgotten.
 use Rattle.control_socket.proofs.client.Client.hear.Goals as goal
 
 pub returns-then-has_come : goal.returns-then-has_come

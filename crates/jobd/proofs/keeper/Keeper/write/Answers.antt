@@ -1,4 +1,4 @@
--- What stands before the lines of jobs is the launcher's.
+-- What comes before the lines of jobs is the launcher's.
 use Rattle.jobd.proofs.keeper.Keeper.write.Goals as goal
 
 pub returns : goal.returns

@@ -1,4 +1,4 @@
--- What is handed in at the beginning of a round.
+-- What is delivered at the beginning of a pass.
 use Rattle.jobd.proofs.round_launcher.RoundLauncher.begin.Goals as goal
 
 pub returns : goal.returns

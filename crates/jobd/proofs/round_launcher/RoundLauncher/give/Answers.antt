@@ -1,4 +1,4 @@
--- The reading, and then the input.
+-- The clock reading, and then the input.
 use Rattle.std.proofs.Common.{rules}
 use Rattle.jobd.proofs.round_launcher.RoundLauncher.give.Goals as goal
 

@@ -1,4 +1,4 @@
--- Whether the reading is handed in on its own.
+-- Whether the clock reading is delivered on its own.
 use Rattle.std.proofs.Common.{◌≡◌, true, false, refl, sym, ap, subst, ◌∙◌}
 use Rattle.loaded_jobs.specs.StandsFor.{KeepsState}
 use Rattle.history_model.specs.News.{may_change}

@@ -1,4 +1,4 @@
--- What the poll answered is handed in.
+-- What the poll answered is delivered.
 use Rattle.std.proofs.Common.{rules, ◌≡◌, ◌≤◌, length, Ok, Err, Some, None, refl, sym, ap, subst, ◌∙◌}
 use Rattle.loaded_jobs.specs.Tables.{label_of}
 use Rattle.jobd.proofs.round_launcher.RoundLauncher.poll.Goals as goal

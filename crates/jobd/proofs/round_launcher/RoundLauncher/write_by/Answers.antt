@@ -1,4 +1,4 @@
--- What is handed to the file is the text that was written.
+-- What the file gets is the text that was written.
 use Rattle.std.proofs.Common.{rules, subst}
 use Rattle.jobd.specs.Standings.{IsStatusText}
 use Rattle.jobd.proofs.round_launcher.RoundLauncher.write_by.Goals as goal

@@ -1,4 +1,4 @@
--- Those who send are heard, then those whose request is whole are handed in.
+-- Those who send are heard, then those whose request is whole are delivered.
 use Rattle.live_loop.specs.Rounds.{nobody}
 use Rattle.live_loop.proofs.RoundsLemmas.{gathers_append}
 use Rattle.live_loop.proofs.job_sockets.JobSockets.gather.Goals as goal

@@ -1,4 +1,4 @@
--- A client is handed in once.
+-- A client is delivered once.
 use Rattle.std.proofs.Common.{rules, ◌≡◌, ◌+◌, ◌∙◌, inr, refl, sym}
 use Rattle.live_loop.specs.Rounds.{nobody, went, came}
 use Rattle.live_loop.proofs.RoundsLemmas.{coming_same, desk_same, gathers_asks, gathers_same}

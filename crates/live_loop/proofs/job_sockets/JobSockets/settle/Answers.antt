@@ -1,4 +1,4 @@
--- Nothing is asked, or one is let go, or waits with the request that it has.
+-- Nothing is asked, or one is disconnected, or waits with the request that it has.
 use Rattle.std.proofs.Common.{refl}
 use Rattle.live_loop.specs.Rounds.{nobody, went}
 use Rattle.live_loop.proofs.RoundsLemmas.{desk_same, gathers_asks, gathers_same}

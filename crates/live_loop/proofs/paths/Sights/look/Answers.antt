@@ -1,4 +1,4 @@
--- The parts of a round of looks, one after the other.
+-- The parts of a series of path checks, one after the other.
 use Rattle.std.proofs.Common.{◌≡◌, subst, sym, ap, ◌∙◌}
 use Rattle.std.specs.BTreeMap.{get_by_text}
 use Rattle.live_loop.specs.Looks.{Begins}

@@ -1,4 +1,4 @@
--- A sight that is what was handed in last.
+-- An observation that is what was delivered last.
 use Rattle.std.proofs.Common.{rules, ◌≡◌, Some, refl, inl, sym, ◌∙◌}
 use Rattle.std.specs.BTreeMap.{get_by_text}
 use Rattle.live_loop.proofs.paths.Sights.look_here.Goals as goal

@@ -1,4 +1,4 @@
--- A round of looks begins, or goes on, and then a load is heeded.
+-- A series of path checks begins, or goes on, and then it takes a load into account.
 use Rattle.std.proofs.Common.{rules, ◌≡◌, ap, sym, subst, ◌∙◌}
 use Rattle.std.specs.BTreeMap.{get_by_text}
 use Rattle.live_loop.specs.Looks.{IsKept, Starts, known_after}

@@ -1,4 +1,4 @@
--- What a further look adds to those before.
+-- What a further path check adds to those before.
 use Rattle.std.proofs.Common.{rules, ◌≡◌, Some, refl, inl, inr, ap, ◌∙◌}
 use Rattle.std.specs.BTreeMap.{get_by_text}
 use Rattle.live_loop.specs.Looks.{no_look, asked, no_question, awaits}

@@ -1,4 +1,4 @@
--- What the looks so far have done.
+-- What the path checks so far have done.
 use Rattle.std.proofs.Common.{◌≡◌, true}
 use Rattle.live_loop.specs.Looks.{Walks}
 use Rattle.live_loop.specs.Sightings.{known_in, path_in, later_in}

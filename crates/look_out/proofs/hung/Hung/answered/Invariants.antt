@@ -2,6 +2,6 @@
 use Rattle.std.proofs.Common.{◌≡◌}
 use Rattle.look_out.proofs.hung.Hung.answered.Given as goal
 
--- there are as many look-outs
+-- the number of helpers stays
 abbrev pub invariant-loop : goal.invariant-loop
 invariant-loop g l = l.self ≡ l.fn.self

@@ -1,4 +1,4 @@
--- What is written stays, whatever stands in the holes.
+-- What is written stays, whatever fills the holes.
 use Rattle.run_times.specs.Written.{Grows}
 use Rattle.run_times.proofs.page.Page.add.Given as goal
 

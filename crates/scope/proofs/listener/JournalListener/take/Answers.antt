@@ -1,4 +1,4 @@
--- A line that is no header is heard by the journal that is open.
+-- The journal that is open receives a line that is not a header.
 use Rattle.scope.proofs.HearingLemmas.{hears_on}
 use Rattle.scope.proofs.listener.JournalListener.take.Goals as goal
 
