@@ -54,6 +54,8 @@ SYSTEMD = [
      {"ProgramArguments": ["/bin/x", "b", "1"], "Label": "a@b"}, [], []),
     ({"lib/systemd/system/a.service": "[Service]\nExecStart=/bin/x\n", "etc/systemd/system/a.service": "[Service]\nExecStart=/bin/y\n",
       "etc/systemd/system/multi-user.target.wants/a.service": "->../a.service"}, "etc/systemd/system/multi-user.target.wants/a.service", {"ProgramArguments": ["/bin/y"]}, [], []),
+    ({"lib/systemd/system/a.service": "[Service]\nExecStart=/bin/x $A\n", "etc/systemd/system/a.service.d/b.conf": "[Service]\nEnvironment=A=1\n",
+      "etc/systemd/system/c.service": "->../../../lib/systemd/system/a.service"}, "etc/systemd/system/c.service", {"ProgramArguments": ["/bin/x", "1"], "Label": "c"}, [], []),
     ({"lib/systemd/system/a.service": "[Service]\nExecStart=/bin/x\n", "etc/systemd/system/a.timer": "[Timer]\nOnBootSec=1\n"}, "etc/systemd/system/a.timer", {"RunAtLoad": True}, [], []),
     ({".config/systemd/user/a.service": "[Service]\nExecStart=/bin/x %E\nCacheDirectory=c\n"}, ".config/systemd/user/a.service", {"WorkingDirectory": os.path.expanduser("~")},
      ["CacheDirectory=c: no folder is made for a user's unit"], []),
