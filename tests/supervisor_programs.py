@@ -3,8 +3,8 @@
 
     supervisor_programs.py TREE [COUNT] [--seed SEED]
 
-TREE is a Debian with the package supervisor, whose reader of files (options.py) is used. The programs of tests/supervisor_files are read first. COUNT files (300 where absent) are made at random: sections, comments, lines that go on,
-quotes, `%(NAME)s` of all kinds, groups, numprocs, files of [include]. For each process both have to have the same words, variables, folder, user, mask, wait before KILL, output files, and
+TREE is a Debian with the package supervisor, whose reader of files (options.py) is used. The programs of tests/supervisor_files are read first. COUNT files (300 where absent)
+are made at random: sections, comments, lines that go on, quotes, `%(NAME)s` of all kinds, groups, numprocs, files of [include]. For each process both have to have the same words, variables, folder, user, mask, wait before KILL, output files, and
 whether it starts by itself and again. What supervisor refuses from-supervisor may refuse or not. What from-supervisor refuses alone has to be one of `REFUSED`. Status 1 if one differs. It
 needs no program of ours, and is run by hand.
 """
@@ -25,7 +25,9 @@ TEXTS = ["a", "x y", "%(program_name)s", "%(group_name)s", "%(here)s/x", "%(ENV_
          "$HOME", "~", "--x=1", "-c", "%(numprocs)d"]
 # Of variables that `environment` may set or not, and that nothing sets.
 RARE = ["%(ENV_A)s", "%(ENV_B)s", "%(ENV_NONE)s", "%(none)s", "it's"]
-VALUES = ["1", '"two words"', "'x,y'", "%(ENV_KIV)s", '"%(program_name)s"', "/usr/bin:/bin", "a-b.c+d", r'"a\nb"', r"'it\s'", "%(here)s", '""', "a(b)", '"a%%b"', "%(process_num)d"]
+VALUES = ["1", '"two words"', "'x,y'", "%(ENV_KIV)s", '"%(program_name)s"', "/usr/bin:/bin", "a-b.c+d", r'"a\nb"', r"'it\s'", "%(here)s", '""', "a(b)", '"a%%b"', '"a%%%%b"', "%(process_num)d"]
+# Of [supervisord], which is no program.
+OF_ALL = ["1", '"two words"', "'x,y'", '"%(ENV_KIV)s"', "a-b.c+d", "%(here)s", '"a%%%%b"']
 SHOWN = """
 import json, os, sys
 sys.path.insert(0, sys.argv[1])
@@ -62,8 +64,8 @@ def blank(chance):
     return chance.choice(("", "", "", " ; a remark", "  # another"))
 
 
-def pairs(chance):
-    return chance.choice((",", ", ")).join(f"{name}={chance.choice(VALUES)}" for name in chance.sample(["A", "B", "C_1", "PATH"], chance.randint(1, 3)))
+def pairs(chance, values):
+    return chance.choice((",", ", ")).join(f"{name}={chance.choice(values)}" for name in chance.sample(["A", "B", "C_1", "PATH"], chance.randint(1, 3)))
 
 
 def program(chance, name):
@@ -74,10 +76,10 @@ def program(chance, name):
         rows.append("process_name=" + chance.choice(("%(program_name)s_%(process_num)d", "%(group_name)s-%(process_num)02d", "n%(process_num)s")))
         rows.append(f"numprocs={count}")
     more = {
-        "environment": lambda: pairs(chance), "directory": lambda: chance.choice(("/tmp", "/var/%(program_name)s", "/%(ENV_KIV)s")), "user": lambda: chance.choice(("root", "nobody", "daemon", "0", "1")),
+        "environment": lambda: pairs(chance, VALUES), "directory": lambda: chance.choice(("/tmp", "/var/%(program_name)s", "/%(ENV_KIV)s")), "user": lambda: chance.choice(("root", "nobody", "daemon", "0", "1")),
         "umask": lambda: chance.choice(("022", "077", "2")), "stopwaitsecs": lambda: chance.choice(("1", "0", "30", "100000")), "autostart": lambda: chance.choice(("true", "false", "No", "1")),
         "autorestart": lambda: chance.choice(("true", "false", "unexpected", "On", "0")), "redirect_stderr": lambda: chance.choice(("true", "false", "1")),
-        "stdout_logfile": lambda: chance.choice(("NONE", "none", "off", "AUTO", "auto", "/tmp/%(program_name)s.log", "/tmp/x.%(process_num)d")),
+        "stdout_logfile": lambda: chance.choice(("NONE", "none", "off", "AUTO", "auto", "/tmp/%(program_name)s.log", "/tmp/x.%(process_num)d", "/tmp/%%%%x")),
         "stderr_logfile": lambda: chance.choice(("NONE", "off", "AUTO", "/tmp/err.log")), "numprocs_start": lambda: chance.choice(("0", "1", "7")), "priority": lambda: "5",
         "stopsignal": lambda: chance.choice(("TERM", "INT", "QUIT")), "exitcodes": lambda: chance.choice(("0", "0,2")),
     }
@@ -93,7 +95,7 @@ def file_of(chance):
     names = chance.sample(["web", "work_er", "x-1", "y.z"], chance.randint(1, 3))
     rows = ["[supervisord]"]
     if chance.random() < 0.4:
-        rows.append("environment=" + pairs(chance))
+        rows.append("environment=" + pairs(chance, OF_ALL))
     if chance.random() < 0.2:
         rows.append("umask=" + chance.choice(("027", "077")))
     if chance.random() < 0.2:
