@@ -150,4 +150,5 @@ def main():
     return int(bool(faults) or not taken)
 
 
-sys.exit(main())
+if __name__ == "__main__":
+    sys.exit(main())

@@ -157,4 +157,5 @@ def main():
     return int(bool(faults) or not ran)
 
 
-sys.exit(main())
+if __name__ == "__main__":
+    sys.exit(main())
