@@ -39,7 +39,7 @@ pub struct JobSample<'a> {
     pub last_end: Option<u64>,
     /// When time alone starts it next. None if it does not.
     pub next_start: Option<u64>,
-    /// When a run of it last ended with code 0, in seconds of Unix time. None if none has.
+    /// When a run of it last exited with code 0, in seconds of Unix time. None if none has.
     pub last_success: Option<u64>,
     /// How its last run ended: its exit code, or 128 and the number of the signal. None if none has.
     pub last_exit: Option<u64>,

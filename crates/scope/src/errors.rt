@@ -9,10 +9,10 @@ use std::alloc::Global;
 use std::io::{Read, Seek, SeekFrom};
 use std::{io, str};
 
-/// So many bytes at the end of a file are read.
+/// How many bytes at the end of a file are read.
 const END: u64 = 4_096;
 
-/// So many columns of its last line are shown.
+/// How many columns of its last line are shown.
 const LONGEST: usize = 160;
 
 /// A job whose last run failed, and where its errors go.
@@ -25,8 +25,8 @@ pub(crate) struct FailedRun<'a> {
     pub(crate) is_served: bool,
 }
 
-/// Writes a line for each of these jobs, with the last line of its file if that is to be looked at. This comes behind all else that is told: a path on a
-/// file system that hangs silences nothing.
+/// Writes a line for each of these jobs, with the last line of its file if that is to be looked at. This comes after all else that is
+/// printed: a path on a file system that hangs silences nothing.
 pub(crate) fn put_errors(
     host: &HostRuntime,
     alloc: Global,

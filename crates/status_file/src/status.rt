@@ -86,7 +86,7 @@ pub struct JobNote<'a> {
     pub term: Option<Reading>,
     pub kill: Option<Reading>,
     pub last_end: Option<RunEnd>,
-    /// When a run of it last ended with code 0. None also if a launcher of version 0.3.0 wrote the file.
+    /// When a run of it last exited with code 0. None also if a launcher of version 0.3.0 wrote the file.
     pub succeeded: Option<Reading>,
     /// The last start that was refused.
     pub refused: Option<RefusedStart<'a>>,
@@ -123,7 +123,7 @@ pub struct JobKeys<'a> {
     pub has_sockets: bool,
     /// The file that its errors go to.
     pub errors: Option<&'a str>,
-    /// Whether it is known where they go: a launcher of version 0.3.0 does not tell it.
+    /// Whether it is known where they go: a launcher of version 0.3.0 does not say it.
     pub knows_errors: bool,
 }
 

@@ -22,7 +22,7 @@ use run_times::{Ink, Page, time_text};
 use status_file::StatusLine;
 use std::alloc::{AllocError, Global};
 
-/// The columns behind the label, which have this width each: state, process, since when, last exit, starts, failures, and what comes next.
+/// The columns after the label, which have this width each: state, process, since when, last exit, starts, failures, and what comes next.
 const WIDTHS: [usize; 7] = [8, 7, 11, 9, 6, 6, 11];
 
 const HEAD: &str = " STATE    PROCESS SINCE       LAST EXIT STARTS FAILED ";

@@ -11,7 +11,7 @@ const MOST: usize = 4_096;
 /// How many fields are between the parent of a process, which is field 4, and the processor time that it took, from field 14 on.
 const BETWEEN: usize = 9;
 
-/// A clock tick is so many milliseconds long.
+/// How many milliseconds a clock tick has.
 const TICK: u64 = 10;
 
 /// What the process of a run takes.

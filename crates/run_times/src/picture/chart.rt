@@ -106,7 +106,7 @@ fn failures_of(end: End) -> u32 {
     }
 }
 
-/// How grave an end is, from 0 for a run that lives to 5 for a crash; and its code or signal, 0 if it has none.
+/// How grave an end is, from 0 for a run that goes on to 5 for a crash; and its code or signal, 0 if it has none.
 pub(crate) fn grade(end: End) -> (usize, u64)
     ensures { result.0 ≤ 5 }
 {

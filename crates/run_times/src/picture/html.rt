@@ -1,4 +1,4 @@
-//! A page that stands alone: what is failing, the coming starts, the chart, the table of the runs, and why each job stands as it does. No script.
+//! A self-contained page: what is failing, the coming starts, the chart, the table of the runs, and why each job runs or not. It has no script.
 
 use crate::page::Filling::{Escaped, Moment, Text};
 use crate::page::Page;
@@ -28,9 +28,9 @@ pub struct Beside<'a> {
     pub coming: &'a [Coming],
 }
 
-/// What stands above the chart. In a window that is narrower than the chart the chart scrolls, and the names of its rows stay at the left: they are a
-/// list over it, by the heights that `svg` gives to what is above the rows (64), to a row (50), to one without a run and a mark (18), and to what stands
-/// between rows (34). The colours are literal ones, as in the chart.
+/// What is above the chart. In a window that is narrower than the chart, the chart scrolls, and the names of its rows stay at the left. They are a
+/// list over it, by the heights that `svg` gives: to what is above the rows (64), a row (50), one without a run and a mark (18), and the axis between
+/// rows (34). The colours are literal ones, as in the chart.
 pub(crate) const HEAD: &str = "<!DOCTYPE html>
 <html lang=\"en\">
 <head>
@@ -73,7 +73,7 @@ pre { margin: 0; padding: 0.75rem; background: #f4f6f8; border-radius: 6px; whit
 <h1>Runs of jobs</h1>
 ";
 
-/// Adds what stands between the heading and the chart: what is failing, and the coming starts.
+/// Adds what is between the heading and the chart: what is failing, and the coming starts.
 pub(crate) fn put_front(page: &mut Page<'_>, beside: &Beside<'_>) {
     page.ink.put("<h2>What is failing</h2>\n");
     if beside.failing.is_empty() {
@@ -99,7 +99,7 @@ fn put_failing(page: &mut Page<'_>, line: &str) {
     }
 }
 
-/// Adds the names of the chart's rows, and what stands below the chart. The last text is escaped line by line, so that its newlines stay.
+/// Adds the names of the chart's rows, and what is below the chart. The last text is escaped line by line, so that its newlines stay.
 pub(crate) fn put_rest(page: &mut Page<'_>, chart: &Chart, beside: &Beside<'_>) {
     put_names(page, chart);
     page.ink.put(

@@ -13,7 +13,7 @@ pub const PLACES: u16 = 980;
 /// Where the axis begins.
 const LEFT: u64 = 10;
 
-/// The heights of what stands above the rows, of a row, of one without a bar and a mark, and of what stands below.
+/// The heights of what is above the rows, of a row, of one without a bar and a mark, and of what is below.
 const HEAD: u64 = 64;
 
 const ROW: u64 = 50;
@@ -22,7 +22,7 @@ const IDLE: u64 = 18;
 
 const FOOT: u64 = 62;
 
-/// After so many rows the texts of the axis stand again, in so much height.
+/// After how many rows the texts of the axis come again, and their height.
 const AGAIN: usize = 25;
 
 const BAND: u64 = 34;
@@ -73,7 +73,7 @@ const OPENING: &str =
 const TICK: &str = r#"<path class="tick" d="M$0 58V$1"/>
 "#;
 
-/// What is written at it. The holes are for the place, how the texts stand to it, and each text's height and itself.
+/// What is written at it. The holes are for the place, how the texts are aligned to it, and each text's height and itself.
 const TICK_TEXT: &str =
     r#"<text class="faint" x="$0" y="$2" text-anchor="$1">$3</text><text class="faint" x="$0" y="$4" text-anchor="$1">$5</text>
 "#;
@@ -101,7 +101,7 @@ struct Look {
     class: &'static str,
     /// The text on the end, with a hole for its code or signal.
     words: &'static str,
-    /// What marks it, from the upper corner of the end of its bar. What is no failure is marked within the bar.
+    /// What marks it, from the upper corner of the end of its bar. An end that is not a failure is marked within the bar.
     mark: &'static str,
 }
 
@@ -195,7 +195,7 @@ pub(crate) fn put_figure(page: &mut Page<'_>, chart: &Chart, index: usize) {
     }
 }
 
-/// Whether the texts of the axis stand again above this row.
+/// Whether the texts of the axis come again above this row.
 pub(crate) fn has_band(row: usize) -> bool {
     row > 0 && row % AGAIN == 0
 }

@@ -145,7 +145,7 @@ fn tell_done(host: &HostRuntime, is_told: bool) {
 /// The note on a file of the package that is read.
 pub(crate) const NONE_NAMED: &str = "read, since no journal is named";
 
-/// So many journals of launchers before are looked for: `jobd-run` keeps no more.
+/// How many journals of launchers before are looked for: `jobd-run` keeps no more.
 const MOST_KEPT: u64 = 99;
 
 /// The journal of the package.
@@ -196,7 +196,7 @@ fn is_same_file(host: &HostRuntime, one: &str, other: &str) -> bool {
     }
 }
 
-/// Whether a journal is found where the words name none: that of `JOBD_JOURNAL`, or in the place of a terminal that of the package.
+/// Whether a journal is found where the arguments name none: that of `JOBD_JOURNAL`, or in the place of a terminal that of the package.
 pub(crate) fn finds_journal(host: &HostRuntime) -> Result<bool, AllocError> {
     match env::var(host, "JOBD_JOURNAL") {
         Ok(path) if !path.is_empty() => Ok(true),
@@ -254,7 +254,7 @@ fn count_kept(host: &HostRuntime, path: &str, most: u64) -> Result<u64, AllocErr
     Ok(kept)
 }
 
-/// Opens a journal's file. InvalidInput for what is no plain file: it is not opened, so that nothing waits at a FIFO.
+/// Opens a journal's file. InvalidInput for anything but a plain file, which is not opened, so that nothing waits at a FIFO.
 pub(crate) fn open_journal(host: &HostRuntime, path: &str) -> io::Result<File> {
     if !metadata(host, path)?.is_file() {
         return Err(io::Error::new(ErrorKind::InvalidInput, "no plain file"));

@@ -34,7 +34,7 @@ pub(crate) struct Beside<'a> {
     pub(crate) reason: Value<'a>,
     /// The file that its errors went to, if its last run failed.
     pub(crate) errors: Value<'a>,
-    /// When it starts by the clocks alone.
+    /// When it starts by time alone.
     pub(crate) next: Value<'static>,
     pub(crate) is_disabled: bool,
     pub(crate) known: KnownLabel,

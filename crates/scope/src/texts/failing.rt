@@ -99,7 +99,7 @@ pub(crate) fn failed_runs<'a>(
     Ok(failed)
 }
 
-/// Why a loaded job is told as failing, if it is: also since a minute of its calendar passed while no launcher ran.
+/// Why a loaded job is failing, if it is: also since a minute of its calendar passed while no launcher ran.
 pub(crate) fn job_fault(
     journal: &OpenJournal,
     job: &KeptJob,

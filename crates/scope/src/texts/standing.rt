@@ -433,7 +433,7 @@ pub(crate) fn failed_in<'a>(
     Ok(failed)
 }
 
-/// Whether a job is told as failing since its last run failed.
+/// Whether a job is reported as failing because its last run failed.
 pub(crate) fn is_failed_run(fault: Option<Fault>) -> bool {
     match fault {
         Some(Fault::Ended(_)) => true,
