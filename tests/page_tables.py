@@ -242,7 +242,8 @@ for path in ("README.md", "SECURITY.md", *glob.glob("docs/*.md")):
             faults.append(f"{path}: there is no {name}({part})")
 
 # ---- how long it all is: the manual pages, and the texts of the helps
-MOST = 12_300
+# The manual page of jobd-group came with it, and that of jobscope grew with what is printed of a failed run.
+MOST = 12_500
 in_pages = sum(len(read(path).split()) for path in glob.glob("man/*.[158]"))
 in_helps = sum(len(text.split()) for text in re.findall(r'"([^"\n]*)"', HELPS))
 
