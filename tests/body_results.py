@@ -22,6 +22,8 @@ TOP = os.path.dirname(os.path.dirname(os.path.abspath(__file__)))
 FILE = f"{TOP}/tests/wrong_bodies/RESULTS.csv"
 COLUMNS = ["crate", "body", "tree", "said", "refused", "why"]
 CLAUSE = re.compile(r"\b(?:ensures|requires)\*?\s+(?:\w+\s+)?\{")
+# A comment of a definition says nothing to the prover.
+COMMENT = re.compile(r"(?m)(?:^|[ \t]+)--(?: .*)?$")
 
 
 def git(*words):
@@ -48,13 +50,17 @@ def clauses(text):
         yield " ".join(text[it.start() : at].split())
 
 
+def without_comments(text):
+    return "\n".join(line for line in COMMENT.sub("", text).splitlines() if line.strip())
+
+
 def said(crate):
     """A sum of all that the contracts of the crate say."""
     found = []
     for name in git("ls-files", f"crates/{crate}/src", f"crates/{crate}/specs").split():
         if os.path.isfile(f"{TOP}/{name}"):
             with open(f"{TOP}/{name}") as it:
-                found += clauses(it.read()) if name.endswith(".rt") else [it.read()]
+                found += clauses(it.read()) if name.endswith(".rt") else [without_comments(it.read())]
     return hashlib.sha256("\n".join(sorted(found)).encode()).hexdigest()[:12]
 
 

@@ -2,7 +2,7 @@
 """Makes journal.jsonl beside it, a made-up journal of a night, and docs/night.svg, its picture: examples/night/make.py [PROGRAMS]
 
 PROGRAMS is the folder with jobd and jobscope, or build. The events are written here by hand, as a story; what the launcher orders at each is asked of
-`jobd replay`, so the journal is one that a launcher could have written. Both files are committed.
+`jobd replay`, and the lines have the form of a launcher's, so the journal is one that a launcher would write. Both files are committed.
 """
 
 import heapq
@@ -32,7 +32,7 @@ RUNS = {
     "report": [(600, {"code": 1})],
 }
 # When mail lies in the queue, and when it is sent, in seconds from the start
-QUEUE = [(4000, True), (4140, False), (14500, True), (14880, False), (25000, True), (25080, False)]
+QUEUE = [(1, False), (4000, True), (4140, False), (14500, True), (14880, False), (25000, True), (25080, False)]
 
 
 def replayed(programs, lines):
@@ -41,12 +41,17 @@ def replayed(programs, lines):
     return json.loads(ran.stdout.splitlines()[-1])
 
 
+def line(event):
+    """A line as a launcher writes it."""
+    return json.dumps(event, separators=(",", ":"), sort_keys=True) + "\n"
+
+
 def night(programs):
-    lines = [json.dumps({"up": 0, "wall": START, "zone": ZONE}) + "\n"]
+    lines = [line({"overrides": {}, "up": 0, "wall": START, "zone": ZONE})]
     coming, count, runs, at = [], 0, {}, 0
 
     def hear(event):
-        lines.append(json.dumps(event, separators=(",", ":")) + "\n")
+        lines.append(line(event))
         orders = replayed(programs, lines)["orders"]
         for order in orders:
             if order["order"] == "spawn":
@@ -64,7 +69,7 @@ def night(programs):
         heapq.heappush(coming, (at + THROTTLE.get(job, 10), count, None))
 
     for job in JOBS:
-        hear({"ev": "load", "def": json.dumps(job, separators=(",", ":"))})
+        hear({"ev": "load", "F": False, "bind": True, "store": True, "w": False, "def": json.dumps(job, separators=(",", ":"))})
     for moment, filled in QUEUE:
         count += 1
         heapq.heappush(coming, (moment, count, {"ev": "saw", "path": "/var/spool/out", "exists": True, "nonempty": filled, "stamp": moment}))

@@ -5,6 +5,7 @@
 import hashlib
 import json
 import os
+import re
 import resource
 import stat
 import subprocess
@@ -417,6 +418,19 @@ FAMILIES = {
 }
 NEXT = "jobd_job_next_start_timestamp_seconds"
 NEXT_HEAD = f"# HELP {NEXT} When the job starts next by the clocks alone.\n# TYPE {NEXT} gauge\n"
+# Those behind the next starts.
+LATER = {
+    "jobd_job_last_success_timestamp_seconds": (
+        "gauge", "When a run of the job last exited with code 0, since its load.", lambda job: job["succeeded"] and job["succeeded"]["wall"]),
+    "jobd_job_last_exit_code": (
+        "gauge", "The exit code of the last run of the job, or 128 and the signal that ended it.",
+        lambda job: job["last_end"] and job["last_end"].get("code", 128 + job["last_end"].get("signal", 0))),
+}
+TAKEN = {
+    "jobd_job_resident_bytes": ("gauge", "The memory that the process of the job has."),
+    "jobd_job_cpu_seconds_total": ("counter", "The processor time that the process of the job has used."),
+}
+LAST = {"jobd_job_disabled": ("gauge", "Whether the label of the job is disabled.", lambda job: int(job["disabled"] is not None))}
 
 
 def samples(stage, path, now):
@@ -437,24 +451,58 @@ def wanted_samples(path, is_up):
         ("jobd_status_timestamp_seconds", "When the launcher told how it stands.", first["at"]["wall"]),
     ):
         text += f"# HELP {name} {help_text}\n# TYPE {name} gauge\n{name} {value}\n"
-    for name, (kind, help_text, value_of) in FAMILIES.items():
+    return text + families_of(FAMILIES, jobs, is_up)
+
+
+def families_of(families, jobs, is_up=True):
+    """The samples of these families."""
+    text = ""
+    for name, (kind, help_text, value_of) in families.items():
         text += f"# HELP {name} {help_text}\n# TYPE {name} {kind}\n"
         for label, job in jobs.items():
             value = value_of(job) if is_up or name != "jobd_job_running" else 0
             if value is not None:
-                quoted = label.replace("\\", "\\\\").replace('"', '\\"')
+                quoted = "".join(quoted_char(c) for c in label)
                 text += f'{name}{{label="{quoted}"}} {value}\n'
     return text
 
 
+def quoted_char(c):
+    """A character of a label as a sample has it: by its number, if it is a control character."""
+    return f"\\\\u{ord(c):04x}" if ord(c) < 32 or 126 < ord(c) < 160 else "\\" + c if c in '"\\' else c
+
+
+def check_later(path, text, running, label):
+    """Checks what is behind the next starts: of what the process of the one running job takes only that it is there, and is what the kernel could say."""
+    jobs = told(path)[1]
+    front = families_of(LATER, jobs)
+    check(text.startswith(front), f"the samples behind the next starts are {text!r}, wanted first {front!r}")
+    text = text[len(front):]
+    for name, (kind, help_text) in TAKEN.items():
+        head = f"# HELP {name} {help_text}\n# TYPE {name} {kind}\n"
+        check(text.startswith(head), f"{text!r} does not begin with {head!r}")
+        text = text[len(head):]
+        if running:
+            row, _, text = text.partition("\n")
+            found = re.fullmatch(re.escape(f'{name}{{label="{label}"}} ') + r"(\d+)", row)
+            check(found and (int(found[1]) < 2 ** 31), f"{name} is {row!r}")
+            check(int(found[1]) > 100_000 if name == "jobd_job_resident_bytes" else int(found[1]) < 60, f"{name} is {row!r}")
+    check(text == families_of(LAST, jobs), f"the last samples are {text!r}")
+
+
 def samples_of_a_status_file(stage):
-    """A job that runs, whose label has a quote and a backslash, one that failed, one that is refused, and one of the calendar; then the launcher is killed."""
+    """A job that runs, whose label has a quote and a backslash, one that failed, one that is refused, one of the calendar, and two whose labels differ in a
+    control character, of which one ends well; then the launcher is killed."""
     launcher, path = serve(stage, journal="journal")
     launcher.load(shell_job('a "b" \\c', "exec sleep 600", KeepAlive=True))
     launcher.load(shell_job("failed", "exit 3", RunAtLoad=True))
     launcher.load({"Label": "refused", "ProgramArguments": ["/nonexistent/prog"], "RunAtLoad": True, "ThrottleInterval": 3600})
     launcher.load(shell_job("hourly", "exit 0", StartCalendarInterval={"Minute": 0}))
+    launcher.load(shell_job("twin\x01", "exit 0", RunAtLoad=True))
+    launcher.load(shell_job("twin\x02", "exit 0"))
     job_where(path, 'a "b" \\c', lambda job: job["pid"])
+    job_where(path, "twin\x01", lambda job: job["succeeded"])
+    job_where(path, "twin\x02", lambda job: job["succeeded"] is None)
     job_where(path, "failed", lambda job: job["last_end"])
     job_where(path, "refused", lambda job: job["refused"] and job["refusals"] == job["failures"] == 1)
     job_where(path, "hourly", lambda job: True)
@@ -468,7 +516,10 @@ def samples_of_a_status_file(stage):
     now, text, wanted = wait_for(compared, "the file does not rest")
     front, head, coming = text.partition(NEXT_HEAD)
     check(head and front == wanted, f"the samples are {text!r}, wanted {wanted!r}")
-    coming = dict(line.rsplit(" ", 1) for line in coming.splitlines())
+    at = coming.index(f"# HELP {next(iter(LATER))} ")
+    check_later(path, coming[at:], True, 'a \\"b\\" \\\\c')
+    coming = dict(line.rsplit(" ", 1) for line in coming[:at].splitlines())
+    check('jobd_job_starts_total{label="twin\\\\u0001"} 1\n' in text and 'jobd_job_starts_total{label="twin\\\\u0002"} 0\n' in text, f"the twins: {text!r}")
     hourly, refused = (int(coming.pop(f'{NEXT}{{label="{label}"}}', 0)) for label in ("hourly", "refused"))
     check(hourly == (now // 3600 + 1) * 3600, f"the next hour is {hourly} at {now}")
     check(abs(refused - told(path)[1]["refused"]["started"]["wall"] - 3600) <= 1, f"the refused one starts at {refused}")
@@ -478,7 +529,9 @@ def samples_of_a_status_file(stage):
     launcher.ends()
     pid = told(path)[1]['a "b" \\c']["pid"]
     text = samples(stage, path, int(time.time()))
-    check(text == wanted_samples(path, False) + NEXT_HEAD, f"of a killed launcher the samples are {text!r}")
+    front = wanted_samples(path, False) + NEXT_HEAD
+    check(text.startswith(front), f"of a killed launcher the samples are {text!r}")
+    check_later(path, text[len(front):], False, "")
     end_process(pid)
 
 
@@ -662,6 +715,52 @@ def what_a_socket_waits_for(stage):
     check(rows["asked"][-2:] == ["a", "request"], f"of a job that is only asked for: {rows['asked']}")
 
 
+def where_errors_went(stage):
+    """Of a failed run where its errors went, with the last line of that file if it is a plain one, by the status file and by the journal. Of a job that runs, what its
+    process takes."""
+    launcher, path = serve(stage, journal="journal")
+    plain, fifo, empty = stage.at("plain.err"), stage.at("fifo.err"), stage.at("empty.err")
+    launcher.load(shell_job("plain", "echo first >&2; printf 'no \\033[31mhost\\377\\n \\n' >&2; exit 3", RunAtLoad=True, StandardErrorPath=plain))
+    launcher.load(shell_job("long", "head -c 3000000 /dev/zero | tr '\\0' x >&2; exit 3", RunAtLoad=True, StandardErrorPath=stage.at("long.err")))
+    launcher.load(shell_job("fifo", "exit 4", RunAtLoad=True, StandardErrorPath=fifo))
+    launcher.load(shell_job("empty", "exit 4", RunAtLoad=True, StandardErrorPath=empty))
+    launcher.load(shell_job("lost", "exit 5", RunAtLoad=True))
+    launcher.load(shell_job("well", "echo all is well >&2", RunAtLoad=True, StandardErrorPath=stage.at("well.err")))
+    launcher.load(shell_job("eats", "while :; do :; done", RunAtLoad=True))
+    for label in ("plain", "long", "fifo", "empty", "lost", "well"):
+        job_where(path, label, lambda job: job["last_end"])
+    # No one opens it for writing: whoever opened it now would wait.
+    os.unlink(fifo)
+    os.mkfifo(fifo, 0o600)
+    wanted = [
+        f"empty: its errors went to {empty}; there is no line in it",
+        f"fifo: its errors went to {fifo}; it can't be read: no plain file",
+        f"long: its errors went to {stage.at('long.err')}; the last line is: {'x' * 160}\u2026",
+        "lost: its errors are lost: no StandardErrorPath",
+        f"plain: its errors went to {plain}; the last line is: no \ufffd[31mhost\ufffd",
+    ]
+    by_journal = ["--journal", stage.at("journal")]
+    for source in ([], by_journal):
+        status, text, error = asked(stage, path, "why", "--failing", *source)
+        check(status == 2 and text.splitlines()[-5:] == wanted and not error, f"failing by {source}: {status}, {text!r}, {error!r}; wanted {wanted}")
+        status, text, error = asked(stage, path, "why", "plain", *source)
+        check(status == 0 and text.endswith(f".\n\n{wanted[-1]}\n") and "first" not in text, f"why by {source}: {status}, {text!r}, {error!r}")
+        check("errors" not in asked(stage, path, "why", "well", *source)[1], f"of a job that ended well by {source}")
+        objects = [json.loads(line) for line in asked(stage, path, "why", "--failing", "--json", *source)[1].splitlines()]
+        check([it.get("errors") for it in objects] == [empty, fifo, stage.at("long.err"), None, plain], f"objects by {source}: {objects}")
+    text = asked(stage, path, "why", "plain", *by_journal, "--at", "-0s")[1]
+    check(text.endswith(f"plain: its errors went to {plain}\n"), f"of a moment before: {text!r}")
+
+    def eats():
+        found = [json.loads(line) for line in asked(stage, path, "status", "--json", "eats")[1].splitlines()]
+        return found and found[0].get("cpu_ms", 0) >= 200 and found
+    found = wait_for(eats, "no processor time is told of a job that takes it")
+    check(100_000 < found[0]["resident_bytes"] < 2 ** 30, f"in memory: {found}")
+    row = cells(stage, path)["eats"]
+    check(re.fullmatch(r"\d+(\.\d)?[KMG]", row[-3]) and re.fullmatch(r"\d+\.\ds|\d+m\d\ds", row[-2]), f"the row: {row}")
+    check(cells(stage, path)["lost"][-4:-2] == ["-", "-"] or cells(stage, path)["lost"][-3:-1] == ["-", "-"], f"of a job that does not run: {cells(stage, path)['lost']}")
+
+
 SCENES = [
     what_a_status_file_holds,
     which_definition_is_loaded,
@@ -677,4 +776,5 @@ SCENES = [
     whose_launcher_is_none,
     what_a_socket_waits_for,
     what_a_boot_left_out,
+    where_errors_went,
 ]

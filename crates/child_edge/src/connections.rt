@@ -320,7 +320,7 @@ impl Connections {
     }
 
     fn command_in(&self, start: Start<'_>, place: Option<&str>) -> Result<Command, AllocError> {
-        let own = own_variables(self.alloc, self.launcher, start)?;
+        let own = own_variables(self.alloc, self.launcher, start.def.label(), start.key.1)?;
         let command = command_of(self.alloc, start.def, own.as_slice(), place);
         drop(own);
         command

@@ -3,7 +3,6 @@
 ghost use Rattle.std.specs.Prelude.{◌≡◌, ◌∷◌, [], IfOk};
 ghost use Rattle.child_edge.specs.Command.{own_of_run};
 
-use crate::start::Start;
 use files_and_process::run_names::{LauncherId, RUN_VARIABLE, run_name};
 use history_model::Text;
 use history_model::definition::Variable;
@@ -13,13 +12,14 @@ use std::alloc::{AllocError, Global};
 pub(crate) fn own_variables(
     alloc: Global,
     launcher: Option<LauncherId>,
-    start: Start<'_>,
+    label: &str,
+    run: u64,
 ) -> Result<Vec<Variable>, AllocError>
-    ensures { IfOk result (λ own. own.items ≡ own_of_run launcher start.def.now.label start.key.1) }
+    ensures { IfOk result (λ own. own.items ≡ own_of_run launcher label.now run) }
 {
     let mut own = Vec::new(alloc);
     if let Some(launcher) = launcher {
-        own.push(named(alloc, launcher, start.def.label(), start.key.1)?)?;
+        own.push(named(alloc, launcher, label, run)?)?;
     }
     Ok(own)
 }

@@ -1,10 +1,10 @@
 -- The text of samples that Prometheus reads (Exposition formats, text-based format 0.0.4): names, kinds, labels and values.
-use Rattle.std.specs.Prelude.{ℕ, Bool, List, [], ◌∷◌, ◌++◌, ◌||◌, ◌==◌, if◌then◌else◌, Option, Some, None, true, false, codes, chars, encode_utf8}
+use Rattle.std.specs.Prelude.{ℕ, Bool, List, [], ◌∷◌, ◌++◌, ◌||◌, ◌==◌, ◌+◌, ◌/◌, ◌%◌, if◌then◌else◌, nat_lt, Option, Some, None, true, false, codes, chars, encode_utf8}
 use Rattle.std.specs.Fmt.{decimal}
 use Rattle.std.specs.List.{flat_map}
-use Rattle.plain_text.specs.Plain.{plain_char}
+use Rattle.plain_text.specs.Plain.{is_hidden}
 use Rattle.job_metrics.specs.declared.Family.{Family}
-use Rattle.job_metrics.specs.declared.Family.TheVariants.{Up, JournalOpen, Told, LeftOut, Running, Starts, Failures, Refusals, LastEnd, NextStart}
+use Rattle.job_metrics.specs.declared.Family.TheVariants.{Up, JournalOpen, Told, LeftOut, Running, Starts, Failures, Refusals, LastEnd, NextStart, LastSuccess, LastExit, Resident, Processor, Disabled}
 use Rattle.job_metrics.specs.declared.JobSample.{JobSample}
 use Rattle.job_metrics.specs.declared.LauncherSample.{LauncherSample}
 
@@ -19,11 +19,17 @@ family_name Failures = codes "jobd_job_failures_total"
 family_name Refusals = codes "jobd_job_refused_total"
 family_name LastEnd = codes "jobd_job_last_end_timestamp_seconds"
 family_name NextStart = codes "jobd_job_next_start_timestamp_seconds"
+family_name LastSuccess = codes "jobd_job_last_success_timestamp_seconds"
+family_name LastExit = codes "jobd_job_last_exit_code"
+family_name Resident = codes "jobd_job_resident_bytes"
+family_name Processor = codes "jobd_job_cpu_seconds_total"
+family_name Disabled = codes "jobd_job_disabled"
 
 abbrev pub family_kind : Family → List ℕ
 family_kind Starts = codes "counter"
 family_kind Failures = codes "counter"
 family_kind Refusals = codes "counter"
+family_kind Processor = codes "counter"
 family_kind _ = codes "gauge"
 
 abbrev pub family_help : Family → List ℕ
@@ -37,6 +43,11 @@ family_help Failures = codes "Runs since the load that did not end with code 0."
 family_help Refusals = codes "Starts since the load that the system refused."
 family_help LastEnd = codes "When the last run of the job ended."
 family_help NextStart = codes "When the job starts next by the clocks alone."
+family_help LastSuccess = codes "When a run of the job last exited with code 0, since its load."
+family_help LastExit = codes "The exit code of the last run of the job, or 128 and the signal that ended it."
+family_help Resident = codes "The memory that the process of the job has."
+family_help Processor = codes "The processor time that the process of the job has used."
+family_help Disabled = codes "Whether the label of the job is disabled."
 
 -- the two lines that say what a family is
 abbrev pub head_text : Family → List ℕ
@@ -58,11 +69,29 @@ job_value Failures job = Some job.failures
 job_value Refusals job = Some job.refusals
 job_value LastEnd job = job.last_end
 job_value NextStart job = job.next_start
+job_value LastSuccess job = job.last_success
+job_value LastExit job = job.last_exit
+job_value Resident job = job.resident
+job_value Processor job = job.processor
+job_value Disabled job = flag_value (Some job.is_disabled)
 job_value _ job = None
 
--- a character of a label, as it is between quotes
+-- the last hexadecimal digit of a number
+abbrev pub hex_digit : ℕ → ℕ
+hex_digit n = if nat_lt (n % 16) 10 then 0x30 + n % 16 else 0x57 + n % 16
+
+-- a character by its number, in four digits, behind a backslash that is escaped: \\u202e
+abbrev pub escape : ℕ → List ℕ
+escape c =
+    codes "\\\\u" ++ (encode_utf8 (hex_digit (c / 4096)) ++ (encode_utf8 (hex_digit (c / 256))
+    ++ (encode_utf8 (hex_digit (c / 16)) ++ encode_utf8 (hex_digit c))))
+
+-- a character of a label, as it stands between quotes
 abbrev pub label_char : ℕ → List ℕ
-label_char c = if c == 0x5C || c == 0x22 then 0x5C ∷ encode_utf8 (plain_char c) else encode_utf8 (plain_char c)
+label_char c =
+    if is_hidden c then escape c
+    else if c == 0x5C || c == 0x22 then codes "\\" ++ encode_utf8 c
+    else encode_utf8 c
 
 abbrev pub label_text : List ℕ → List ℕ
 label_text cs = flat_map label_char cs
@@ -106,4 +135,4 @@ launcher_samples launcher =
 abbrev pub metrics_text : LauncherSample → List JobSample → List ℕ
 metrics_text launcher jobs =
     launcher_samples launcher
-    ++ families_text jobs (Running ∷ Starts ∷ Failures ∷ Refusals ∷ LastEnd ∷ NextStart ∷ [])
+    ++ families_text jobs (Running ∷ Starts ∷ Failures ∷ Refusals ∷ LastEnd ∷ NextStart ∷ LastSuccess ∷ LastExit ∷ Resident ∷ Processor ∷ Disabled ∷ [])

@@ -2,11 +2,11 @@
 //! line a sample.
 #![tactic(auto)]
 
-ghost use Rattle.std.specs.Prelude.{◌≡◌, ◌++◌, [], false, IfOk, IsOk, string_bytes, chars};
+ghost use Rattle.std.specs.Prelude.{◌≡◌, ◌++◌, [], false, IfOk, IsOk, string_bytes, chars, encode_utf8};
 ghost use Rattle.run_times.specs.Written.{Adds};
-ghost use Rattle.job_metrics.specs.Samples.{family_name, family_kind, family_help, head_text, flag_value, job_value, label_char, label_text, sample_text, samples_text, bare_sample, family_text, families_text, launcher_text, launcher_samples, metrics_text};
+ghost use Rattle.job_metrics.specs.Samples.{family_name, family_kind, family_help, head_text, flag_value, job_value, escape, hex_digit, label_char, label_text, sample_text, samples_text, bare_sample, family_text, families_text, launcher_text, launcher_samples, metrics_text};
 
-use plain_text::plain_char;
+use plain_text::is_hidden;
 use run_times::{Ink, Piece};
 use std::alloc::{AllocError, Global};
 
@@ -39,6 +39,15 @@ pub struct JobSample<'a> {
     pub last_end: Option<u64>,
     /// When time alone starts it next. None if it does not.
     pub next_start: Option<u64>,
+    /// When a run of it last ended with code 0, in seconds of Unix time. None if none has.
+    pub last_success: Option<u64>,
+    /// How its last run ended: its exit code, or 128 and the number of the signal. None if none has.
+    pub last_exit: Option<u64>,
+    /// The bytes of its process in memory, and the seconds of processor time that this took. None if they are not known.
+    pub resident: Option<u64>,
+    pub processor: Option<u64>,
+    /// Whether its label is disabled.
+    pub is_disabled: bool,
 }
 
 /// What the samples of one name say.
@@ -54,16 +63,26 @@ pub enum Family {
     Refusals,
     LastEnd,
     NextStart,
+    LastSuccess,
+    LastExit,
+    Resident,
+    Processor,
+    Disabled,
 }
 
 /// The families that have a sample for each job, in the order of the text.
-const OF_JOBS: [Family; 6] = [
+const OF_JOBS: [Family; 11] = [
     Family::Running,
     Family::Starts,
     Family::Failures,
     Family::Refusals,
     Family::LastEnd,
     Family::NextStart,
+    Family::LastSuccess,
+    Family::LastExit,
+    Family::Resident,
+    Family::Processor,
+    Family::Disabled,
 ];
 
 fn family_name(family: Family) -> &'static str
@@ -80,6 +99,11 @@ fn family_name(family: Family) -> &'static str
         Family::Refusals => "jobd_job_refused_total",
         Family::LastEnd => "jobd_job_last_end_timestamp_seconds",
         Family::NextStart => "jobd_job_next_start_timestamp_seconds",
+        Family::LastSuccess => "jobd_job_last_success_timestamp_seconds",
+        Family::LastExit => "jobd_job_last_exit_code",
+        Family::Resident => "jobd_job_resident_bytes",
+        Family::Processor => "jobd_job_cpu_seconds_total",
+        Family::Disabled => "jobd_job_disabled",
     }
 }
 
@@ -87,7 +111,7 @@ fn family_kind(family: Family) -> &'static str
     ensures { result.now ≡ family_kind family }
 {
     match family {
-        Family::Starts | Family::Failures | Family::Refusals => "counter",
+        Family::Starts | Family::Failures | Family::Refusals | Family::Processor => "counter",
         _ => "gauge",
     }
 }
@@ -106,6 +130,12 @@ fn family_help(family: Family) -> &'static str
         Family::Refusals => "Starts since the load that the system refused.",
         Family::LastEnd => "When the last run of the job ended.",
         Family::NextStart => "When the job starts next by the clocks alone.",
+        Family::LastSuccess => "When a run of the job last exited with code 0, since its load.",
+        Family::LastExit =>
+            "The exit code of the last run of the job, or 128 and the signal that ended it.",
+        Family::Resident => "The memory that the process of the job has.",
+        Family::Processor => "The processor time that the process of the job has used.",
+        Family::Disabled => "Whether the label of the job is disabled.",
     }
 }
 
@@ -120,6 +150,11 @@ fn job_value(family: Family, job: &JobSample<'_>) -> Option<u64>
         Family::Refusals => Some(job.refusals),
         Family::LastEnd => job.last_end,
         Family::NextStart => job.next_start,
+        Family::LastSuccess => job.last_success,
+        Family::LastExit => job.last_exit,
+        Family::Resident => job.resident,
+        Family::Processor => job.processor,
+        Family::Disabled => flag_value(Some(job.is_disabled)),
         _ => None,
     }
 }
@@ -141,7 +176,7 @@ fn put_head(ink: &mut Ink, family: Family)
     ]);
 }
 
-// A label between the quotes of a sample: a text of others, with its backslashes and quotes escaped.
+// A label between the quotes of a sample: a text of others, with its backslashes and quotes escaped, and a hidden character by its number, as in JSON.
 fn put_label(ink: &mut Ink, label: &str)
     ensures { Adds (label_text (chars label.now)) ink.old ink.new }
 {
@@ -153,11 +188,36 @@ fn put_label(ink: &mut Ink, label: &str)
 fn put_label_char(ink: &mut Ink, c: char)
     ensures { Adds (label_char c) ink.old ink.new }
 {
-    let seen = plain_char(c);
-    if c == '\\' || c == '"' {
-        ink.put("\\");
+    if is_hidden(c) {
+        put_escape(ink, u32::from(c));
+    } else {
+        if c == '\\' || c == '"' {
+            ink.put("\\");
+        }
+        ink.put_char(c);
     }
-    ink.put_char(seen);
+}
+
+// A character by its number: each that is hidden has four digits at most. The format has no such escape, so its backslash is escaped.
+fn put_escape(ink: &mut Ink, c: u32)
+    ensures { Adds (escape c) ink.old ink.new }
+{
+    ink.put("\\\\u");
+    put_digit(ink, c / 4096);
+    put_digit(ink, c / 256);
+    put_digit(ink, c / 16);
+    put_digit(ink, c);
+}
+
+fn put_digit(ink: &mut Ink, number: u32)
+    ensures { Adds (encode_utf8 (hex_digit number)) ink.old ink.new }
+{
+    let digit = (number % 16) as u8;
+    ink.put_char(char::from(if digit < 10 {
+        b'0' + digit
+    } else {
+        b'W' + digit
+    }));
 }
 
 fn put_sample(ink: &mut Ink, family: Family, job: &JobSample<'_>)

@@ -11,6 +11,7 @@ pub mod laws;
 mod live;
 mod loop_host;
 mod paths;
+mod round_poll;
 mod round_time;
 mod rounds;
 mod telling;

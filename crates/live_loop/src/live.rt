@@ -11,6 +11,7 @@ use crate::job_sockets::JobSockets;
 use crate::label_room::LabelRoom;
 use crate::loop_host::LoopHost;
 use crate::paths::Sights;
+use crate::round_poll::RoundPoll;
 use crate::voice::Voice;
 use crate::waiting::SHORTEST;
 use child_edge::{Notice, System};
@@ -30,7 +31,7 @@ const EVENTS: usize = 128;
 pub struct Live<H> {
     pub(crate) host: H,
     pub(crate) control: ControlSocket,
-    pub(crate) poll: Poll,
+    pub(crate) poll: RoundPoll,
     pub(crate) rooms: Rooms,
     // What standard error would have had to wait for.
     pub(crate) untold: Option<Notice>,
@@ -142,7 +143,7 @@ impl<H: LoopHost + Drop> Live<H> {
             Ok(rooms) => Ok(Live {
                 host,
                 control,
-                poll,
+                poll: RoundPoll::new(poll),
                 rooms,
                 untold: None,
                 has_journal_closed: false,

@@ -1,6 +1,6 @@
 //! The passes of the live loop: what each does, one after the other.
 
-ghost use Rattle.std.specs.Prelude.{◌≡◌, OnOk};
+ghost use Rattle.std.specs.Prelude.{◌≡◌, ◌≤◌, OnOk};
 ghost use Rattle.control_socket.specs.Serving.{Serves};
 ghost use Rattle.live_loop.specs.Rounds.{Asks, IsRound, ServesAll};
 ghost use Rattle.live_loop.specs.Kept.{IsKeptBy, IsLookKeptBy, desk_in, left_in};
@@ -12,7 +12,7 @@ use crate::live::Live;
 use crate::loop_host::LoopHost;
 use crate::round_time::RoundTime;
 use crate::telling::tell;
-use crate::waiting::{next_pause, quick_rounds, round_wait};
+use crate::waiting::{LONGEST, next_pause, quick_rounds, round_wait};
 use child_edge::System;
 use control_socket::Limit;
 use history_model::SECOND;
@@ -118,13 +118,7 @@ fn wait<R: System, H: LoopHost>(rt: &R, live: &mut Live<H>) -> Result<(), ServeF
         thread::sleep(rt, Duration::from_micros(QUICK_WAIT));
         wait = 0;
     }
-    match live
-        .poll
-        .poll(&mut live.rooms.events, Some(Duration::from_millis(wait)))
-    {
-        Ok(()) => {}
-        Err(_) => return Err(ServeFault::Poll),
-    }
+    live.poll.wait(&mut live.rooms.events, wait)?;
     wake(&live.rooms.events, &mut live.rooms.sockets);
     Ok(())
 }
@@ -139,6 +133,7 @@ fn wake(events: &Events, sockets: &mut JobSockets)
 }
 
 fn next_wait<H: LoopHost>(live: &mut Live<H>) -> u64
+    ensures within { result ≤ 100 }
     ensures asks { Asks H.Asked live.old.host live.new.host }
     ensures kept { IsKeptBy live.old live.new }
 {
@@ -147,7 +142,8 @@ fn next_wait<H: LoopHost>(live: &mut Live<H>) -> u64
     }
     let up = live.host.up_now();
     let look = live.rooms.sights.next_look(&live.host);
-    round_wait(live.pause, up, live.host.standing().next_moment, look)
+    let pause = live.pause.min(LONGEST);
+    round_wait(pause, up, live.host.standing().next_moment, look)
 }
 
 fn serve_clients<R: System, H: LoopHost>(rt: &R, alloc: Global, live: &mut Live<H>)

@@ -4,7 +4,7 @@ ghost use Rattle.std.specs.Prelude.{◌≡◌, ◌≤◌, ◌∷◌, ℕ, Bool, 
 ghost use Rattle.live_loop.specs.Waiting.{pause_after, quick_after, IsNotPast, IsLongestWait};
 
 /// The longest pause.
-const LONGEST: u64 = 100;
+pub(crate) const LONGEST: u64 = 100;
 
 /// The pause after a pass in which something happened, and before the first one.
 pub(crate) const SHORTEST: u64 = 1;

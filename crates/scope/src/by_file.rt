@@ -1,11 +1,12 @@
 //! What a launcher's status file reports: the table of `status`, why each job runs or not, and when each starts next.
 
 use crate::clock::now;
+use crate::errors::put_errors;
 use crate::journal::source::{NONE_NAMED, finds_journal, stands_in};
 use crate::left::left_running;
 use crate::objects::status::status_objects;
 use crate::objects::why::standing_objects;
-use crate::texts::standing::{failing_in, standing_text};
+use crate::texts::standing::{failed_in, failing_in, standing_text};
 use crate::texts::standing_next::standing_lines;
 use crate::texts::starts::ComingLines;
 use crate::texts::unknown::unknown_in;
@@ -13,7 +14,7 @@ use definition_files::tell_clockless;
 use exit_status::{BAD_CLOCK, BAD_FILE, DIFFERS};
 use history_model::Text;
 use launchctl_words::{ScopeCommand, Task};
-use run_times::telling::{put_made, tell_of};
+use run_times::telling::{put, put_made, tell_of};
 use status_page::{
     Look, Standing, has_colour, named_path, packages_file, read_standing, samples_text, table_text,
     tell_trouble, width_of,
@@ -156,11 +157,11 @@ fn tell(
             0
         }
         Task::Metrics => {
-            put_made(host, samples_text(alloc, standing, labels, second))?;
+            put_made(host, samples_text(host, alloc, standing, labels, second))?;
             0
         }
         _ if of.is_json => {
-            put_made(host, status_objects(alloc, standing, of, second))?;
+            put_made(host, status_objects(host, alloc, standing, of, second))?;
             0
         }
         _ => {
@@ -170,14 +171,30 @@ fn tell(
                 has_colour: has_colour(host),
                 is_utc: of.is_utc,
             };
-            put_made(host, table_text(alloc, standing, labels, look))?;
+            put_made(host, table_text(host, alloc, standing, labels, look))?;
             0
         }
     };
-    match tell_unknown(host, alloc, path, standing, labels) {
-        Ok(unknown) => Ok(unknown.max(status)),
-        Err(error) => Err(error),
+    let unknown = tell_unknown(host, alloc, path, standing, labels)?;
+    match of.task {
+        Task::Why if !of.is_json => put_failed(host, alloc, of, standing)?,
+        _ => {}
     }
+    Ok(unknown.max(status))
+}
+
+// Where the errors of the jobs went whose last run failed.
+fn put_failed(
+    host: &HostRuntime,
+    alloc: Global,
+    of: &ScopeCommand,
+    standing: &Standing,
+) -> io::Result<()> {
+    let failed = failed_in(alloc, standing, of.words.as_slice())?;
+    if !of.is_failing && !failed.is_empty() {
+        put(host, "\n")?;
+    }
+    put_errors(host, alloc, failed.as_slice(), true)
 }
 
 // The next starts, and how many jobs have none.

@@ -48,9 +48,9 @@ impl HeardMarks<'_> {
         if at < self.since {
             return Ok(());
         }
-        for news in news {
-            if is_named(self.labels, news.label.as_str()) {
-                self.hear_news(news, at)?;
+        for one in news {
+            if is_named(self.labels, one.label.as_str()) {
+                self.hear_news(one, at, is_met(one, news))?;
             }
         }
         Ok(())
@@ -72,13 +72,14 @@ impl HeardMarks<'_> {
         Ok(())
     }
 
-    fn hear_news(&mut self, news: &News, at: u64) -> Result<(), AllocError> {
+    fn hear_news(&mut self, news: &News, at: u64, is_met: bool) -> Result<(), AllocError> {
         if let What::Ended { run, .. } = &news.what {
             if let Some(bar) = bar_of(&Axis::new(at, at, PLACES), run) {
                 self.gathering.add(run.job, since(bar, self.since))?;
             }
         }
         match (mark_of(&news.what), news.serial) {
+            (Some(MarkKind::Demand), _) if is_met => Ok(()),
             (Some(kind), Some(job)) => self.gathering.mark(job, kind, at),
             (Some(_), None) => {
                 self.rowless = self.rowless.saturating_add(1);
@@ -87,6 +88,21 @@ impl HeardMarks<'_> {
             (None, _) => Ok(()),
         }
     }
+}
+
+// Whether what came is met at once: by a start that the same line orders. One that is ordered as a run ends was waited for.
+fn is_met(came: &News, news: &[News]) -> bool {
+    let mut is_ordered = false;
+    for one in news {
+        if one.label.as_str() == came.label.as_str() {
+            match one.what {
+                What::Ordered { .. } => is_ordered = true,
+                What::Ended { .. } => return false,
+                _ => {}
+            }
+        }
+    }
+    is_ordered
 }
 
 // The mark that an event of a journal makes, if it makes one.

@@ -8,6 +8,7 @@ mod charted;
 mod clock;
 mod drift;
 mod ended;
+mod errors;
 mod journal;
 mod left;
 mod listener;

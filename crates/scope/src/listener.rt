@@ -59,7 +59,35 @@ impl JournalListener<'_> {
         }
     }
 
-    // Applies the line, and returns whether it is an event, or the header.
+    // A log that is asked for from a second on says where the first journal begins, if that is later.
+    fn tell_begin(
+        &self,
+        is_first: bool,
+        since: u64,
+        shown: &mut String,
+    ) -> Result<(), JournalFault> {
+        match (&self.journal, self.of.task) {
+            (Some(journal), Task::Log) if is_first && since > 0 => {
+                let now = journal.table.reading();
+                if since >= now.wall {
+                    return Ok(());
+                }
+                let zone = zone_shown(self.of, &self.utc, &journal.zone);
+                let mut page = Page::new(self.alloc, zone, now);
+                page.add(
+                    "$  the journals begin: what was before is not kept\n",
+                    &[Now],
+                );
+                match add_text(page, shown) {
+                    Ok(()) => Ok(()),
+                    Err(_) => Err(JournalFault::NoMemory),
+                }
+            }
+            _ => Ok(()),
+        }
+    }
+
+    // Takes in the line, and says whether it is an event, or the header.
     fn take(&mut self, line: &[u8], is_header: bool) -> Result<bool, JournalFault>
         ensures { IfOk result (λ _.
             HearsLine StandsAfter self.old.journal line.now is_header self.new.journal) }
@@ -101,9 +129,11 @@ impl Hears for JournalListener<'_> {
         if ended.is_err() {
             return Err(JournalFault::NoMemory);
         }
+        let is_first = self.journal.is_none();
         let is_event = self.take(line, is_header)?;
         if is_header {
             let told = self.told()?;
+            self.tell_begin(is_first, told.since, shown)?;
             self.told = told;
             self.heard.since = told.since;
             if let Some(journal) = &mut self.journal {
@@ -160,6 +190,10 @@ fn add_shown(
     };
     page.add(front, &[Now]);
     add_lines(&mut page, journal, of.words.as_slice());
+    add_text(page, shown)
+}
+
+fn add_text(page: Page<'_>, shown: &mut String) -> Result<(), AllocError> {
     match page.into_text() {
         Ok(lines) => {
             let added = shown.push_str(lines.as_str());

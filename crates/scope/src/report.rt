@@ -8,6 +8,7 @@ use crate::by_file::FAILS;
 use crate::charted::{HeardMarks, chart_of};
 use crate::clock::now;
 use crate::drift::drift_of;
+use crate::errors::{add_errors, put_errors};
 use crate::journal::fault::{JournalFault, tell_fault, tell_long};
 use crate::journal::job::Record;
 use crate::journal::lines::JournalLines;
@@ -19,7 +20,7 @@ use crate::log::follow;
 use crate::objects::runs::runs_objects;
 use crate::objects::why::why_objects;
 use crate::page::coming_of;
-use crate::texts::failing::failing_text;
+use crate::texts::failing::{failed_runs, failing_text};
 use crate::texts::log::is_named;
 use crate::texts::next::{AskedStarts, next_lines};
 use crate::texts::runs::runs_table;
@@ -36,10 +37,10 @@ use exit_status::BAD_FILE;
 use history_model::Text;
 use launchctl_words::{ScopeCommand, Task};
 use run_times::picture::{Beside, Chart, blocks_text, picture_piece};
-use run_times::telling::{put_made, put_outcome, tell_of};
+use run_times::telling::{put, put_made, put_outcome, tell_of};
 use run_times::{Ink, Piece};
 use status_page::width_of;
-use std::alloc::Global;
+use std::alloc::{AllocError, Global};
 use std::io;
 use std::io::IsTerminal;
 use std::sync::Wait;
@@ -249,7 +250,9 @@ fn write_report(
             return put_objects(host, alloc, name, journal, zone, of, as_of);
         }
         Task::Why if of.is_failing => {
-            return put_failing(host, alloc, name, journal, zone, labels, as_of);
+            let status = put_failing(host, alloc, name, journal, zone, labels, as_of)?;
+            put_failed(host, alloc, journal, of, as_of)?;
+            return Ok(status);
         }
         Task::Why => put_made(host, why_text(alloc, journal, zone, labels, as_of)),
         Task::Runs => put_runs(host, alloc, name, journal, zone, of, as_of),
@@ -264,6 +267,7 @@ fn write_report(
     match (written, of.task) {
         (Ok(()), Task::Why) => {
             let status = tell_unknown(host, alloc, name, journal, labels)?;
+            put_failed(host, alloc, journal, of, as_of)?;
             put_now(host, alloc, journal, labels)?;
             Ok(status)
         }
@@ -289,7 +293,26 @@ fn put_failing(
     Ok(unknown.max(if count > 0 { FAILS } else { 0 }))
 }
 
-// Why each job is in its state, as objects. The exit status is 2 if failing jobs are asked for, and there is one.
+// Where the errors of the jobs went whose last run failed. What a file has now is not told of a moment before.
+fn put_failed(
+    host: &HostRuntime,
+    alloc: Global,
+    journal: &OpenJournal,
+    of: &ScopeCommand,
+    as_of: AsOf,
+) -> io::Result<()> {
+    let failed = failed_runs(alloc, journal, of.words.as_slice())?;
+    if !of.is_failing && !failed.is_empty() {
+        put(host, "\n")?;
+    }
+    let is_seen = match as_of {
+        AsOf::Moment { .. } => false,
+        AsOf::End | AsOf::Seen(_, _) => true,
+    };
+    put_errors(host, alloc, failed.as_slice(), is_seen)
+}
+
+// Why each job stands as it does, as objects. The exit status is 2 if failing jobs are asked for, and there is one.
 fn put_objects(
     host: &HostRuntime,
     alloc: Global,
@@ -483,7 +506,9 @@ fn paint_page(
     let table = runs_table(alloc, &journal.past, journal.table.reading(), labels)?;
     let why = why_text(alloc, journal, zone, labels, AsOf::End)?;
     let coming = coming_of(alloc, journal, chart)?;
+    let failing = failing_front(alloc, journal, zone, labels)?;
     let beside = Some(Beside {
+        failing: failing.as_str(),
         table: table.as_str(),
         why: why.as_str(),
         coming: coming.as_slice(),
@@ -491,7 +516,27 @@ fn paint_page(
     put_pieces(host, alloc, zone, chart, beside.as_ref())
 }
 
-// Writes the page around the picture, or the picture alone, piece by piece, so that its whole text is never held.
+// The jobs that fail as of the journal's end, and where their errors went; nothing if none does.
+fn failing_front(
+    alloc: Global,
+    journal: &OpenJournal,
+    zone: &Zone,
+    labels: &[Text],
+) -> Result<String, AllocError> {
+    let (text, count) = failing_text(alloc, journal, zone, labels, AsOf::End)?;
+    let mut ink = Ink::new(alloc);
+    if count > 0 {
+        ink.put(text.as_str());
+        for run in &failed_runs(alloc, journal, labels)? {
+            add_errors(&mut ink, run);
+            ink.put("\n");
+        }
+    }
+    drop(text);
+    ink.into_text()
+}
+
+// Writes the page with what stands beside the picture, or the picture alone: piece by piece, so that its whole text is never held.
 fn put_pieces(
     host: &HostRuntime,
     alloc: Global,

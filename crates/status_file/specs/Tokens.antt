@@ -260,7 +260,8 @@ note_tokens n =
     ++ (moment_tokens (codes "started") n.started
     ++ (moment_tokens (codes "term") n.term
     ++ (moment_tokens (codes "kill") n.kill
-    ++ (end_tokens n.last_end ++ refused_tokens n.refused))))
+    ++ (end_tokens n.last_end
+    ++ (refused_tokens n.refused ++ moment_tokens (codes "succeeded") n.succeeded)))))
 
 -- ---- what the definition says
 
@@ -288,6 +289,7 @@ others_tokens k =
     ∷ key (codes "queue_directories") ∷ number (decimal k.queue_directories.count)
     ∷ key (codes "first_queue") ∷ text_token k.queue_directories.first
     ∷ key (codes "sockets") ∷ boolean k.has_sockets
+    ∷ key (codes "errors") ∷ text_token k.errors
     ∷ end_object ∷ []
 
 abbrev pub keys_tokens : JobKeys → List Token

@@ -195,6 +195,7 @@ fn note_in<'a>(fields: &mut Fields<'a>) -> JobNote<'a> {
         term: reading_if(fields, "term"),
         kill: reading_if(fields, "kill"),
         last_end: end_in(fields),
+        succeeded: succeeded_in(fields),
         refused: refused_in(fields),
         definition: definition_in(fields),
     }
@@ -204,6 +205,24 @@ fn note_in<'a>(fields: &mut Fields<'a>) -> JobNote<'a> {
 fn definition_in<'a>(fields: &mut Fields<'a>) -> Option<&'a str> {
     if fields.has("definition") {
         fields.text_if("definition")
+    } else {
+        None
+    }
+}
+
+// Nor this.
+fn succeeded_in(fields: &mut Fields<'_>) -> Option<Reading> {
+    if fields.has("succeeded") {
+        reading_if(fields, "succeeded")
+    } else {
+        None
+    }
+}
+
+// Nor where the errors of a job go.
+fn errors_in<'a>(keys: &mut Fields<'a>) -> Option<&'a str> {
+    if keys.has("errors") {
+        keys.text_if("errors")
     } else {
         None
     }
@@ -273,6 +292,8 @@ fn keys_in<'a>(fields: &mut Fields<'a>) -> JobKeys<'a> {
         watch_paths: paths_in(&mut keys, "watch_paths", "first_watched"),
         queue_directories: paths_in(&mut keys, "queue_directories", "first_queue"),
         has_sockets: keys.flag("sockets"),
+        knows_errors: keys.has("errors"),
+        errors: errors_in(&mut keys),
     };
     if interval.is_some() && start_interval.is_none() {
         keys.refuse("start_interval");

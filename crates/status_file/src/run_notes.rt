@@ -19,6 +19,7 @@ struct Counted {
     term: Option<Reading>,
     kill: Option<Reading>,
     last_end: Option<RunEnd>,
+    succeeded: Option<Reading>,
     // The run of the last start that was refused, and when that was.
     refused: Option<(u64, Reading)>,
 }
@@ -35,6 +36,7 @@ impl Counted {
             term: None,
             kill: None,
             last_end: None,
+            succeeded: None,
             refused: None,
         }
     }
@@ -260,9 +262,12 @@ impl RunNotes {
             return;
         };
         let counted = &mut note.counted;
-        let failed = if how == Ended::Code(0) { 0 } else { 1 };
+        if how == Ended::Code(0) {
+            counted.succeeded = Some(at);
+        } else {
+            counted.failures = counted.failures.saturating_add(1);
+        }
         counted.since = at;
-        counted.failures = counted.failures.saturating_add(failed);
         counted.last_end = Some(RunEnd {
             run,
             how,
@@ -298,6 +303,7 @@ impl RunNotes {
             term: counted.term,
             kill: counted.kill,
             last_end: counted.last_end,
+            succeeded: counted.succeeded,
             refused,
             definition,
         }

@@ -86,6 +86,8 @@ pub struct JobNote<'a> {
     pub term: Option<Reading>,
     pub kill: Option<Reading>,
     pub last_end: Option<RunEnd>,
+    /// When a run of it last ended with code 0. None also if a launcher of version 0.3.0 wrote the file.
+    pub succeeded: Option<Reading>,
     /// The last start that was refused.
     pub refused: Option<RefusedStart<'a>>,
     /// The SHA-256 of its definition as it was loaded, in 64 hexadecimal digits. None if there was no memory for it, or just after the load.
@@ -119,6 +121,10 @@ pub struct JobKeys<'a> {
     pub watch_paths: KeyPaths<'a>,
     pub queue_directories: KeyPaths<'a>,
     pub has_sockets: bool,
+    /// The file that its errors go to.
+    pub errors: Option<&'a str>,
+    /// Whether it is known where they go: a launcher of version 0.3.0 does not tell it.
+    pub knows_errors: bool,
 }
 
 impl<'a> JobKeys<'a> {
@@ -142,6 +148,8 @@ impl<'a> JobKeys<'a> {
             watch_paths: paths_of(def.watch_paths()),
             queue_directories: paths_of(def.queue_directories()),
             has_sockets: def.has_sockets(),
+            errors: def.standard_error_path(),
+            knows_errors: true,
         }
     }
 }

@@ -257,6 +257,7 @@ fn put_note(line: &mut Line, note: &JobNote<'_>)
     put_moment(line, "kill", note.kill);
     put_end(line, note.last_end);
     put_refused(line, note.refused);
+    put_moment(line, "succeeded", note.succeeded);
 }
 
 fn put_reasons(line: &mut Line, reasons: &Reasons)
@@ -485,6 +486,8 @@ fn put_others(line: &mut Line, keys: JobKeys<'_>)
         text_piece(keys.queue_directories.first),
         Key("sockets"),
         Flag(keys.has_sockets),
+        Key("errors"),
+        text_piece(keys.errors),
         Close,
     ]);
 }

@@ -1,6 +1,9 @@
--- What a monitor reads of a job.
-use Rattle.std.specs.Prelude.{ℕ, Bool, true, false, Option, Some, None}
+-- What a monitor is told of a job.
+use Rattle.std.specs.Prelude.{ℕ, Bool, true, false, Option, Some, None, ◌+◌}
 use Rattle.std.specs.Option.{option_map}
+use Rattle.history_model.specs.declared.Ended.{Ended}
+use Rattle.history_model.specs.declared.Ended.TheVariants as ends
+use Rattle.history_model.specs.declared.Reading.{Reading}
 use Rattle.status_file.specs.declared.status.JournalStatus.{JournalStatus}
 use Rattle.status_file.specs.declared.status.JournalStatus.TheVariants as journals
 use Rattle.status_file.specs.declared.status.RunEnd.{RunEnd}
@@ -20,7 +23,20 @@ journal_flag (journals.Closed reason) = Some false
 abbrev pub end_second : Option RunEnd → Option ℕ
 end_second end = option_map (λ it. it.ended.wall) end
 
--- the second to show for the next start by time alone, also for one that is overdue
+-- the second at which a run last ended with code 0
+abbrev pub success_second : Option Reading → Option ℕ
+success_second at = option_map (λ it. it.wall) at
+
+-- the number of an end: the exit code, or 128 and the number of the signal
+abbrev pub end_number : Ended → ℕ
+end_number (ends.Code code) = code
+end_number (ends.Signal signal) = 128 + signal
+
+-- the number of the last run's end
+abbrev pub exit_told : Option RunEnd → Option ℕ
+exit_told end = option_map (λ it. end_number it.how) end
+
+-- the second that is told for the next start by the clocks alone, also for one that has been due since
 abbrev pub next_told : Option ThrottleEnd → Next → Option ℕ
 next_told throttle Nothing = None
 next_told throttle (Clock Never) = None

@@ -17,6 +17,7 @@ mod standing;
 mod starts;
 mod table;
 mod throttles;
+mod usage;
 mod width;
 
 pub use boot::{Boot, LeftOut};
@@ -34,4 +35,5 @@ pub use standing::{Standing, Trouble, named_path, packages_file, read_standing, 
 pub use starts::{ToldStart, start_told};
 pub use table::{Look, is_asked, reading_of, table_text, told_as_of};
 pub use throttles::{ThrottleBy, ThrottleEnd, second_told, throttle_by, throttle_end};
+pub use usage::{Usage, usage_of};
 pub use width::{has_colour, width_of};

@@ -7,6 +7,7 @@ ghost use Rattle.status_page.specs.Rows.{last_refused, last_shown, process_shown
 
 use crate::clocks::{StartWhen, can_start_again, start_when};
 use crate::throttles::{ThrottleEnd, throttle_by, throttle_end};
+use crate::usage::Usage;
 use calendar_due::Zone;
 use history_model::{Ended, Entry, JobState, Reading, Reasons};
 use status_file::{JobKeys, JobNote, JobStatus, RunEnd, state_name, state_of};
@@ -48,6 +49,10 @@ pub struct Row<'a> {
     pub next: Next,
     /// When it is throttled no longer, if it is.
     pub throttle: Option<ThrottleEnd>,
+    /// Whether its last start was refused.
+    pub is_refused: bool,
+    /// What its process takes, where that was looked at.
+    pub usage: Option<Usage>,
 }
 
 /// The row of a job at a second, whether its launcher may be running or has exited. `at` is the launcher's clock reading.
@@ -84,6 +89,8 @@ pub fn row_of<'a>(
         refusals: job.note.refusals,
         next: next_of(job, entries, zone, may_live, at, second),
         throttle: throttle_of(job, at),
+        is_refused: last_refused(&job.note).is_some(),
+        usage: None,
     }
 }
 

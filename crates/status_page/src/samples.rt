@@ -2,28 +2,30 @@
 
 ghost use Rattle.std.specs.Prelude.{◌≡◌, ◌≤◌, is_some};
 ghost use Rattle.history_model.specs.declared.TheConstants.{MAX_UP, MAX_WALL};
-ghost use Rattle.status_page.specs.Samples.{end_second, journal_flag, next_told};
+ghost use Rattle.status_page.specs.Samples.{end_second, exit_told, journal_flag, next_told, success_second};
 
 use crate::clocks::StartWhen;
 use crate::rows::{Next, Row};
 use crate::standing::Standing;
 use crate::table::{reading_of, row_in};
 use crate::throttles::{ThrottleEnd, second_told};
+use crate::usage::{Usage, usage_of};
 use calendar_due::Zone;
-use history_model::{Reading, Text};
+use history_model::{Ended, Reading, Text};
 use job_metrics::{JobSample, LauncherSample, metrics};
 use status_file::{JobNote, JournalStatus, RunEnd, StatusLine};
 use std::alloc::{AllocError, Global};
 
 /// The samples of a status file as of a second: of the named jobs, or of all if none is named.
 pub fn samples_text(
+    host: &HostRuntime,
     alloc: Global,
     standing: &Standing,
     labels: &[Text],
     second: u64,
 ) -> Result<String, AllocError> {
     let zone = standing.zone(alloc, false)?;
-    let samples = samples_of(alloc, standing, labels, &zone, second);
+    let samples = samples_of(host, alloc, standing, labels, &zone, second);
     drop(zone);
     let samples = samples?;
     let text = match standing.launcher() {
@@ -53,8 +55,8 @@ pub fn journal_flag(journal: JournalStatus<'_>) -> Option<bool>
     }
 }
 
-/// The sample of a job, by its row and what is known of its runs.
-pub fn sample_of<'a>(row: &Row<'a>, note: &JobNote<'_>) -> JobSample<'a>
+/// The sample of a job, by its row, what was heard of its runs, and whether its label is disabled.
+pub fn sample_of<'a>(row: &Row<'a>, note: &JobNote<'_>, is_disabled: bool) -> JobSample<'a>
     ensures label { result.label ≡ row.now.label }
     ensures running { result.is_running ≡ is_some row.now.process }
     ensures starts { result.starts ≡ row.now.starts }
@@ -62,7 +64,11 @@ pub fn sample_of<'a>(row: &Row<'a>, note: &JobNote<'_>) -> JobSample<'a>
     ensures refusals { result.refusals ≡ row.now.refusals }
     ensures last_end { result.last_end ≡ end_second note.now.last_end }
     ensures next { result.next_start ≡ next_told row.now.throttle row.now.next }
+    ensures success { result.last_success ≡ success_second note.now.succeeded }
+    ensures exit { result.last_exit ≡ exit_told note.now.last_end }
+    ensures disabled { result.is_disabled ≡ is_disabled }
 {
+    let (resident, processor) = taken_by(row.usage);
     JobSample {
         label: row.label,
         is_running: row.process.is_some(),
@@ -71,6 +77,41 @@ pub fn sample_of<'a>(row: &Row<'a>, note: &JobNote<'_>) -> JobSample<'a>
         refusals: row.refusals,
         last_end: end_second(note.last_end),
         next_start: next_told(row.throttle, row.next),
+        last_success: success_second(note.succeeded),
+        last_exit: exit_told(note.last_end),
+        resident,
+        processor,
+        is_disabled,
+    }
+}
+
+// The bytes in memory, and the whole seconds of processor time.
+fn taken_by(usage: Option<Usage>) -> (Option<u64>, Option<u64>) {
+    match usage {
+        Some(usage) => (Some(usage.resident), Some(usage.processor / 1_000)),
+        None => (None, None),
+    }
+}
+
+fn success_second(at: Option<Reading>) -> Option<u64>
+    ensures { result ≡ success_second at }
+{
+    match at {
+        Some(at) => Some(at.wall),
+        None => None,
+    }
+}
+
+// The exit code; of an end by a signal 128 and its number, as a shell tells it.
+fn exit_told(end: Option<RunEnd>) -> Option<u64>
+    ensures { result ≡ exit_told end }
+{
+    match end {
+        Some(end) => match end.how {
+            Ended::Code(code) => Some(u64::from(code)),
+            Ended::Signal(signal) => Some(128 + u64::from(signal)),
+        },
+        None => None,
     }
 }
 
@@ -95,6 +136,7 @@ fn next_told(throttle: Option<ThrottleEnd>, next: Next) -> Option<u64>
 }
 
 fn samples_of<'a>(
+    host: &HostRuntime,
     alloc: Global,
     standing: &'a Standing,
     labels: &[Text],
@@ -105,7 +147,9 @@ fn samples_of<'a>(
     let mut samples = Vec::new(alloc);
     for line in standing.jobs() {
         let sample = sample_in(
+            host,
             alloc,
+            standing,
             line,
             labels,
             zone,
@@ -122,7 +166,9 @@ fn samples_of<'a>(
 
 // The sample of a line, if its job is asked for.
 fn sample_in<'a>(
+    host: &HostRuntime,
     alloc: Global,
+    standing: &Standing,
     line: &'a StatusLine,
     labels: &[Text],
     zone: &Zone,
@@ -135,7 +181,12 @@ fn sample_in<'a>(
 {
     let row = row_in(alloc, line, labels, zone, may_live, at, second)?;
     Ok(match (row, line.job()) {
-        (Some(row), Ok(job)) => Some(sample_of(&row, &job.note)),
+        (Some(mut row), Ok(job)) => {
+            if let (Some(_), Some(launcher)) = (row.process, standing.launcher()) {
+                row.usage = usage_of(host, alloc, &launcher, &job);
+            }
+            Some(sample_of(&row, &job.note, job.disabled.is_some()))
+        }
         _ => None,
     })
 }

@@ -14,6 +14,7 @@ use crate::left_out::add_left_out;
 use crate::rows::{Next, Row, ShownState, row_of, word_of};
 use crate::standing::Standing;
 use crate::throttles::second_told;
+use crate::usage::usage_of;
 use calendar_due::Zone;
 use history_model::{Ended, JobState, MAX_WALL, Reading, Text};
 use run_times::picture::columns_of;
@@ -21,10 +22,15 @@ use run_times::{Ink, Page, time_text};
 use status_file::StatusLine;
 use std::alloc::{AllocError, Global};
 
-/// The widths of the columns after the label: state, process, since when, last end, starts, failures, and what comes next.
+/// The columns behind the label, which have this width each: state, process, since when, last exit, starts, failures, and what comes next.
 const WIDTHS: [usize; 7] = [8, 7, 11, 9, 6, 6, 11];
 
-const HEAD: &str = " STATE    PROCESS SINCE       LAST END  STARTS FAILED NEXT\n";
+const HEAD: &str = " STATE    PROCESS SINCE       LAST EXIT STARTS FAILED ";
+
+/// Where the table has room for them: the memory that a process takes, and its processor time.
+const TAKEN: [usize; 2] = [5, 6];
+
+const HEAD_TAKEN: &str = "MEM   CPU    ";
 
 /// What ends a colour.
 const PLAIN: &str = "\x1b[0m";
@@ -44,6 +50,7 @@ pub struct Look {
 /// The table as of a second: the report on the launcher, a head, and a line for each job, or for each named job that the file has. They are in the
 /// file's order. Then comes a line for each definition that the boot left out.
 pub fn table_text(
+    host: &HostRuntime,
     alloc: Global,
     standing: &Standing,
     labels: &[Text],
@@ -54,7 +61,10 @@ pub fn table_text(
     let rows = rows_of(alloc, standing, labels, &zone, at, look.second);
     drop(zone);
     match rows {
-        Ok(rows) => {
+        Ok(mut rows) => {
+            if has_room(look.columns) {
+                look_at_processes(host, alloc, standing, rows.as_mut_slice());
+            }
             let text = shown_text(alloc, standing, labels, rows.as_slice(), at, look);
             drop(rows);
             text
@@ -63,7 +73,46 @@ pub fn table_text(
     }
 }
 
-// The text of the rows, by the zone in which times are shown.
+// Whether the table has room for what processes take.
+fn has_room(columns: u16) -> bool {
+    usize::from(columns) >= others_of(true).saturating_add(NARROWEST)
+}
+
+// How many columns there are behind the labels, with a space before each.
+fn others_of(has_taken: bool) -> usize {
+    let mut others: usize = 0;
+    for width in WIDTHS {
+        others = others.saturating_add(width).saturating_add(1);
+    }
+    for width in TAKEN {
+        others = others.saturating_add(if has_taken {
+            width.saturating_add(1)
+        } else {
+            0
+        });
+    }
+    others
+}
+
+// Each row has what the process of its run takes.
+fn look_at_processes(host: &HostRuntime, alloc: Global, standing: &Standing, rows: &mut [Row<'_>]) {
+    let Some(launcher) = standing.launcher() else {
+        return;
+    };
+    let mut at: usize = 0;
+    for line in standing.jobs() {
+        if let (Ok(job), Some(row)) = (line.job(), rows.get_mut(at)) {
+            if row.label == job.label {
+                at = at.saturating_add(1);
+                if row.process.is_some() {
+                    row.usage = usage_of(host, alloc, &launcher, &job);
+                }
+            }
+        }
+    }
+}
+
+// The text of the rows, by the zone in which moments are shown.
 fn shown_text(
     alloc: Global,
     standing: &Standing,
@@ -177,10 +226,7 @@ fn label_columns(rows: &[Row<'_>], columns: u16) -> usize {
     for row in rows {
         wide = columns_of(row.label).max(wide);
     }
-    let mut others: usize = 0;
-    for width in WIDTHS {
-        others = others.saturating_add(width).saturating_add(1);
-    }
+    let others = others_of(has_room(columns));
     wide.min(usize::from(columns).saturating_sub(others).max(NARROWEST))
 }
 
@@ -191,12 +237,17 @@ struct Around<'a> {
     zone: &'a Zone,
     now: &'a str,
     has_colour: bool,
+    /// Whether what processes take has columns.
+    has_taken: bool,
 }
 
 fn add_rows(page: &mut Page<'_>, rows: &[Row<'_>], look: Look) {
     let columns = label_columns(rows, look.columns);
     put_cell(&mut page.ink, "LABEL", columns);
     page.ink.put(HEAD);
+    let has_taken = has_room(look.columns);
+    page.ink.put(if has_taken { HEAD_TAKEN } else { "" });
+    page.ink.put("NEXT\n");
     match time_text(page.alloc, page.zone, page.now.wall.min(MAX_WALL)) {
         Ok(now) => {
             let around = Around {
@@ -204,6 +255,7 @@ fn add_rows(page: &mut Page<'_>, rows: &[Row<'_>], look: Look) {
                 zone: page.zone,
                 now: now.as_str(),
                 has_colour: look.has_colour,
+                has_taken,
             };
             add_lines(&mut page.ink, rows, columns, around);
             drop(now);
@@ -262,10 +314,14 @@ fn end_text(row: &Row<'_>, around: Around<'_>) -> Result<String, AllocError> {
     };
     put_count(&mut ink, process, WIDTHS[1]);
     put_moment(&mut ink, around, row.since, WIDTHS[2]);
-    put_last(&mut ink, row.last, WIDTHS[3]);
+    put_last(&mut ink, row, WIDTHS[3]);
     put_count(&mut ink, Some(row.starts), WIDTHS[4]);
     let failed = row.failures.saturating_add(row.refusals);
     put_count(&mut ink, Some(failed), WIDTHS[5]);
+    if around.has_taken {
+        put_made_cell(&mut ink, memory_text(around.alloc, row), TAKEN[0]);
+        put_made_cell(&mut ink, processor_text(around.alloc, row), TAKEN[1]);
+    }
     put_next(&mut ink, around, row);
     ink.into_text()
 }
@@ -295,8 +351,69 @@ fn put_count(ink: &mut Ink, count: Option<u64>, width: usize) {
     }
 }
 
-fn put_last(ink: &mut Ink, last: Option<Ended>, width: usize) {
-    let (word, number) = match last {
+// A space and the text, and spaces up to the width.
+fn put_made_cell(ink: &mut Ink, text: Result<String, AllocError>, width: usize) {
+    match text {
+        Ok(text) => {
+            ink.put(" ");
+            put_cell(ink, text.as_str(), width);
+            drop(text);
+        }
+        Err(_) => ink.refuse(),
+    }
+}
+
+// How much memory its process has, in at most five columns.
+fn memory_text(alloc: Global, row: &Row<'_>) -> Result<String, AllocError> {
+    let Some(usage) = row.usage else {
+        return String::from_str(alloc, "-");
+    };
+    let kilobytes = usage.resident / 1_024;
+    let (amount, unit) = if kilobytes < 1_024 {
+        return format!(in alloc; "{kilobytes}K");
+    } else if kilobytes < 1_048_576 {
+        (kilobytes, 'M')
+    } else {
+        (kilobytes / 1_024, 'G')
+    };
+    let whole = amount / 1_024;
+    let tenth = amount % 1_024 * 10 / 1_024;
+    if whole < 100 {
+        format!(in alloc; "{whole}.{tenth}{unit}")
+    } else {
+        format!(in alloc; "{whole}{unit}")
+    }
+}
+
+// How much processor time it took: in tenths of a second, then in minutes and seconds, hours and minutes, days and hours.
+fn processor_text(alloc: Global, row: &Row<'_>) -> Result<String, AllocError> {
+    let Some(usage) = row.usage else {
+        return String::from_str(alloc, "-");
+    };
+    let seconds = usage.processor / 1_000;
+    if seconds < 60 {
+        let tenth = usage.processor % 1_000 / 100;
+        return format!(in alloc; "{seconds}.{tenth}s");
+    }
+    let (whole, large, rest, small) = if seconds < 3_600 {
+        (seconds / 60, 'm', seconds % 60, 's')
+    } else if seconds < 360_000 {
+        (seconds / 3_600, 'h', seconds % 3_600 / 60, 'm')
+    } else {
+        (seconds / 86_400, 'd', seconds % 86_400 / 3_600, 'h')
+    };
+    let zero = if rest < 10 { "0" } else { "" };
+    format!(in alloc; "{whole}{large}{zero}{rest}{small}")
+}
+
+// How its last run exited, or that its last start was refused.
+fn put_last(ink: &mut Ink, row: &Row<'_>, width: usize) {
+    if row.is_refused {
+        ink.put(" ");
+        put_cell(ink, "refused", width);
+        return;
+    }
+    let (word, number) = match row.last {
         Some(Ended::Code(code)) => (" code ", u64::from(code)),
         Some(Ended::Signal(signal)) => (" signal ", u64::from(signal)),
         None => {

@@ -29,6 +29,8 @@ pub struct Bar {
     pub run: u64,
     /// How many runs it is for.
     pub runs: u32,
+    /// How many of these failed: by a code above 0, or by a signal, and were not stopped.
+    pub failed: u32,
 }
 
 /// What a mark means.
@@ -91,11 +93,20 @@ impl Bar {
             end,
             run,
             runs: 1,
+            failed: failures_of(end),
         }
     }
 }
 
-/// How grave an end is, from 0 for a run that is running to 5 for a crash; and its code or signal, 0 if it has none.
+// 1 of an end that is a failure.
+fn failures_of(end: End) -> u32 {
+    match end {
+        End::Lives | End::Code(0) | End::Stopped => 0,
+        End::Code(_) | End::Signal(_) | End::Crash(_) => 1,
+    }
+}
+
+/// How grave an end is, from 0 for a run that lives to 5 for a crash; and its code or signal, 0 if it has none.
 pub(crate) fn grade(end: End) -> (usize, u64)
     ensures { result.0 ≤ 5 }
 {
@@ -130,6 +141,7 @@ fn joined(axis: &Axis, last: Bar, next: Bar) -> Option<Bar>
         end: if is_graver { next.end } else { last.end },
         run: last.run,
         runs,
+        failed: last.failed.saturating_add(next.failed),
     })
 }
 
@@ -241,6 +253,11 @@ impl Row {
             }
         }
         moments
+    }
+
+    /// Whether it has neither a bar nor a mark.
+    pub(crate) fn is_idle(&self) -> bool {
+        self.size() == 0
     }
 
     /// How many bars and marks it has.

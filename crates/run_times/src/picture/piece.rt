@@ -2,7 +2,7 @@
 
 use crate::page::Page;
 use crate::picture::chart::Chart;
-use crate::picture::html::{Beside, HEAD, put_rest};
+use crate::picture::html::{Beside, HEAD, put_front, put_rest};
 use crate::picture::svg::put_figure;
 use calendar_due::Zone;
 use history_model::Reading;
@@ -21,11 +21,13 @@ pub fn picture_piece(
     index: usize,
 ) -> Result<String, AllocError> {
     let mut page = Page::new(alloc, zone, NO_READING);
-    if index == 0 {
-        page.ink.put(match beside {
-            Some(_) => HEAD,
-            None => "<?xml version=\"1.0\" encoding=\"UTF-8\"?>\n",
-        });
+    match beside {
+        Some(beside) if index == 0 => {
+            page.ink.put(HEAD);
+            put_front(&mut page, beside);
+        }
+        None if index == 0 => page.ink.put("<?xml version=\"1.0\" encoding=\"UTF-8\"?>\n"),
+        _ => {}
     }
     put_figure(&mut page, chart, index);
     if index > chart.rows.len() {

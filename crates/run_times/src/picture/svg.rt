@@ -13,12 +13,22 @@ pub const PLACES: u16 = 980;
 /// Where the axis begins.
 const LEFT: u64 = 10;
 
-/// The heights of what is above the rows, of a row, and of what is below.
+/// The heights of what stands above the rows, of a row, of one without a bar and a mark, and of what stands below.
 const HEAD: u64 = 64;
 
 const ROW: u64 = 50;
 
+const IDLE: u64 = 18;
+
 const FOOT: u64 = 62;
+
+/// After so many rows the texts of the axis stand again, in so much height.
+const AGAIN: usize = 25;
+
+const BAND: u64 = 34;
+
+/// The height of a bar.
+const BAR_HEIGHT: u64 = 12;
 
 /// The height of a line of text.
 const LINE: u64 = 16;
@@ -42,27 +52,30 @@ const OPENING: &str =
 .runs .faint { fill: #5b6875; }
 .runs .label { font-weight: bold; }
 .runs .tick, .runs .base { stroke: #d9dfe5; fill: none; }
-.runs .well { fill: #2e7d5b; stroke: #2e7d5b; }
-.runs .code { fill: #b86200; stroke: #b86200; }
-.runs .signal { fill: #7b4fb5; stroke: #7b4fb5; }
-.runs .crash { fill: #c62828; stroke: #c62828; }
-.runs .stopped { fill: #ffffff; stroke: #4a6a8a; stroke-width: 1.5; }
-.runs .lives { fill: #1b76c4; stroke: #1b76c4; }
-.runs .end { stroke: #1c2733; stroke-width: 1; }
-.runs .open { fill: none; stroke: #1c2733; stroke-width: 2; }
+.runs .run { fill: #b9c5d0; }
+.runs .well { fill: #2e7d5b; }
+.runs .code { fill: #c25e00; }
+.runs .signal { fill: #7b4fb5; }
+.runs .crash { fill: #c62828; }
+.runs .stopped { fill: #4a6a8a; }
+.runs .lives { fill: #1b76c4; }
 .runs .demand { fill: #1b76c4; }
 .runs .throttle { fill: #ffffff; stroke: #b86200; stroke-width: 1.5; }
 .runs .refusal { fill: none; stroke: #c62828; stroke-width: 2; }
-@media (prefers-color-scheme: dark) { .runs text { fill: #e6ebf0; } .runs .ground { fill: #11171d; } .runs .faint { fill: #9aa7b4; } .runs .tick, .runs .base { stroke: #2c3742; } .runs .well { fill: #56b88c; stroke: #56b88c; } .runs .code { fill: #f0a040; stroke: #f0a040; } .runs .signal { fill: #b794f0; stroke: #b794f0; } .runs .crash { fill: #ff6b6b; stroke: #ff6b6b; } .runs .stopped { fill: #11171d; stroke: #8fb0d0; } .runs .lives { fill: #5fb0f5; stroke: #5fb0f5; } .runs .end { stroke: #e6ebf0; } .runs .open { stroke: #e6ebf0; } .runs .demand { fill: #5fb0f5; } .runs .throttle { fill: #11171d; stroke: #f0a040; } .runs .refusal { stroke: #ff6b6b; } }
+@media (prefers-color-scheme: dark) { .runs text { fill: #e6ebf0; } .runs .ground { fill: #11171d; } .runs .faint { fill: #9aa7b4; } .runs .tick, .runs .base { stroke: #2c3742; } .runs .run { fill: #445464; } .runs .well { fill: #56b88c; } .runs .code { fill: #f0a040; } .runs .signal { fill: #b794f0; } .runs .crash { fill: #ff6b6b; } .runs .stopped { fill: #8fb0d0; } .runs .lives { fill: #5fb0f5; } .runs .demand { fill: #5fb0f5; } .runs .throttle { fill: #11171d; stroke: #f0a040; } .runs .refusal { stroke: #ff6b6b; } }
 @media (max-width: 700px) { svg:root { width: 100%; height: auto; } svg:root .label { font-size: 24px; } }
 </style>
 <rect class="ground" width="1000" height="$0"/>
 <text x="10" y="18">$1 to $2</text>
 "#;
 
-/// Its holes are for the place, the bottom of the rows, how the texts are anchored at the place, and the texts.
-const TICK: &str =
-    r#"<path class="tick" d="M$0 58V$1"/><text class="faint" x="$0" y="38" text-anchor="$2">$3</text><text class="faint" x="$0" y="52" text-anchor="$2">$4</text>
+/// Its holes are for the place and the bottom of the rows.
+const TICK: &str = r#"<path class="tick" d="M$0 58V$1"/>
+"#;
+
+/// What is written at it. The holes are for the place, how the texts stand to it, and each text's height and itself.
+const TICK_TEXT: &str =
+    r#"<text class="faint" x="$0" y="$2" text-anchor="$1">$3</text><text class="faint" x="$0" y="$4" text-anchor="$1">$5</text>
 "#;
 
 /// A label, cut if it is too wide and whole in its title, and the line on which the bars are.
@@ -70,23 +83,26 @@ const TOP: &str =
     r#"<g><text class="label" x="10" y="$">$$<title>$</title></text><path class="base" d="M10 $h980"/>
 "#;
 
-/// The beginning of a bar for one run, and of one for several, up to how they ended. The holes are for the class, the number of runs, and that of the
-/// first.
-const RUN: &str = r#"<g class="$0" data-runs="$1"><title>run $2 "#;
+/// The beginning of a bar that stands for one run, and of one that stands for several, up to how they ended. The holes are for the number of runs,
+/// that of the first, and how many failed.
+const RUN: &str = r#"<g class="run" data-runs="$0"><title>run $1 "#;
 
-const RUNS: &str = r#"<g class="$0" data-runs="$1"><title>$1 runs from run $2 on; the gravest "#;
+const RUNS: &str =
+    r#"<g class="run" data-runs="$0"><title>$0 runs from run $1 on, $2 failed; the gravest "#;
 
-const BAR: &str = r#": $ to $</title><rect x="$" y="$" width="$" height="12"/></g>
-"#;
+const BAR: &str = r#": $ to $</title><rect x="$" y="$" width="$" height="12"/>"#;
+
+/// Of a bar that stands for several runs, the share of those that failed: from its lower left corner, as high as the share, as wide as the bar.
+const SHARE: &str = r#"<path class="$0" d="M$1 $2v-$3h$4v$3z"/>"#;
 
 /// How an end looks.
 struct Look {
-    /// The class of its bar.
+    /// The class of what marks it.
     class: &'static str,
     /// The text on the end, with a hole for its code or signal.
     words: &'static str,
-    /// The sign at its bar's upper corner, if there is one.
-    corner: &'static str,
+    /// What marks it, from the upper corner of the end of its bar. What is no failure is marked within the bar.
+    mark: &'static str,
 }
 
 /// The ends, by how grave they are.
@@ -94,35 +110,37 @@ static LOOKS: [Look; 6] = [
     Look {
         class: "lives",
         words: "lives",
-        corner: r#"<path class="lives open" d="M$ $m0 -1l7 7l-7 7"/>
+        mark: r#"<path class="lives" d="M$ $v12l6 -6z"/>
 "#,
     },
     Look {
         class: "well",
         words: "ended with code $",
-        corner: "",
+        mark: r#"<path class="well" d="M$ $m-2 0h2v12h-2z"/>
+"#,
     },
     Look {
         class: "stopped",
         words: "was stopped",
-        corner: "",
+        mark: r#"<path class="stopped" d="M$ $m-2 0h2v12h-2z"/>
+"#,
     },
     Look {
         class: "code",
         words: "ended with code $",
-        corner: r#"<path class="code end" d="M$ $m-2 -3h4v18h-4z"/>
+        mark: r#"<path class="code" d="M$ $m-2 -4h4v20h-4z"/>
 "#,
     },
     Look {
         class: "signal",
         words: "ended by signal $",
-        corner: r#"<path class="signal end" d="M$ $m-2 -3l8 9l-8 9z"/>
+        mark: r#"<path class="signal" d="M$ $m-2 -4l7 10l-7 10z"/>
 "#,
     },
     Look {
         class: "crash",
         words: "crashed by signal $",
-        corner: r#"<path class="crash open" d="M$ $m-4 1l9 10m0 -10l-9 10"/>
+        mark: r#"<path class="crash" d="M$ $m0 -4l6 10l-6 10l-6 -10z"/>
 "#,
     },
 ];
@@ -139,19 +157,21 @@ const REFUSAL: &str =
 
 /// What each colour and shape means, below the rows. The holes are for the heights of the bars, of their names, of the marks, and of theirs.
 const LEGEND: &str =
-    r#"<rect class="well" x="10" y="$0" width="22" height="12"/><text class="faint" x="44" y="$1">code 0</text>
-<rect class="code" x="160" y="$0" width="22" height="12"/><path class="code end" d="M182 $0m-2 -3h4v18h-4z"/>
+    r#"<rect class="run" x="10" y="$0" width="22" height="12"/><path class="well" d="M32 $0m-2 0h2v12h-2z"/><text class="faint" x="44" y="$1">code 0</text>
+<rect class="run" x="160" y="$0" width="22" height="12"/><path class="code" d="M182 $0m-2 -4h4v20h-4z"/>
 <text class="faint" x="194" y="$1">another code</text>
-<rect class="signal" x="310" y="$0" width="22" height="12"/><path class="signal end" d="M332 $0m-2 -3l8 9l-8 9z"/>
+<rect class="run" x="310" y="$0" width="22" height="12"/><path class="signal" d="M332 $0m-2 -4l7 10l-7 10z"/>
 <text class="faint" x="344" y="$1">a signal</text>
-<rect class="crash" x="460" y="$0" width="22" height="12"/><path class="crash open" d="M482 $0m-4 1l9 10m0 -10l-9 10"/>
+<rect class="run" x="460" y="$0" width="22" height="12"/><path class="crash" d="M482 $0m0 -4l6 10l-6 10l-6 -10z"/>
 <text class="faint" x="494" y="$1">a crash</text>
-<rect class="stopped" x="610" y="$0" width="22" height="12"/><text class="faint" x="644" y="$1">stopped</text>
-<rect class="lives" x="760" y="$0" width="22" height="12"/><path class="lives open" d="M782 $0m0 -1l7 7l-7 7"/>
+<rect class="run" x="610" y="$0" width="22" height="12"/><path class="stopped" d="M632 $0m-2 0h2v12h-2z"/><text class="faint" x="644" y="$1">stopped</text>
+<rect class="run" x="760" y="$0" width="22" height="12"/><path class="lives" d="M782 $0v12l6 -6z"/>
 <text class="faint" x="794" y="$1">lives</text>
 <path class="demand" d="M25 $2m-5 0h10l-5 9z"/><text class="faint" x="44" y="$3">a demand</text>
 <path class="throttle" d="M175 $2m0 0l4.5 4.5l-4.5 4.5l-4.5 -4.5z"/><text class="faint" x="194" y="$3">a throttle</text>
 <path class="refusal" d="M325 $2m-4 0.5l8 8m0 -8l-8 8"/><text class="faint" x="344" y="$3">a refusal</text>
+<rect class="run" x="460" y="$2" width="22" height="12"/><path class="code" d="M460 $2m0 12v-4h22v4z"/>
+<text class="faint" x="494" y="$3">several runs, and the share that failed</text>
 "#;
 
 /// The beginning of the text on what is not in the chart.
@@ -161,19 +181,36 @@ const LEFT_OUT: &str = r#"<text class="faint" x="10" y="$">"#;
 pub(crate) fn put_figure(page: &mut Page<'_>, chart: &Chart, index: usize) {
     let rows = chart.rows.len();
     let above = index.saturating_sub(1);
-    let bottom = below_rows(rows);
     if index == 0 {
-        put_head(page, chart, bottom);
+        put_head(page, chart, below_rows(chart, rows));
     } else if let Some(row) = chart.rows.get(above) {
-        put_row(page, &chart.axis, row, below_rows(above));
+        let mut top = below_rows(chart, above);
+        if has_band(above) {
+            put_texts(page, &chart.axis, top);
+            top = top.saturating_add(BAND);
+        }
+        put_row(page, &chart.axis, row, top);
     } else if above == rows {
-        put_foot(page, chart, bottom);
+        put_foot(page, chart, below_rows(chart, rows));
     }
 }
 
-// Where this many rows end.
-fn below_rows(rows: usize) -> u64 {
-    (rows as u64).saturating_mul(ROW).saturating_add(HEAD)
+/// Whether the texts of the axis stand again above this row.
+pub(crate) fn has_band(row: usize) -> bool {
+    row > 0 && row % AGAIN == 0
+}
+
+// Where so many rows end.
+fn below_rows(chart: &Chart, rows: usize) -> u64 {
+    let mut bottom = HEAD;
+    for (at, row) in chart.rows.iter().enumerate() {
+        if at < rows {
+            let band = if has_band(at) { BAND } else { 0 };
+            let height = if row.is_idle() { IDLE } else { ROW };
+            bottom = bottom.saturating_add(band).saturating_add(height);
+        }
+    }
+    bottom
 }
 
 // The head, and the ticks from above the rows to their bottom.
@@ -190,11 +227,21 @@ fn put_head(page: &mut Page<'_>, chart: &Chart, bottom: u64) {
     let ticks = ticks(page, axis, MOST_TICKS);
     put_ticks(page, axis, ticks.as_slice(), bottom);
     drop(ticks);
+    put_texts(page, axis, HEAD - BAND);
 }
 
-// The ticks, with their texts above the rows. Near the edges the texts stay within the chart.
+// The lines of the ticks, from above the rows to their bottom.
 fn put_ticks(page: &mut Page<'_>, axis: &Axis, ticks: &[Tick], bottom: u64) {
     for tick in ticks {
+        let place = u64::from(axis.place(tick.at));
+        page.add(TICK, &[Number(LEFT + place), Number(bottom)]);
+    }
+}
+
+// What is written at the ticks, from this height on. Near the edges it stands within the chart.
+fn put_texts(page: &mut Page<'_>, axis: &Axis, top: u64) {
+    let ticks = ticks(page, axis, MOST_TICKS);
+    for tick in &ticks {
         let place = u64::from(axis.place(tick.at));
         let anchor = if place < 50 {
             "start"
@@ -206,24 +253,27 @@ fn put_ticks(page: &mut Page<'_>, axis: &Axis, ticks: &[Tick], bottom: u64) {
         let (text, below) = tick.parts();
         let holes = [
             Number(LEFT + place),
-            Number(bottom),
             Text(anchor),
+            Number(top.saturating_add(8)),
             Text(text),
+            Number(top.saturating_add(22)),
             Text(below),
         ];
-        page.add(TICK, &holes);
+        page.add(TICK_TEXT, &holes);
     }
+    drop(ticks);
 }
 
 fn put_row(page: &mut Page<'_>, axis: &Axis, row: &Row, top: u64) {
     let label = row.label.as_str();
     let (front, rest) = cut(label, LABEL);
+    let base = if row.is_idle() { IDLE } else { ROW };
     let holes = [
         Number(top.saturating_add(14)),
         Escaped(front),
         Text(rest),
         Escaped(label),
-        Number(top.saturating_add(47)),
+        Number(top.saturating_add(base).saturating_sub(3)),
     ];
     page.add(TOP, &holes);
     put_bars(page, axis, row.bars.as_slice(), top.saturating_add(31));
@@ -234,16 +284,18 @@ fn put_row(page: &mut Page<'_>, axis: &Axis, row: &Row, top: u64) {
     page.ink.put("</g>\n");
 }
 
-// The bars whose upper edge is there, and over them their corners, so that a bar which follows at once does not hide an end.
+// The bars whose upper edge is there, and over them what marks the ends of single runs, so that a bar which follows at once does not hide an end.
 fn put_bars(page: &mut Page<'_>, axis: &Axis, bars: &[Bar], top: u64) {
     for bar in bars {
         put_bar(page, axis, bar, top);
     }
     for bar in bars {
-        let (grave, _) = grade(bar.end);
-        let (_, end) = axis.edges(bar.from, bar.until);
-        let holes = [Number(LEFT + u64::from(end)), Number(top)];
-        page.add(LOOKS[grave].corner, &holes);
+        if bar.runs == 1 {
+            let (grave, _) = grade(bar.end);
+            let (begin, end) = axis.edges(bar.from, bar.until);
+            let end = u64::from(end).max(u64::from(begin) + 1);
+            page.add(LOOKS[grave].mark, &[Number(LEFT + end), Number(top)]);
+        }
     }
 }
 
@@ -253,20 +305,41 @@ fn put_bar(page: &mut Page<'_>, axis: &Axis, bar: &Bar, top: u64) {
     let look = &LOOKS[grave];
     let (begin, end) = axis.edges(bar.from, bar.until);
     let holes = [
-        Text(look.class),
         Number(u64::from(bar.runs)),
         Number(bar.run),
+        Number(u64::from(bar.failed)),
     ];
     page.add(if bar.runs == 1 { RUN } else { RUNS }, &holes);
     page.add(look.words, &[Number(number)]);
+    let left = LEFT + u64::from(begin);
+    let width = u64::from(end - begin).max(1);
     let holes = [
         Moment(bar.from),
         Moment(bar.until),
-        Number(LEFT + u64::from(begin)),
+        Number(left),
         Number(top),
-        Number(u64::from(end - begin).max(1)),
+        Number(width),
     ];
     page.add(BAR, &holes);
+    if bar.runs > 1 && bar.failed > 0 {
+        let holes = [
+            Text(look.class),
+            Number(left),
+            Number(top.saturating_add(BAR_HEIGHT)),
+            Number(share_of(bar)),
+            Number(width),
+        ];
+        page.add(SHARE, &holes);
+    }
+    page.ink.put("</g>\n");
+}
+
+// How high the share of the failed runs is, rounded up.
+fn share_of(bar: &Bar) -> u64 {
+    let runs = u64::from(bar.runs).max(1);
+    let failed = u64::from(bar.failed).saturating_mul(BAR_HEIGHT);
+    let share = failed / runs + u64::from(failed % runs > 0);
+    share.min(BAR_HEIGHT)
 }
 
 // The marks of a kind whose upper edge is there.

@@ -15,6 +15,7 @@ use std::alloc::AllocError;
 use std::env::VarError;
 use std::fs::{File, metadata};
 use std::io::{ErrorKind, IsTerminal, Read};
+use std::os::unix::fs::MetadataExt;
 use std::{env, io};
 
 /// How faults name standard input.
@@ -144,6 +145,9 @@ fn tell_done(host: &HostRuntime, is_told: bool) {
 /// The note on a file of the package that is read.
 pub(crate) const NONE_NAMED: &str = "read, since no journal is named";
 
+/// So many journals of launchers before are looked for: `jobd-run` keeps no more.
+const MOST_KEPT: u64 = 99;
+
 /// The journal of the package.
 const PACKAGED: &str = "/var/lib/jobd/journal.jsonl";
 
@@ -151,8 +155,11 @@ const PACKAGED: &str = "/var/lib/jobd/journal.jsonl";
 /// terminal, it takes the package's journal and prints a note. None: the journal comes on standard input.
 pub(crate) fn journal_paths(host: &HostRuntime, of: &ScopeCommand) -> Result<Paths, AllocError> {
     let mut paths = Vec::new(host.alloc());
-    for path in of.journals.as_slice() {
-        paths.push(Text::copy_of(host.alloc(), path.as_str())?)?;
+    for (at, path) in of.journals.as_slice().iter().enumerate() {
+        let others = of.journals.as_slice().get(at..).unwrap_or(&[]);
+        if !is_named_again(host, path.as_str(), others) {
+            paths.push(Text::copy_of(host.alloc(), path.as_str())?)?;
+        }
     }
     if !paths.is_empty() {
         return Ok(Paths::new(paths));
@@ -169,7 +176,27 @@ pub(crate) fn journal_paths(host: &HostRuntime, of: &ScopeCommand) -> Result<Pat
     Ok(Paths::new(paths))
 }
 
-/// Whether a journal is found though the arguments name none: that of `JOBD_JOURNAL`, or the package's if standard input is a terminal.
+// Whether one behind the first of the paths is the same file as that one: of a journal that is named twice the last counts.
+fn is_named_again(host: &HostRuntime, path: &str, paths: &[Text]) -> bool {
+    let Some((_, others)) = paths.split_first() else {
+        return false;
+    };
+    for other in others {
+        if other.as_str() == path || is_same_file(host, path, other.as_str()) {
+            return true;
+        }
+    }
+    false
+}
+
+fn is_same_file(host: &HostRuntime, one: &str, other: &str) -> bool {
+    match (metadata(host, one), metadata(host, other)) {
+        (Ok(one), Ok(other)) => one.dev() == other.dev() && one.ino() == other.ino(),
+        _ => false,
+    }
+}
+
+/// Whether a journal is found where the words name none: that of `JOBD_JOURNAL`, or in the place of a terminal that of the package.
 pub(crate) fn finds_journal(host: &HostRuntime) -> Result<bool, AllocError> {
     match env::var(host, "JOBD_JOURNAL") {
         Ok(path) if !path.is_empty() => Ok(true),
@@ -183,7 +210,8 @@ pub(crate) fn stands_in(host: &HostRuntime, path: &str) -> bool {
     host.stdin().is_terminal() && open_journal(host, path).is_ok()
 }
 
-// Adds the path, if it is not empty. If the task reports on the past, the path with `.1` comes before it, if that file exists.
+// Adds the path, if it is not empty. Behind those with `.1`, `.2` and so on, the oldest first, as far as they are there, if what is told of the past is
+// asked for.
 fn add_path(
     host: &HostRuntime,
     of: &ScopeCommand,
@@ -193,22 +221,40 @@ fn add_path(
     if path.is_empty() {
         return Ok(());
     }
-    let is_past = match of.task {
-        Task::Log => !of.follows,
-        Task::Runs | Task::Picture | Task::Why => true,
-        _ => false,
+    let most = match of.task {
+        Task::Log if of.follows => 0,
+        Task::Log | Task::Runs | Task::Picture => MOST_KEPT,
+        Task::Why if of.moments.at.is_some() => MOST_KEPT,
+        // The one before says since when no launcher ran.
+        Task::Why => 1,
+        _ => 0,
     };
     let alloc = host.alloc();
-    let before = Text::new(format!(in alloc; "{path}.1")?);
-    if is_past && metadata(host, before.as_str()).is_ok() {
-        paths.push(before)?;
-    } else {
-        drop(before);
+    let kept = count_kept(host, path, most)?;
+    for newer in 0..kept {
+        let number = kept - newer;
+        paths.push(Text::new(format!(in alloc; "{path}.{number}")?))?;
     }
     Ok(paths.push(Text::copy_of(alloc, path)?)?)
 }
 
-/// Opens a journal's file. InvalidInput if it is not a plain file: it is not opened, so that nothing waits at a FIFO.
+// How many journals of launchers before are kept beside the path, without a gap, and no more than `most`.
+fn count_kept(host: &HostRuntime, path: &str, most: u64) -> Result<u64, AllocError> {
+    let alloc = host.alloc();
+    let mut kept: u64 = 0;
+    for number in 1..most.min(MOST_KEPT) + 1 {
+        let before = format!(in alloc; "{path}.{number}")?;
+        let is_there = metadata(host, before.as_str()).is_ok();
+        drop(before);
+        if !is_there {
+            return Ok(kept);
+        }
+        kept = number;
+    }
+    Ok(kept)
+}
+
+/// Opens a journal's file. InvalidInput for what is no plain file: it is not opened, so that nothing waits at a FIFO.
 pub(crate) fn open_journal(host: &HostRuntime, path: &str) -> io::Result<File> {
     if !metadata(host, path)?.is_file() {
         return Err(io::Error::new(ErrorKind::InvalidInput, "no plain file"));

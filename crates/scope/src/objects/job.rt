@@ -32,7 +32,9 @@ pub(crate) struct Beside<'a> {
     pub(crate) fault: Option<Fault>,
     /// What the system said of its last start, which it refused.
     pub(crate) reason: Value<'a>,
-    /// When time alone starts it.
+    /// The file that its errors went to, if its last run failed.
+    pub(crate) errors: Value<'a>,
+    /// When it starts by the clocks alone.
     pub(crate) next: Value<'static>,
     pub(crate) is_disabled: bool,
     pub(crate) known: KnownLabel,
@@ -102,6 +104,7 @@ pub(crate) fn put_job(
         Field("last_lived_ms", lived),
         Field("start_refused", moment_of(record.refused_at())),
         Field("reason", beside.reason),
+        Field("errors", beside.errors),
         Field("next_start", beside.next),
         Field("is_disabled", Flag(beside.is_disabled)),
         load,

@@ -7,32 +7,34 @@ use crate::objects::job::{Around, around_file};
 use crate::objects::left_out::put_left_out;
 use crate::objects::lines::{end_of, number_of};
 use calendar_due::Zone;
-use json_lines::Value::{Absent, Moment, Number, Text};
+use json_lines::Value::{Absent, Flag, Moment, Number, Text};
 use json_lines::{Field, Value, put_line};
 use launchctl_words::ScopeCommand;
 use run_times::Page;
-use status_file::state_name;
+use status_file::{JobStatus, state_name};
 use status_page::{
-    Next, Row, ShownState, Standing, StartWhen, is_asked, reading_of, row_of, second_told,
-    told_as_of,
+    Next, Row, ShownState, Standing, StartWhen, Usage, is_asked, reading_of, row_of, second_told,
+    told_as_of, usage_of,
 };
 use std::alloc::{AllocError, Global};
 
 /// An object for each of the named jobs that the file has, or for each of its jobs, in the file's order, as of a second.
 pub(crate) fn status_objects(
+    host: &HostRuntime,
     alloc: Global,
     standing: &Standing,
     of: &ScopeCommand,
     second: u64,
 ) -> Result<String, AllocError> {
     let zone = standing.zone(alloc, false)?;
-    let text = objects_in(alloc, standing, of, second, &zone);
+    let text = objects_in(host, alloc, standing, of, second, &zone);
     drop(zone);
     text
 }
 
 // The objects, by the launcher's zone, in which its jobs' calendars are.
 fn objects_in(
+    host: &HostRuntime,
     alloc: Global,
     standing: &Standing,
     of: &ScopeCommand,
@@ -49,7 +51,8 @@ fn objects_in(
                 match line.calendar(alloc) {
                     Ok(entries) => {
                         let may_live = around.may_live;
-                        let row = row_of(&job, entries.as_slice(), zone, may_live, at, second);
+                        let mut row = row_of(&job, entries.as_slice(), zone, may_live, at, second);
+                        row.usage = usage_in(host, alloc, standing, &job, row.process);
                         put_row(&mut page, &row, around);
                         drop(entries);
                     }
@@ -64,6 +67,19 @@ fn objects_in(
     text
 }
 
+// What the process of a row takes.
+fn usage_in(
+    host: &HostRuntime,
+    alloc: Global,
+    standing: &Standing,
+    job: &JobStatus<'_>,
+    process: Option<u32>,
+) -> Option<Usage> {
+    let launcher = standing.launcher()?;
+    let _process = process?;
+    usage_of(host, alloc, &launcher, job)
+}
+
 // Adds the line of a row.
 fn put_row(page: &mut Page<'_>, row: &Row<'_>, around: Around) {
     let process = match row.process {
@@ -72,6 +88,10 @@ fn put_row(page: &mut Page<'_>, row: &Row<'_>, around: Around) {
     };
     let [code, signal] = end_of(row.last);
     let (next, waits) = next_of(row);
+    let (resident, processor) = match row.usage {
+        Some(usage) => (Number(usage.resident), Number(usage.processor)),
+        None => (Absent, Absent),
+    };
     let fields = [
         Field("state", Text(word_of(row.state))),
         Field("pid", number_of(process)),
@@ -81,6 +101,12 @@ fn put_row(page: &mut Page<'_>, row: &Row<'_>, around: Around) {
         Field("starts", Number(row.starts)),
         Field("failures", Number(row.failures)),
         Field("refused", Number(row.refusals)),
+        Field(
+            "is_refused",
+            if row.is_refused { Flag(true) } else { Absent },
+        ),
+        Field("resident_bytes", resident),
+        Field("cpu_ms", processor),
         Field("next_start", next),
         Field("waits_for", waits),
         Field("as_of", Moment(around.as_of)),

@@ -8,9 +8,10 @@ use crate::objects::causes::causes_list;
 use crate::objects::job::{Around, Beside, around_file, around_journal, put_job, put_unloaded};
 use crate::objects::left::put_left;
 use crate::objects::left_out::put_left_out;
+use crate::objects::lines::text_of;
 use crate::texts::failing::job_fault;
 use crate::texts::since::start_second;
-use crate::texts::standing::{line_fault, record_of, told_of};
+use crate::texts::standing::{is_failed_run, line_fault, record_of, told_of};
 use crate::texts::told::ToldJob;
 use crate::texts::why::{asked_labels, throttle_shown, told_job};
 use calendar_due::Zone;
@@ -21,7 +22,7 @@ use launchctl_words::ScopeCommand;
 use leftovers::RunProcess;
 use run_times::Page;
 use status_file::{JobFacts, JobStatus, StatusLine, state_name, state_of};
-use status_page::{Standing, gone_on, is_asked, reading_of, told_as_of, within_limits};
+use status_page::{Fault, Standing, gone_on, is_asked, reading_of, told_as_of, within_limits};
 use std::alloc::{AllocError, Global};
 
 /// An object for each job or label that `why_text` shows, in order, or only for those that fail; and how many fail.
@@ -79,6 +80,7 @@ fn put_known(
             causes: Absent,
             fault,
             reason: Absent,
+            errors: errors_of(fault, def.standard_error_path()),
             next: Absent,
             is_disabled: known.disabled.is_some(),
             known,
@@ -141,6 +143,7 @@ fn put_whole<'x>(
         causes: Json(list),
         fault: beside.fault,
         reason: beside.reason,
+        errors: beside.errors,
         next: beside.next,
         is_disabled: beside.is_disabled,
         known: beside.known,
@@ -187,6 +190,7 @@ fn objects_in(
                         causes: Absent,
                         fault,
                         reason: reason_of(&job),
+                        errors: errors_of(fault, job.keys.errors),
                         next: Absent,
                         is_disabled: job.disabled.is_some(),
                         known: NOTHING,
@@ -261,6 +265,15 @@ fn put_standing(
         clock: of.clock,
     };
     put_living(page, job.label, &job.facts, &told, beside, of, around);
+}
+
+// The file of its errors, if its last run failed.
+fn errors_of(fault: Option<Fault>, errors: Option<&str>) -> Value<'_> {
+    if is_failed_run(fault) {
+        text_of(errors)
+    } else {
+        Absent
+    }
 }
 
 // What the system said of the last start, if it refused that.

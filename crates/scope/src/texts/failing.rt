@@ -1,10 +1,11 @@
 //! Which jobs of a journal fail.
 
 use crate::age::{AsOf, add_head, reading_as_of};
+use crate::errors::FailedRun;
 use crate::journal::job::{KeptJob, Record};
 use crate::journal::reader::OpenJournal;
 use crate::journal::run::RunEnd;
-use crate::texts::standing::missed_fault;
+use crate::texts::standing::{is_failed_run, missed_fault};
 use crate::writer::Writer;
 use calendar_due::Zone;
 use history_model::{Ended, Text};
@@ -72,7 +73,33 @@ fn add_if_failing(
     true
 }
 
-/// Why a loaded job is reported as failing, if it is: also since a minute of its calendar passed while no launcher ran.
+/// The loaded jobs of the journal, or those named, whose last run failed.
+pub(crate) fn failed_runs<'a>(
+    alloc: Global,
+    journal: &'a OpenJournal,
+    labels: &[Text],
+) -> Result<Vec<FailedRun<'a>>, AllocError> {
+    let mut failed = Vec::new(alloc);
+    for (label, job) in &journal.past.jobs {
+        let label = label.as_str();
+        if let (Some(def), Some(facts), true) = (
+            &job.def,
+            journal.facts(label),
+            is_asked(labels, label),
+        ) {
+            if is_failed_run(fault_in(&facts, &job.record, true)) {
+                failed.push(FailedRun {
+                    label,
+                    errors: def.standard_error_path(),
+                    is_served: def.has_sockets(),
+                })?;
+            }
+        }
+    }
+    Ok(failed)
+}
+
+/// Why a loaded job is told as failing, if it is: also since a minute of its calendar passed while no launcher ran.
 pub(crate) fn job_fault(
     journal: &OpenJournal,
     job: &KeptJob,

@@ -1,5 +1,6 @@
 //! Why each job is in its state, by its launcher's file, and which of them fail.
 
+use crate::errors::FailedRun;
 use crate::journal::job::Record;
 use crate::journal::run::{JobRun, RunEnd};
 use crate::texts::coming::calendar_next;
@@ -410,7 +411,37 @@ pub(crate) fn missed_fault(minute: Option<u64>) -> Option<Fault> {
     }
 }
 
-// Why a job of a file is reported as failing, if it is, by its runs.
+/// The jobs of the file, or those named, whose last run failed, as far as it is known where their errors go.
+pub(crate) fn failed_in<'a>(
+    alloc: Global,
+    standing: &'a Standing,
+    labels: &[history_model::Text],
+) -> Result<Vec<FailedRun<'a>>, AllocError> {
+    let mut failed = Vec::new(alloc);
+    for line in standing.jobs() {
+        if let Ok(job) = line.job() {
+            let is_told = job.keys.knows_errors && is_asked(labels, job.label);
+            if is_told && is_failed_run(file_fault(&job, standing.life.may_live())) {
+                failed.push(FailedRun {
+                    label: job.label,
+                    errors: job.keys.errors,
+                    is_served: job.keys.has_sockets,
+                })?;
+            }
+        }
+    }
+    Ok(failed)
+}
+
+/// Whether a job is told as failing since its last run failed.
+pub(crate) fn is_failed_run(fault: Option<Fault>) -> bool {
+    match fault {
+        Some(Fault::Ended(_)) => true,
+        _ => false,
+    }
+}
+
+// Why a job of a file is told as failing, if it is, by its runs.
 fn file_fault(job: &JobStatus<'_>, may_live: bool) -> Option<Fault> {
     let note = &job.note;
     let is_refused = match &note.refused {

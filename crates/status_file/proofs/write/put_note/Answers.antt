@@ -13,14 +13,17 @@ returns c =
     let f = c.put_moment-4.new.line in
     let g = c.put_end.new.line in
     let h = c.put_refused.new.line in
+    let k = c.put_moment-5.new.line in
     let since = moment_tokens (codes "since") (Some note.since) in
     let started = moment_tokens (codes "started") note.started in
     let term = moment_tokens (codes "term") note.term in
     let kill = moment_tokens (codes "kill") note.kill in
     let end = end_tokens note.last_end in
     let refused = refused_tokens note.refused in
-    followed since (started ++ (term ++ (kill ++ (end ++ refused)))) a b h c.put_moment.ensures
-    (followed started (term ++ (kill ++ (end ++ refused))) b d h c.put_moment-2.ensures
-    (followed term (kill ++ (end ++ refused)) d e h c.put_moment-3.ensures
-    (followed kill (end ++ refused) e f h c.put_moment-4.ensures
-    (followed end refused f g h c.put_end.ensures c.put_refused.ensures))))
+    let succeeded = moment_tokens (codes "succeeded") note.succeeded in
+    followed since (started ++ (term ++ (kill ++ (end ++ (refused ++ succeeded))))) a b k c.put_moment.ensures
+    (followed started (term ++ (kill ++ (end ++ (refused ++ succeeded)))) b d k c.put_moment-2.ensures
+    (followed term (kill ++ (end ++ (refused ++ succeeded))) d e k c.put_moment-3.ensures
+    (followed kill (end ++ (refused ++ succeeded)) e f k c.put_moment-4.ensures
+    (followed end (refused ++ succeeded) f g k c.put_end.ensures
+    (followed refused succeeded g h k c.put_refused.ensures c.put_moment-5.ensures)))))

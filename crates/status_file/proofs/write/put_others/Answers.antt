@@ -6,4 +6,4 @@ use Rattle.status_file.proofs.write.put_others.Goals as goal
 pub returns : goal.returns
 returns c =
     puts (others_tokens c.args.keys) c.args.line.now c.put.new.self c.put.ensures.kept c.put.ensures.before
-    (λ well. rw (← c.text_piece.ensures, ← c.text_piece-2.ensures) (c.put.ensures.added well))
+    (λ well. rw (← c.text_piece.ensures, ← c.text_piece-2.ensures, ← c.text_piece-3.ensures) (c.put.ensures.added well))
