@@ -1,7 +1,7 @@
 #!/usr/bin/env python3
 """A launcher whose jobs' paths hang: it goes on, refuses what hangs, and tells it by name.
 
-    tests/hung_file_system.py [--jobd PROGRAM] [--jobctl PROGRAM] [--at-once N] [TRIAL..]
+    tests/hung_file_system.py [--jobd PROGRAM] [--jobctl PROGRAM] [TRIAL..]
 
 It is run by hand as root, after `make build`; PROGRAM is build/jobd. Each trial has a launcher and a folder of its own. The file system is a FUSE
 server of this script's own, mounted in the folder, that is stopped (SIGSTOP, its requests lie unread) or reads and does not answer.
@@ -25,6 +25,7 @@ server of this script's own, mounted in the folder, that is stopped (SIGSTOP, it
     a_disk             60 logs and 60 watched paths on an overlay over it: each is a place of its own, and the whole is shut once four look-outs are left there
     leases_and_a_disk  eight logs under a write lease of another user: no other log of the disk is refused
     no_process         no process can be had for a look-out: looks and starts are refused with the system's reason, and the launcher goes on
+    slow               figures: 50 starts by one clock reading, with logs on a server that takes 10 ms a request, and how long a `list` waits meanwhile
     figures            the 99th of 100 parts of 1,000 `list` with 64 hung paths and 20 hung logs; the time of a start; memory of an idle launcher
 
 Each prints `ok NAME` or `FAILED NAME: why`; the last line counts, and the status is 1 if one failed.
@@ -96,8 +97,8 @@ def answer_to(opcode, node, body, names):
     return -38
 
 
-def serve_requests(device, mute):
-    """Answers each request, until the file system is unmounted. Once the file `mute` is there it reads and does not answer."""
+def serve_requests(device, mute, pause):
+    """Answers each request after the pause, until the file system is unmounted. Once the file `mute` is there it reads and does not answer."""
     names = {}
     while True:
         try:
@@ -109,6 +110,7 @@ def serve_requests(device, mute):
         _, opcode, unique, node = struct.unpack_from("<IIQQ", request)
         while os.path.exists(mute):
             time.sleep(0.02)
+        time.sleep(pause)
         answer = answer_to(opcode, node, request[40:], names)
         if answer is None:
             continue
@@ -120,7 +122,7 @@ def serve_requests(device, mute):
 
 
 class FileSystem:
-    def __init__(self, stage, name):
+    def __init__(self, stage, name, pause=0):
         self.at, self.mute = stage.at(name), stage.at(f"{name}.mute")
         os.mkdir(self.at)
         device = os.open("/dev/fuse", os.O_RDWR)
@@ -129,7 +131,7 @@ class FileSystem:
             raise Fault(f"no FUSE here: {os.strerror(ctypes.get_errno())}")
         self.server = os.fork()
         if self.server == 0:
-            serve_requests(device, self.mute)
+            serve_requests(device, self.mute, pause)
         os.close(device)
         check(comes(lambda: os.path.isdir(self.at)), "the file system does not come")
 
@@ -731,6 +733,26 @@ def figures(stage):
         hung.end()
 
 
+def slow(stage):
+    """What a file system costs that answers, but slowly: a figure, and no bound."""
+    hung = FileSystem(stage, "hung", pause=0.01)
+    try:
+        launcher = stage.serve()
+        for at in range(50):
+            launcher.load(shell_job(f"log{at}", "echo x", StandardOutPath=hung.path(f"log{at}"), StartInterval=5, ThrottleInterval=1))
+        launcher.load(shell_job("first", ":", RunAtLoad=True))
+        wait_for(lambda: "last exit" in launcher.print("first"), "the first job does not end")
+        os.kill(launcher.pid, signal.SIGSTOP)
+        time.sleep(6)
+        begun = time.monotonic()
+        os.kill(launcher.pid, signal.SIGCONT)
+        launcher.ask({"req": "list"}, 120)
+        print(f"  50 starts: a list waited {time.monotonic() - begun:.1f} s", flush=True)
+        check(not launcher.lines("no answer"), f"a server that answers is refused: {launcher.said()[-300:]!r}")
+    finally:
+        hung.end()
+
+
 def memory_of(pid):
     lines = text_at(f"/proc/{pid}/smaps_rollup").splitlines()
     return sum(int(line.split()[1]) for line in lines if line.startswith("Pss:"))
@@ -738,7 +760,7 @@ def memory_of(pid):
 
 TRIALS = [
     watched_paths, streams, an_input, a_program, an_interpreter, a_loader, a_search, root_and_cwd, a_folder, a_socket, unanswered, links, a_disk, exchanges,
-    leases, leases_and_a_disk, no_process, no_proc, a_terminal, figures,
+    leases, leases_and_a_disk, no_process, no_proc, a_terminal, slow, figures,
 ]
 
 
