@@ -134,6 +134,7 @@ fn joined(axis: &Axis, last: Bar, next: Bar) -> Option<Bar>
     let Some(runs) = last.runs.checked_add(next.runs) else {
         return None;
     };
+    let failed = last.failed.saturating_add(next.failed);
     let is_graver = grade(next.end).0 > grade(last.end).0;
     Some(Bar {
         from: last.from,
@@ -141,7 +142,7 @@ fn joined(axis: &Axis, last: Bar, next: Bar) -> Option<Bar>
         end: if is_graver { next.end } else { last.end },
         run: last.run,
         runs,
-        failed: last.failed.saturating_add(next.failed),
+        failed,
     })
 }
 
