@@ -467,9 +467,13 @@ def families_of(families, jobs, is_up=True):
     return text
 
 
+# Marks of direction: two of them.
+HIDDEN = "\u200e\u200f"
+
+
 def quoted_char(c):
-    """A character of a label as a sample has it: by its number, if it is a control character."""
-    return f"\\\\u{ord(c):04x}" if ord(c) < 32 or 126 < ord(c) < 160 else "\\" + c if c in '"\\' else c
+    """A character of a label as a sample has it: by its number, if it is hidden."""
+    return f"\\\\u{ord(c):04x}" if ord(c) < 32 or 126 < ord(c) < 160 or c in HIDDEN else "\\" + c if c in '"\\' else c
 
 
 def check_later(path, text, running, label):
@@ -492,17 +496,17 @@ def check_later(path, text, running, label):
 
 def samples_of_a_status_file(stage):
     """A job that runs, whose label has a quote and a backslash, one that failed, one that is refused, one of the calendar, and two whose labels differ in a
-    control character, of which one ends well; then the launcher is killed."""
+    hidden character, of which one ends well; then the launcher is killed."""
     launcher, path = serve(stage, journal="journal")
     launcher.load(shell_job('a "b" \\c', "exec sleep 600", KeepAlive=True))
     launcher.load(shell_job("failed", "exit 3", RunAtLoad=True))
     launcher.load({"Label": "refused", "ProgramArguments": ["/nonexistent/prog"], "RunAtLoad": True, "ThrottleInterval": 3600})
     launcher.load(shell_job("hourly", "exit 0", StartCalendarInterval={"Minute": 0}))
-    launcher.load(shell_job("twin\x01", "exit 0", RunAtLoad=True))
-    launcher.load(shell_job("twin\x02", "exit 0"))
+    launcher.load(shell_job("twin\u200e", "exit 0", RunAtLoad=True))
+    launcher.load(shell_job("twin\u200f", "exit 0"))
     job_where(path, 'a "b" \\c', lambda job: job["pid"])
-    job_where(path, "twin\x01", lambda job: job["succeeded"])
-    job_where(path, "twin\x02", lambda job: job["succeeded"] is None)
+    job_where(path, "twin\u200e", lambda job: job["succeeded"])
+    job_where(path, "twin\u200f", lambda job: job["succeeded"] is None)
     job_where(path, "failed", lambda job: job["last_end"])
     job_where(path, "refused", lambda job: job["refused"] and job["refusals"] == job["failures"] == 1)
     job_where(path, "hourly", lambda job: True)
@@ -519,7 +523,7 @@ def samples_of_a_status_file(stage):
     at = coming.index(f"# HELP {next(iter(LATER))} ")
     check_later(path, coming[at:], True, 'a \\"b\\" \\\\c')
     coming = dict(line.rsplit(" ", 1) for line in coming[:at].splitlines())
-    check('jobd_job_starts_total{label="twin\\\\u0001"} 1\n' in text and 'jobd_job_starts_total{label="twin\\\\u0002"} 0\n' in text, f"the twins: {text!r}")
+    check('jobd_job_starts_total{label="twin\\\\u200e"} 1\n' in text and 'jobd_job_starts_total{label="twin\\\\u200f"} 0\n' in text, f"the twins: {text!r}")
     hourly, refused = (int(coming.pop(f'{NEXT}{{label="{label}"}}', 0)) for label in ("hourly", "refused"))
     check(hourly == (now // 3600 + 1) * 3600, f"the next hour is {hourly} at {now}")
     check(abs(refused - told(path)[1]["refused"]["started"]["wall"] - 3600) <= 1, f"the refused one starts at {refused}")
