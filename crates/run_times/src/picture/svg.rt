@@ -18,7 +18,7 @@ const HEAD: u64 = 64;
 
 const ROW: u64 = 50;
 
-const IDLE: u64 = 18;
+const IDLE: u64 = 20;
 
 const FOOT: u64 = 62;
 
@@ -26,6 +26,9 @@ const FOOT: u64 = 62;
 const AGAIN: usize = 25;
 
 const BAND: u64 = 34;
+
+/// In a bar that is narrower, an end that is not a failure is not marked: the mark would hide the bar.
+const NARROW: u64 = 4;
 
 /// The height of a bar.
 const BAR_HEIGHT: u64 = 12;
@@ -290,9 +293,10 @@ fn put_bars(page: &mut Page<'_>, axis: &Axis, bars: &[Bar], top: u64) {
         put_bar(page, axis, bar, top);
     }
     for bar in bars {
-        if bar.runs == 1 {
-            let (grave, _) = grade(bar.end);
-            let (begin, end) = axis.edges(bar.from, bar.until);
+        let (grave, _) = grade(bar.end);
+        let (begin, end) = axis.edges(bar.from, bar.until);
+        let is_wide = u64::from(end.saturating_sub(begin)) >= NARROW;
+        if bar.runs == 1 && (is_wide || grave == 0 || bar.failed > 0) {
             let end = u64::from(end).max(u64::from(begin) + 1);
             page.add(LOOKS[grave].mark, &[Number(LEFT + end), Number(top)]);
         }
