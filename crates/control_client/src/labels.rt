@@ -91,8 +91,7 @@ fn label_in(line: &str) -> &str {
     }
 }
 
-/// Whether a list has a job of this label.
-pub(crate) fn is_listed(list: &str, label: &str) -> bool {
+fn is_listed(list: &str, label: &str) -> bool {
     for line in list.lines().skip(1) {
         if label_in(line) == label {
             return true;

@@ -1,49 +1,33 @@
-//! What is said after an unload of the processes that runs of the job left running.
+//! What is reported after an unload of the processes that runs of the job left running.
 
-use crate::labels::is_listed;
-use crate::session::Session;
-use ctl_protocol::Request;
-use files_and_process::processes::ticks_now;
 use files_and_process::run_names::LauncherId;
 use history_model::Text;
 use launcher_places::places_beside;
 use leftovers::{RunProcess, add_still_runs, run_processes};
 use std::alloc::{AllocError, Global};
 use std::fs::{File, Files};
-use std::net::Net;
 use std::rt::Clock;
 use std::thread;
 use std::time::Duration;
 
-/// The pauses before each look at the list, in milliseconds: a job that ends at its TERM is removed by the last one.
+/// The pauses between two looks, in milliseconds: a job that ends at its TERM has ended by the last one.
 const PAUSES: [u64; 6] = [5, 10, 20, 40, 80, 160];
 
-/// Waits a third of a second at most until the jobs of these labels are removed. It reports on standard error each process that runs of the removed jobs left
-/// running. It reports nothing if the launcher's process is not known, as where there is no `jobd.sock.places`.
-pub(crate) fn report_left<R: Net + Files<File = File> + Clock + Eprint + AllocGlobal>(
+/// Waits a third of a second at most for the runs of these labels to end, and reports on standard error each process that one that ended left
+/// running. The launcher is asked nothing: a run goes on while its own process, a child of the launcher, has its name. Nothing is reported if it is not known
+/// which process the launcher is, as where there is no `jobd.sock.places`.
+pub(crate) fn report_left<R: Files<File = File> + Clock + Eprint + AllocGlobal>(
     rt: &R,
     alloc: Global,
-    session: &mut Session,
+    socket: &str,
     labels: &[Text],
 ) {
     if labels.is_empty() {
         return;
     }
-    let Some(launcher) = launcher_of(rt, alloc, session.socket()) else {
-        return;
-    };
-    let mut gone = Vec::new(alloc);
-    for pause in PAUSES {
-        thread::sleep(rt, Duration::from_millis(pause));
-        gone.clear();
-        if !add_gone(rt, alloc, session, labels, &mut gone) || gone.len() == labels.len() {
-            break;
-        }
+    if let Some(launcher) = launcher_of(rt, alloc, socket) {
+        let _reported = report_of(rt, alloc, launcher, labels);
     }
-    if !gone.is_empty() {
-        let _reported = report_gone(rt, alloc, launcher, gone.as_slice());
-    }
-    drop(gone);
 }
 
 fn launcher_of<R: Files<File = File> + AllocGlobal>(
@@ -62,47 +46,64 @@ fn launcher_of<R: Files<File = File> + AllocGlobal>(
     Some(launcher)
 }
 
-// Adds those of the labels that are not loaded. False: the launcher does not say, or there is no memory.
-fn add_gone<'a, R: Net>(
-    rt: &R,
-    alloc: Global,
-    session: &mut Session,
-    labels: &'a [Text],
-    gone: &mut Vec<&'a str>,
-) -> bool {
-    let Ok(list) = session.look(rt, alloc, &Request::List) else {
-        return false;
-    };
-    let mut has_room = true;
-    for label in labels {
-        if !is_listed(list.text.as_str(), label.as_str()) {
-            has_room = has_room && gone.push(label.as_str()).is_ok();
-        }
-    }
-    drop(list);
-    has_room
-}
-
-fn report_gone<R: Files + Eprint>(
+fn report_of<R: Files + Clock + Eprint>(
     rt: &R,
     alloc: Global,
     launcher: LauncherId,
-    gone: &[&str],
+    labels: &[Text],
 ) -> Result<(), AllocError> {
-    let now = ticks_now(rt, alloc).unwrap_or(u64::MAX);
-    let left = run_processes(rt, alloc, launcher)?;
-    for process in &left {
-        if is_of_one(process, gone, now) {
+    for pause in PAUSES {
+        let left = named_in(rt, alloc, launcher, labels)?;
+        let goes_on = left.iter().any(|process| process.parent == launcher.pid);
+        if !goes_on {
+            return report_all(rt, alloc, launcher, left.as_slice());
+        }
+        drop(left);
+        thread::sleep(rt, Duration::from_millis(pause));
+    }
+    let left = named_in(rt, alloc, launcher, labels)?;
+    report_all(rt, alloc, launcher, left.as_slice())
+}
+
+// The processes of runs of these labels.
+fn named_in<R: Files>(
+    rt: &R,
+    alloc: Global,
+    launcher: LauncherId,
+    labels: &[Text],
+) -> Result<Vec<RunProcess>, AllocError> {
+    let mut left = run_processes(rt, alloc, launcher)?;
+    left.retain(|process| is_among(labels, process.label.as_str()));
+    Ok(left)
+}
+
+fn is_among(labels: &[Text], label: &str) -> bool {
+    for other in labels {
+        if other.as_str() == label {
+            return true;
+        }
+    }
+    false
+}
+
+// Reports each of the processes whose label has no run that goes on.
+fn report_all<R: Eprint>(
+    rt: &R,
+    alloc: Global,
+    launcher: LauncherId,
+    left: &[RunProcess],
+) -> Result<(), AllocError> {
+    for process in left {
+        if !has_run(left, launcher, process.label.as_str()) {
             report_one(rt, alloc, process)?;
         }
     }
-    drop(left);
     Ok(())
 }
 
-fn is_of_one(process: &RunProcess, labels: &[&str], since: u64) -> bool {
-    for label in labels {
-        if process.is_left_of(*label, since) {
+fn has_run(left: &[RunProcess], launcher: LauncherId, label: &str) -> bool {
+    for process in left {
+        if process.parent == launcher.pid && process.label.as_str() == label {
             return true;
         }
     }

@@ -115,7 +115,7 @@ fn task_of(command: &Command) -> Task<'_> {
 /// error that names what it is about, and the reason. If the standard output's reader has closed it, nothing is reported and the status is
 /// [`crate::READER_GONE`].
 ///
-/// An argument of an unload may be the label of a loaded job, if it is not a path and no file has this name. After an unload, if the job is removed
+/// An argument of an unload may be the label of a loaded job, if it is not a path and no file has this name. After an unload, if its run ends
 /// within a third of a second, the standard error gets a line for each process that runs of the job left running.
 ///
 /// In the environment, `JOBD_SOCKET` is the control socket if the arguments name none. `JOBCTL_TIMEOUT` is how many seconds it waits for an answer
@@ -272,7 +272,7 @@ fn hand_in<
         }
     }
     drop(files);
-    report_left(rt, alloc, session, unloaded.as_slice());
+    report_left(rt, alloc, session.socket(), unloaded.as_slice());
     drop(unloaded);
 }
 

@@ -23,6 +23,8 @@ const STAT: usize = 4_096;
 #[derive(Drop)]
 pub struct RunProcess {
     pub pid: u32,
+    /// The PID of its parent: of a run's own process that of the launcher.
+    pub parent: u32,
     /// When it began, in clock ticks since the boot.
     pub began: u64,
     /// The name of its program, as the system shows it.
@@ -98,6 +100,7 @@ fn add_one<R: Files>(
         if !process.has_ended {
             found.push(RunProcess {
                 pid,
+                parent: parent_in(stat).unwrap_or(0),
                 began: process.began,
                 name: String::from_str(alloc, name_in(stat))?,
                 label: String::from_str(alloc, named.label)?,
@@ -107,6 +110,12 @@ fn add_one<R: Files>(
     }
     drop(bytes);
     Ok(())
+}
+
+// Field 4, the second after the name.
+fn parent_in(stat: &str) -> Option<u32> {
+    let (_, after) = stat.rsplit_once(')')?;
+    after.split(' ').nth(2)?.parse().ok()
 }
 
 /// Adds that it still runs, as one line of text without its newline. What others wrote in it is made plain.
