@@ -29,7 +29,7 @@ pub struct Beside<'a> {
 }
 
 /// What stands above the chart. In a window that is narrower than the chart the chart scrolls, and the names of its rows stay at the left: they are a
-/// list over it, by the heights that `svg` gives to what is above the rows (64), to a row (50), to one without a run and a mark (18), and to what stands
+/// list over it, by the heights that `svg` gives to what is above the rows (64), to a row (50), to one without a run and a mark (20), and to what stands
 /// between rows (34). The colours are literal ones, as in the chart.
 pub(crate) const HEAD: &str = "<!DOCTYPE html>
 <html lang=\"en\">
@@ -53,7 +53,7 @@ figure .runs { display: block; width: 100%; height: auto; }
   .runs .label { visibility: hidden; }
   .names { display: block; grid-area: 1 / 1; position: sticky; left: 0; justify-self: start; max-width: calc(100vw - 4rem); margin: 0; padding: 64px 0 0 10px; box-sizing: border-box; list-style: none; pointer-events: none; }
   .names li { height: 50px; overflow: hidden; text-overflow: ellipsis; white-space: nowrap; font: bold 12px/18px ui-monospace, 'DejaVu Sans Mono', Menlo, Consolas, monospace; }
-  .names .idle { height: 18px; }
+  .names .idle { height: 20px; }
   .names .band { height: 34px; }
 }
 table { border-collapse: collapse; width: 100%; font-variant-numeric: tabular-nums; }

@@ -18,7 +18,7 @@ const HEAD: u64 = 64;
 
 const ROW: u64 = 50;
 
-const IDLE: u64 = 18;
+const IDLE: u64 = 20;
 
 const FOOT: u64 = 62;
 
@@ -26,6 +26,9 @@ const FOOT: u64 = 62;
 const AGAIN: usize = 25;
 
 const BAND: u64 = 34;
+
+/// In a bar that is narrower an end that is no failure is not marked: the mark would hide the bar.
+const NARROW: u64 = 4;
 
 /// The height of a bar.
 const BAR_HEIGHT: u64 = 12;
@@ -51,7 +54,7 @@ const OPENING: &str =
 .runs .faint { fill: #5b6875; }
 .runs .label { font-weight: bold; }
 .runs .tick, .runs .base { stroke: #d9dfe5; fill: none; }
-.runs .run { fill: #b9c5d0; }
+.runs .run { fill: #93a3b4; }
 .runs .well { fill: #2e7d5b; }
 .runs .code { fill: #c25e00; }
 .runs .signal { fill: #7b4fb5; }
@@ -61,7 +64,7 @@ const OPENING: &str =
 .runs .demand { fill: #1b76c4; }
 .runs .throttle { fill: #ffffff; stroke: #b86200; stroke-width: 1.5; }
 .runs .refusal { fill: none; stroke: #c62828; stroke-width: 2; }
-@media (prefers-color-scheme: dark) { .runs text { fill: #e6ebf0; } .runs .ground { fill: #11171d; } .runs .faint { fill: #9aa7b4; } .runs .tick, .runs .base { stroke: #2c3742; } .runs .run { fill: #445464; } .runs .well { fill: #56b88c; } .runs .code { fill: #f0a040; } .runs .signal { fill: #b794f0; } .runs .crash { fill: #ff6b6b; } .runs .stopped { fill: #8fb0d0; } .runs .lives { fill: #5fb0f5; } .runs .demand { fill: #5fb0f5; } .runs .throttle { fill: #11171d; stroke: #f0a040; } .runs .refusal { stroke: #ff6b6b; } }
+@media (prefers-color-scheme: dark) { .runs text { fill: #e6ebf0; } .runs .ground { fill: #11171d; } .runs .faint { fill: #9aa7b4; } .runs .tick, .runs .base { stroke: #2c3742; } .runs .run { fill: #5a6b7c; } .runs .well { fill: #56b88c; } .runs .code { fill: #f0a040; } .runs .signal { fill: #b794f0; } .runs .crash { fill: #ff6b6b; } .runs .stopped { fill: #8fb0d0; } .runs .lives { fill: #5fb0f5; } .runs .demand { fill: #5fb0f5; } .runs .throttle { fill: #11171d; stroke: #f0a040; } .runs .refusal { stroke: #ff6b6b; } }
 @media (max-width: 700px) { svg:root { width: 100%; height: auto; } svg:root .label { font-size: 24px; } }
 </style>
 <rect class="ground" width="1000" height="$0"/>
@@ -289,9 +292,10 @@ fn put_bars(page: &mut Page<'_>, axis: &Axis, bars: &[Bar], top: u64) {
         put_bar(page, axis, bar, top);
     }
     for bar in bars {
-        if bar.runs == 1 {
-            let (grave, _) = grade(bar.end);
-            let (begin, end) = axis.edges(bar.from, bar.until);
+        let (grave, _) = grade(bar.end);
+        let (begin, end) = axis.edges(bar.from, bar.until);
+        let is_wide = u64::from(end - begin) >= NARROW;
+        if bar.runs == 1 && (is_wide || grave == 0 || bar.failed > 0) {
             let end = u64::from(end).max(u64::from(begin) + 1);
             page.add(LOOKS[grave].mark, &[Number(LEFT + end), Number(top)]);
         }
