@@ -9,7 +9,7 @@ It is run by hand, after `make build`; PROGRAM is build/jobd. Each trial has a l
     no_descriptors         the limit sinks while it runs, to as many free descriptors as 0 to 8
     no_processes           no further process: starts and TERM are refused and told, KILL is not
     little_memory          the limit of memory sinks while it runs (not with a sanitizer, which has to have it all)
-    no_memory              no memory at all is had for a clock reading that starts jobs: told once, and they start later (needs cc)
+    no_memory              no memory at all is had for a clock reading that crosses a minute: told once, and the jobs start later (needs cc, and a minute)
     a_full_disk_at_start   no room for the journal, the store or the spool
     a_full_disk            the journal, the store or the spool get no room any more, and get it again
     short_files            a limit on the size of files, where SIGXFSZ is ignored
@@ -213,18 +213,17 @@ def no_memory(stage):
     subprocess.run(["cc", "-shared", "-fPIC", "-O1", "-o", library, os.path.join(HERE, "broken_calls.c")], check=True)
     launcher = stage.serve(env={"LD_PRELOAD": library, "BREAK": "memory_is_refused", "NO_MEMORY": absent})
     line = "a clock reading was refused: memory was refused"
-    for number in range(40):
-        launcher.load({"Label": f"job{number}", "ProgramArguments": ["/bin/true"], "StartInterval": 2, "ThrottleInterval": 0})
-    launcher.load(shell_job("first", ":", RunAtLoad=True))
-    for turn in (1, 2):
-        with open(absent, "w", encoding="ascii"):
-            pass
-        time.sleep(3.5)
-        os.remove(absent)
-        check(comes(lambda: len(launcher.lines(line)) == turn), f"turn {turn}: {launcher.said()[-600:]!r}")
-        runs(launcher, stage, f"last{turn}")
-        time.sleep(2.5)
-    check(len(launcher.lines(line)) == 2, f"it is told again: {launcher.said()[-600:]!r}")
+    for number in range(20):
+        launcher.load({"Label": f"job{number}", "ProgramArguments": ["/bin/true"], "StartCalendarInterval": [{"Minute": minute} for minute in range(60)]})
+    time.sleep((57 - time.time()) % 60)
+    with open(absent, "w", encoding="ascii"):
+        pass
+    time.sleep(6)
+    os.remove(absent)
+    check(comes(lambda: launcher.lines(line)), f"it is not told: {launcher.said()[-600:]!r}")
+    launcher.tells("job0", "runs = 1")
+    runs(launcher, stage, "last")
+    check(len(launcher.lines(line)) == 1, f"it is told again: {launcher.said()[-600:]!r}")
     launcher.shut_down()
 
 
