@@ -45,7 +45,10 @@ pub(crate) fn add_command(def: &Def, remarks: &mut Remarks<'_>) {
 }
 
 fn add_run(def: &Def, run: &Run<'_>, remarks: &mut Remarks<'_>) {
-    let is_grouped = run.programs.iter().any(|started| base_of(started.path) == GROUP);
+    let is_grouped = run
+        .programs
+        .iter()
+        .any(|started| base_of(started.path) == GROUP);
     for line in &run.lines {
         add_shell_line(def, line, is_grouped, remarks);
     }
