@@ -393,13 +393,18 @@ def a_run_has_its_name(stage):
     launcher.load(kept("org.example.web"))
     launcher.load(kept("own", EnvironmentVariables={"JOBD_RUN": "mine", "OTHER": "1"}))
     name = f"{launcher.pid}.{began_of(launcher.pid)}"
+
+    def named(pid):
+        """What it has once it is the job's program: before that it has the launcher's variables."""
+        return wait_for(lambda: variable_of(pid), "it has no name")
+
     first = running(launcher, "org.example.web")
-    check(variable_of(first) == f"{name}/org.example.web/1", f"its name: {variable_of(first)}")
+    check(named(first) == f"{name}/org.example.web/1", f"its name: {variable_of(first)}")
     own = running(launcher, "own")
-    check((variable_of(own), variable_of(own, "OTHER")) == ("mine", "1"), f"its own value: {variable_of(own)}")
+    check((named(own), variable_of(own, "OTHER")) == ("mine", "1"), f"its own value: {variable_of(own)}")
     os.kill(first, 9)
     second = wait_for(lambda: pid_of(launcher, "org.example.web") not in (None, first) and pid_of(launcher, "org.example.web"), "it is not started again")
-    check(variable_of(second) == f"{name}/org.example.web/2", f"the name of its second run: {variable_of(second)}")
+    check(named(second) == f"{name}/org.example.web/2", f"the name of its second run: {variable_of(second)}")
 
 
 def what_a_run_left_behind_is_named(stage):
