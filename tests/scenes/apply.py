@@ -455,6 +455,7 @@ def what_an_unload_left_is_named(stage):
         check([(row["label"], row["pid"], row["program"], row["run"]) for row in rows] == [("www", left, "sleep", 1)], f"as JSON: {of('www', '--json')}")
     finally:
         end_process(left)
+    wait_for(lambda: not is_there(left), "the program does not end")
     check("still runs" not in asked(stage, status, "why")[1], "what has ended is named")
 
 
