@@ -134,12 +134,12 @@ def statuses(*names):
 
 
 def told_by_help(path, name):
-    """The statuses that a text of the helps names: 0 and each number behind `Exit status`, a comma or a semicolon."""
-    row = re.search(rf'const {name}: &str =\s+"(?:[^"]*\\n)?Exit status: ([^"]*)"', read(WORDS + path))
+    """The statuses that a text of the helps names: the number that begins each line of its table."""
+    row = re.search(rf'const {name}: &str =\s+"(?:[^"]*\n)?Exit status:\n([^"]*)"', read(WORDS + path))
     if row is None:
         faults.append(f"{WORDS}{path}: there is no {name}")
         return set()
-    return {int(number) for number in re.findall(r"(?:^|[,;:] (?:or )?)(\d+) ", row.group(1))}
+    return {int(number) for number in re.findall(r"(?m)^ +(\d+) ", row.group(1))}
 
 
 JOBCTL = (set(CODES.values()) - IN_JOURNALS) | statuses("USAGE", "BAD_FILE", "NO_ANSWER", "BAD_OUTPUT", "READER_GONE", "NO_MEMORY")

@@ -67,7 +67,7 @@ wants_usage 'the word twice'
 run serve
 wants_usage 'serve without its places'
 run serve --socket s --store o --spool p --zone UTC0 --zone-file /usr/share/zoneinfo/UTC
-wants 'both zone options' 64 '' "jobd: --zone and --zone-file can't stand together"
+wants 'both zone options' 64 '' "jobd: --zone and --zone-file can't be given together"
 run overrides
 wants_usage 'overrides without its store'
 run other

@@ -404,12 +404,12 @@ def the_environment_is_read(stage):
 def a_word_that_is_none_is_named(stage):
     """Of words that no parser refuses and that are no command one line says why."""
     for words, told in [
-        (["start", "gui/501/a"], "gui/501/a is no label (start takes a label; kickstart and print take a target)"),
-        (["stop", "a/b"], "a/b is no label (a label has 1 to 255 bytes, no / and no control character)"),
-        (["enable", "a/b"], "a/b is no target (a target is LABEL, system/LABEL, user/UID/LABEL or gui/UID/LABEL)"),
-        (["enable", "gui/x/a"], "gui/x/a is no target ("),
-        (["print", "a\nb"], '"a\\nb" is no target ('),
-        (["start", ""], '"" is no label ('),
+        (["start", "gui/501/a"], "gui/501/a is not a label (start takes a label; kickstart and print take a target)"),
+        (["stop", "a/b"], "a/b is not a label (a label has 1 to 255 bytes, no / and no control character)"),
+        (["enable", "a/b"], "a/b is not a target (a target is LABEL, system/LABEL, user/UID/LABEL or gui/UID/LABEL)"),
+        (["enable", "gui/x/a"], "gui/x/a is not a target ("),
+        (["print", "a\nb"], '"a\\nb" is not a target ('),
+        (["start", ""], '"" is not a label ('),
     ]:
         expect(stage, words, status=64, told=[f"jobctl: {told}"])
 

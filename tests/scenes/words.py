@@ -151,14 +151,14 @@ jobd overrides --store a b"""
 # A line that is explained, whether it asks for help, and the text: the whole of it but for the newline, or a part.
 EXPLAINED = [
     ("jobctl --help", True, False, "kickstart"),
-    ("jobctl help load", True, False, "disabled definition"),
+    ("jobctl help load", True, False, "disabled job"),
     ("jobctl load --help", True, False, "-F"),
     ("jobctl --help", True, False, "3 no such job"),
     ("jobctl --help", True, False, "69 no answer"),
     ("jobctl --help", True, False, "74 the reply can't be printed"),
     ("jobctl --help", True, False, "that of JOBD_SOCKET"),
     ("jobctl --help", True, False, "Why a job does not run: jobscope why LABEL. Manual pages: jobctl(1), jobscope(1), jobd.json(5), jobd(8).\n"),
-    ("jobctl start --help", True, False, "jobctl --help has the exit statuses."),
+    ("jobctl start --help", True, False, "jobctl --help lists the exit statuses."),
     ("jobctl --help", True, False, "\nKivgrond 0.3.0\n"),
     ("jobctl start", False, False, "LABEL"),
     ("jobctl lis", False, False, "list"),
@@ -173,20 +173,20 @@ EXPLAINED = [
     ("jobd overrides --help", True, False, "3 output failed"),
     ("jobd serve", False, False, "--spool"),
     ("jobd", False, False, "jobd: "),
-    ("jobctl start gui/501/a", False, True, "jobctl: gui/501/a is no label (start takes a label; kickstart and print take a target)"),
-    ("jobctl stop system/a", False, True, "jobctl: system/a is no label (stop takes a label; kickstart and print take a target)"),
-    ("jobctl start ''", False, True, 'jobctl: "" is no label (a label has 1 to 255 bytes, no / and no control character)'),
-    ("jobctl --socket s stop a/b", False, True, "jobctl: a/b is no label (a label has 1 to 255 bytes, no / and no control character)"),
-    ("jobctl enable a/b", False, True, "jobctl: a/b is no target (a target is LABEL, system/LABEL, user/UID/LABEL or gui/UID/LABEL)"),
+    ("jobctl start gui/501/a", False, True, "jobctl: gui/501/a is not a label (start takes a label; kickstart and print take a target)"),
+    ("jobctl stop system/a", False, True, "jobctl: system/a is not a label (stop takes a label; kickstart and print take a target)"),
+    ("jobctl start ''", False, True, 'jobctl: "" is not a label (a label has 1 to 255 bytes, no / and no control character)'),
+    ("jobctl --socket s stop a/b", False, True, "jobctl: a/b is not a label (a label has 1 to 255 bytes, no / and no control character)"),
+    ("jobctl enable a/b", False, True, "jobctl: a/b is not a target (a target is LABEL, system/LABEL, user/UID/LABEL or gui/UID/LABEL)"),
     (
         "jobctl enable gui/x/a", False, True,
-        "jobctl: gui/x/a is no target (a target is LABEL, system/LABEL, user/UID/LABEL or gui/UID/LABEL)",
+        "jobctl: gui/x/a is not a target (a target is LABEL, system/LABEL, user/UID/LABEL or gui/UID/LABEL)",
     ),
     (
         "jobctl kickstart -k user/0", False, True,
-        "jobctl: user/0 is no target (a target is LABEL, system/LABEL, user/UID/LABEL or gui/UID/LABEL)",
+        "jobctl: user/0 is not a target (a target is LABEL, system/LABEL, user/UID/LABEL or gui/UID/LABEL)",
     ),
-    ("jobd serve --socket s --store o --spool d --zone a --zone-file b", False, True, "jobd: --zone and --zone-file can't stand together"),
+    ("jobd serve --socket s --store o --spool d --zone a --zone-file b", False, True, "jobd: --zone and --zone-file can't be given together"),
 ]
 
 # A zone file of the shortest kind: UTC, with no change.

@@ -7,9 +7,32 @@ use crate::forms::{Argument, Form, Subcommand, with_subcommands};
 use std::alloc::{AllocError, Global};
 
 const EXIT_HELP: &str =
-    "Files and folders are brought into effect by jobctl apply PATH..: jobctl apply --help.\n\nExit status: 0 done; or the launcher's first refusal: 1 no memory, 2 bad request or too many clients, 3 no such job, 4 already loaded, 5 disabled, 6 being removed, 7 not running, 8 bad definition, 9 store refused, 10 too many jobs, 11 socket refused, 15 shutting down; or 64 these words are no command, 65 a file can't be read or used, 69 no answer from the launcher, 74 the reply can't be printed, 141 its reader has gone.\n\nWhy a job does not run: jobscope why LABEL. Manual pages: jobctl(1), jobscope(1), jobd.json(5), jobd(8).";
+    "jobctl apply PATH.. brings files and folders into effect: jobctl apply --help.
 
-const SEE_EXIT: &str = "jobctl --help has the exit statuses.";
+Exit status:
+    0 done
+    1 no memory
+    2 bad request or too many clients
+    3 no such job
+    4 already loaded
+    5 disabled
+    6 being removed
+    7 not running
+    8 bad definition
+    9 store refused
+   10 too many jobs
+   11 socket refused
+   15 shutting down
+   64 invalid arguments
+   65 a file can't be read or used
+   69 no answer from the launcher
+   74 the reply can't be printed
+  141 the reader of the output closed it
+With several files, the status is the first that is not 0.
+
+Why a job does not run: jobscope why LABEL. Manual pages: jobctl(1), jobscope(1), jobd.json(5), jobd(8).";
+
+const SEE_EXIT: &str = "jobctl --help lists the exit statuses.";
 
 const LABEL: Argument = Argument {
     id: "label",
@@ -29,7 +52,7 @@ const PATHS: Argument = Argument {
     id: "paths",
     form: Form::Words,
     value: "PATH",
-    help: "A definition, or a folder of definitions (*.plist, *.json)",
+    help: "A job definition, or a folder of them (*.plist, *.json)",
 };
 
 const SUBCOMMANDS: &[Subcommand] = &[
@@ -48,14 +71,14 @@ const SUBCOMMANDS: &[Subcommand] = &[
                 id: "force",
                 form: Form::Letter('F'),
                 value: "",
-                help: "Load a disabled definition too",
+                help: "Load a disabled job too",
             },
             PATHS,
         ],
     },
     Subcommand {
         name: "unload",
-        about: "Stop and remove the jobs of these definitions",
+        about: "Stop and remove the jobs of these files",
         after: SEE_EXIT,
         arguments: &[
             Argument {
@@ -81,7 +104,7 @@ const SUBCOMMANDS: &[Subcommand] = &[
     },
     Subcommand {
         name: "enable",
-        about: "Let a label be loaded, from now on",
+        about: "Allow a label to be loaded, from now on",
         after: SEE_EXIT,
         arguments: &[TARGET],
     },
@@ -100,14 +123,14 @@ const SUBCOMMANDS: &[Subcommand] = &[
                 id: "kill",
                 form: Form::Letter('k'),
                 value: "",
-                help: "End a running child by KILL first",
+                help: "Kill a running child first (SIGKILL)",
             },
             TARGET,
         ],
     },
     Subcommand {
         name: "print",
-        about: "Show what a job does",
+        about: "Show the status of a job",
         after: SEE_EXIT,
         arguments: &[TARGET],
     },
@@ -134,7 +157,7 @@ pub fn jobctl_words<'a>(alloc: Global) -> Result<clap::Command<'a>, AllocError>
         "socket",
         false,
         "PATH",
-        "The launcher's control socket; where absent, that of JOBD_SOCKET, else jobd.sock",
+        "The launcher's control socket (default: JOBD_SOCKET, else jobd.sock)",
     );
     let about = "Control the job launcher jobd";
     let command = bare(alloc, "jobctl", about, EXIT_HELP).subcommand_required(true);

@@ -14,19 +14,36 @@ use clap::ArgMatches;
 use history_model::Text;
 use std::alloc::{AllocError, Global};
 
-const REPLAY_EXIT: &str =
-    "Exit status: 0 each line has its outcome; 1 no memory; 2 no header; 3 input or output failed; 4 a line too long; 64 these words are no command.";
+const REPLAY_EXIT: &str = "Exit status:
+   0 each line has its outcome
+   1 no memory
+   2 no header
+   3 input or output failed
+   4 a line too long
+  64 invalid arguments";
 
-const SERVE_EXIT: &str =
-    "Exit status: 0 every job is gone after a shutdown; 1 no memory; 5 the store; 6 the control socket; 7 the zone; 8 the journal; 9 the clock, waiting, SIGCHLD or descriptors; 10 the spool; 64 these words are no command.";
+const SERVE_EXIT: &str = "Exit status:
+   0 it was shut down, and every job was removed
+   1 no memory
+   5 the store can't be used
+   6 the control socket can't be used
+   7 the zone can't be used
+   8 the journal can't be used
+   9 the clock or waiting failed, SIGCHLD is ignored, or descriptors are too few
+  10 the spool can't be used
+  64 invalid arguments";
 
-const OVERRIDES_EXIT: &str =
-    "Exit status: 0 printed; 1 no memory; 3 output failed; 5 the store; 64 these words are no command.";
+const OVERRIDES_EXIT: &str = "Exit status:
+   0 printed
+   1 no memory
+   3 output failed
+   5 the store failed
+  64 invalid arguments";
 
 const SUBCOMMANDS: &[Subcommand] = &[
     Subcommand {
         name: "replay",
-        about: "Run a journal from standard input, and write its outcomes",
+        about: "Replay a journal from standard input, and write its outcomes",
         after: REPLAY_EXIT,
         arguments: &[],
     },
@@ -45,7 +62,7 @@ const SUBCOMMANDS: &[Subcommand] = &[
                 id: "store",
                 form: Form::Value { required: true },
                 value: "PATH",
-                help: "The database of overrides; made where it is not there",
+                help: "The store of settings; made if it does not exist",
             },
             Argument {
                 id: "spool",
@@ -57,31 +74,31 @@ const SUBCOMMANDS: &[Subcommand] = &[
                 id: "journal",
                 form: Form::Value { required: false },
                 value: "PATH",
-                help: "Write each event there, to be read by jobd replay",
+                help: "Write each event there: jobd replay and jobscope read it",
             },
             Argument {
                 id: "zone",
                 form: Form::Value { required: false },
                 value: "TEXT",
-                help: "The zone of calendar entries as a POSIX rule; UTC0 where absent",
+                help: "The time zone of calendar entries, a POSIX TZ string (default: UTC0)",
             },
             Argument {
                 id: "zone-file",
                 form: Form::Value { required: false },
                 value: "PATH",
-                help: "The zone as a zone file, in place of --zone",
+                help: "The time zone as a zone file, in place of --zone",
             },
         ],
     },
     Subcommand {
         name: "overrides",
-        about: "Print each label's override and the second of its last change",
+        about: "Print each label's setting and the second of its last change",
         after: OVERRIDES_EXIT,
         arguments: &[Argument {
             id: "store",
             form: Form::Value { required: true },
             value: "PATH",
-            help: "The database of overrides",
+            help: "The store of settings",
         }],
     },
 ];

@@ -10,7 +10,7 @@ use crate::scope_words::jobscope_words;
 use clap::ArgMatches;
 use std::alloc::{AllocError, Global};
 
-const BOTH_ZONES: &str = "jobscope: --zone and --zone-file can't stand together\n";
+const BOTH_ZONES: &str = "jobscope: --zone and --zone-file can't be given together\n";
 
 fn task_named(name: &str) -> Option<Task> {
     for (known, task) in TASKS {

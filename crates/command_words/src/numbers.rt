@@ -21,7 +21,7 @@ pub(crate) fn wrong_number(
     for (id, option, most, wanted) in NUMBERS {
         if let Some(value) = found.get_str(*id) {
             if number_in(value, *most).is_none() {
-                let text = format!(in alloc; "jobscope: {option} {value:?}: wanted {wanted}\n")?;
+                let text = format!(in alloc; "jobscope: {option} {value:?}: expected {wanted}\n")?;
                 return Ok(Some(text));
             }
         }

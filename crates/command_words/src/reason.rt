@@ -12,7 +12,7 @@ const A_TARGET: &str = "a target is LABEL, system/LABEL, user/UID/LABEL or gui/U
 
 const NO_TARGET_HERE: &str = " takes a label; kickstart and print take a target";
 
-const BOTH_ZONES: &str = "jobd: --zone and --zone-file can't stand together\n";
+const BOTH_ZONES: &str = "jobd: --zone and --zone-file can't be given together\n";
 
 /// One line, with its newline, that names the word and says why it is none of its kind: a LABEL that is no label, a TARGET that
 /// names none, or both zone options. None if there is no such word.
@@ -87,7 +87,7 @@ fn reason(
     let Ok(shown) = shown(alloc, word) else {
         return Err(AllocError);
     };
-    match format!(in alloc; "jobctl: {shown} is no {kind} ({subcommand}{why})\n") {
+    match format!(in alloc; "jobctl: {shown} is not a {kind} ({subcommand}{why})\n") {
         Ok(text) => Ok(Some(text)),
         Err(e) => Err(e),
     }

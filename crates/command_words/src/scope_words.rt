@@ -3,87 +3,94 @@
 use crate::forms::{Argument, Form, Subcommand, with_subcommands};
 use std::alloc::{AllocError, Global};
 
-const EXIT_HELP: &str =
-    "Exit status: 0 done; 1 no memory, or a definition, a line or a list is refused, or has a warning with check --strict; 2 drift found a difference, or why --failing a job; 64 these words are no command; 65 a file can't be read, used or written, or nothing has a label that was named; 71 the clock can't be read; 74 standard output can't be written; 141 its reader has gone.";
+const EXIT_HELP: &str = "Exit status:
+    0 done
+    1 no memory; or a job definition, line or list is refused; or check --strict has a warning
+    2 drift found a difference, or why --failing a job
+   64 invalid arguments
+   65 a file can't be read, used or written, or a label is unknown
+   71 the clock can't be read
+   74 standard output can't be written
+  141 the reader of the output closed it";
 
-const SEE_EXIT: &str = "jobscope --help has the exit statuses.";
+const SEE_EXIT: &str = "jobscope --help lists the exit statuses.";
 
 const ZONE: Argument = Argument {
     id: "zone",
     form: Form::Value { required: false },
     value: "TEXT",
-    help: "The zone of calendar entries as a POSIX rule; where absent, that of /etc/localtime",
+    help: "The time zone of calendar entries, a POSIX TZ string (default: that of /etc/localtime)",
 };
 
 const ZONE_FILE: Argument = Argument {
     id: "zone-file",
     form: Form::Value { required: false },
     value: "PATH",
-    help: "The zone as a zone file, in place of --zone",
+    help: "The time zone as a zone file, in place of --zone",
 };
 
 const PATHS: Argument = Argument {
     id: "paths",
     form: Form::Words,
     value: "PATH",
-    help: "A definition, or a folder of definitions (*.plist, *.json); - for the definition on standard input",
+    help: "A job definition, or a folder of them (*.plist, *.json); - for one on standard input",
 };
 
 const JOURNAL: Argument = Argument {
     id: "journal",
     form: Form::Values,
     value: "PATH",
-    help: "The journal; where absent, that of JOBD_JOURNAL, else standard input; more than once, the oldest first, for several as one",
+    help: "The journal (default: JOBD_JOURNAL, else standard input). Several are read as one: the oldest first",
 };
 
 const LABELS: Argument = Argument {
     id: "labels",
     form: Form::AnyWords,
     value: "LABEL",
-    help: "Of these jobs alone; of all where absent",
+    help: "Only these jobs (default: all)",
 };
 
 const UTC: Argument = Argument {
     id: "utc",
     form: Form::Switch,
     value: "",
-    help: "Show times in UTC, and not in the journal's zone",
+    help: "Show times in UTC, not in the zone of the journal",
 };
 
 const ZONE_UTC: Argument = Argument {
     id: "utc",
     form: Form::Switch,
     value: "",
-    help: "Take UTC, and not the zone of /etc/localtime",
+    help: "Use UTC, not the zone of /etc/localtime",
 };
 
-// What stands behind it is told by moment_words.
+// moment_words reads its value.
 const SINCE: Argument = Argument {
     id: "since",
     form: Form::AnyValue,
-    value: "MOMENT",
-    help: "Leave out what was before: 14:00, yesterday, 2026-11-25, -2h, or a second of Unix time",
+    value: "TIME",
+    help: "Ignore events before this time: 14:00, yesterday, 2026-11-25, -2h, or a second of Unix time",
 };
 
 const UNTIL: Argument = Argument {
     id: "until",
     form: Form::AnyValue,
-    value: "MOMENT",
-    help: "Leave out what came behind this moment, which is written likewise",
+    value: "TIME",
+    help: "Ignore events after this time, written as for --since",
 };
 
 const NOW: Argument = Argument {
     id: "now",
     form: Form::Value { required: false },
     value: "SECOND",
-    help: "Take this second of Unix time for now, and not the clock's",
+    help: "Take this second of Unix time for now, not that of the clock",
 };
 
 const JSON: Argument = Argument {
     id: "json",
     form: Form::Switch,
     value: "",
-    help: "Write objects of JSON",
+    help: "Write JSON objects",
 };
 
 const CHECK: &[Argument] = &[
@@ -98,7 +105,7 @@ const CHECK: &[Argument] = &[
         id: "now",
         form: Form::Value { required: false },
         value: "SECOND",
-        help: "Look at the twelve months from this second of Unix time on; from now on where absent",
+        help: "Look at the twelve months from this second of Unix time on (default: now)",
     },
     ZONE,
     ZONE_FILE,
@@ -110,7 +117,7 @@ const STATUS_FILE: Argument = Argument {
     id: "status-file",
     form: Form::Value { required: false },
     value: "PATH",
-    help: "The launcher's file on how it stands; where absent, that of JOBD_STATUS_FILE",
+    help: "The launcher's status file (default: JOBD_STATUS_FILE)",
 };
 
 const NEXT: &[Argument] = &[
@@ -118,13 +125,13 @@ const NEXT: &[Argument] = &[
         id: "count",
         form: Form::ShortValue('n'),
         value: "COUNT",
-        help: "How many starts; 10 where absent, at most 10000",
+        help: "How many starts (default: 10, at most 10000)",
     },
     Argument {
         id: "from",
         form: Form::Value { required: false },
         value: "SECOND",
-        help: "Show those after this second of Unix time; now where absent",
+        help: "Show starts after this second of Unix time (default: now)",
     },
     ZONE,
     ZONE_FILE,
@@ -136,13 +143,13 @@ const NEXT: &[Argument] = &[
         id: "all",
         form: Form::Switch,
         value: "",
-        help: "Of a journal's jobs show the coming starts in the order of time, and not the next of each",
+        help: "Show all coming starts of a journal's jobs in order of time, not only the next of each",
     },
     Argument {
         id: "paths",
         form: Form::AnyWords,
         value: "PATH",
-        help: "A definition, or a folder of definitions (*.plist, *.json); - for the definition on standard input; where absent, the jobs that are loaded",
+        help: "A job definition, or a folder of them (*.plist, *.json); - for one on standard input (default: the loaded jobs)",
     },
 ];
 
@@ -160,13 +167,13 @@ const WHY: &[Argument] = &[
         id: "failing",
         form: Form::Switch,
         value: "",
-        help: "Show only those that fail, a line a job; the exit status is 2 if there is one",
+        help: "Show only failing jobs, a line each; the exit status is 2 if there is one",
     },
     Argument {
         id: "at",
         form: Form::AnyValue,
-        value: "MOMENT",
-        help: "Say it as of this moment, written as for log --since, the journal's last day being today; as of its end where absent",
+        value: "TIME",
+        help: "Explain the state at this time (default: the end of the journal). Written as for log --since; today is the journal's last day",
     },
     NOW,
 ];
@@ -181,7 +188,7 @@ const LOG: &[Argument] = &[
         id: "follow",
         form: Form::Letter('f'),
         value: "",
-        help: "Go on as the journal grows",
+        help: "Follow the journal as it grows",
     },
     SINCE,
     UNTIL,
@@ -196,7 +203,7 @@ const PICTURE: &[Argument] = &[
         id: "html",
         form: Form::Switch,
         value: "",
-        help: "Write a page that stands alone: the chart, the counts, the reasons and the coming starts",
+        help: "Write a self-contained HTML page: the chart, the counts, the reasons and the coming starts",
     },
     SINCE,
     UNTIL,
@@ -211,7 +218,7 @@ const INTO: Argument = Argument {
     id: "into",
     form: Form::Value { required: false },
     value: "FOLDER",
-    help: "Write a file for each definition in this folder, never over one; to standard output where absent",
+    help: "Write a file for each definition into this folder, never over an existing one (default: standard output)",
 };
 
 const CRON: &[Argument] = &[
@@ -219,20 +226,20 @@ const CRON: &[Argument] = &[
         id: "system",
         form: Form::Switch,
         value: "",
-        help: "The lines have a user's field before the command, as /etc/crontab and /etc/cron.d",
+        help: "The lines have a user field before the command, as in /etc/crontab and /etc/cron.d",
     },
     INTO,
     Argument {
         id: "logs",
         form: Form::Value { required: false },
         value: "FOLDER",
-        help: "Keep the output of each job in LABEL.log there; it is lost where absent",
+        help: "Write the output of each job to LABEL.log there (default: discard it)",
     },
     Argument {
         id: "lines",
         form: Form::Words,
         value: "LINE",
-        help: "A line as in crontab(5), as one word; - for the lines of standard input",
+        help: "A line as in crontab(5), as one argument; - for the lines of standard input",
     },
 ];
 
@@ -250,37 +257,37 @@ const PLIST: &[Argument] = &[
 const SUBCOMMANDS: &[Subcommand] = &[
     Subcommand {
         name: "check",
-        about: "Say whether definitions would load, and what may be wrong with them",
+        about: "Check whether job definitions load, and what may be wrong with them",
         after: SEE_EXIT,
         arguments: CHECK,
     },
     Subcommand {
         name: "next",
-        about: "Show the coming starts of calendars and intervals, in the order of time",
+        about: "Show the coming starts of calendars and intervals, in order of time",
         after: SEE_EXIT,
         arguments: NEXT,
     },
     Subcommand {
         name: "status",
-        about: "Show how each job of a launcher stands, a line a job",
+        about: "Show the status of each job of a launcher, a line each",
         after: SEE_EXIT,
         arguments: STATUS,
     },
     Subcommand {
         name: "metrics",
-        about: "Write how each job of a launcher stands, as text for Prometheus",
+        about: "Print the status of each job of a launcher as metrics for Prometheus",
         after: SEE_EXIT,
         arguments: METRICS,
     },
     Subcommand {
         name: "why",
-        about: "Say why each job runs or not, and what will make it run",
+        about: "Explain why each job runs or not, and what will make it run",
         after: SEE_EXIT,
         arguments: WHY,
     },
     Subcommand {
         name: "log",
-        about: "Tell a journal's events to people",
+        about: "Print the events of a journal in plain words",
         after: SEE_EXIT,
         arguments: LOG,
     },
@@ -298,25 +305,25 @@ const SUBCOMMANDS: &[Subcommand] = &[
     },
     Subcommand {
         name: "show",
-        about: "Show definitions as they are loaded, and when they were",
+        about: "Show job definitions as they are loaded, and when they were",
         after: SEE_EXIT,
         arguments: SHOW,
     },
     Subcommand {
         name: "drift",
-        about: "Say how files of definitions differ from what is loaded",
+        about: "Compare files of job definitions with what is loaded",
         after: SEE_EXIT,
         arguments: DRIFT,
     },
     Subcommand {
         name: "cron",
-        about: "Write a definition for each line of a crontab",
+        about: "Write a job definition for each line of a crontab",
         after: SEE_EXIT,
         arguments: CRON,
     },
     Subcommand {
         name: "plist",
-        about: "Write property lists in XML as definitions in JSON",
+        about: "Convert property lists in XML to job definitions in JSON",
         after: SEE_EXIT,
         arguments: PLIST,
     },
@@ -325,7 +332,7 @@ const SUBCOMMANDS: &[Subcommand] = &[
 /// The whole command, with a help text for every word.
 pub(crate) fn jobscope_words<'a>(alloc: Global) -> Result<clap::Command<'a>, AllocError> {
     let command = clap::Command::new(alloc, "jobscope")
-        .about("Reads definitions before a load, and journals after")
+        .about("Checks job definitions before a load, and reads journals and status files after")
         .after_help(EXIT_HELP)
         .subcommand_required(true);
     with_subcommands(alloc, Ok(command), SUBCOMMANDS)

@@ -10,7 +10,7 @@ type Foreign = (&'static str, &'static str);
 static OF_JOBCTL: &[Foreign] = &[
     (
         "status",
-        "type jobscope status, or of one job jobctl print LABEL",
+        "type jobscope status, or for one job jobctl print LABEL",
     ),
     (
         "show",
@@ -108,7 +108,7 @@ pub fn explain(alloc: Global, words: &[String]) -> Result<Explanation, AllocErro
             let is_tip = !said.is_help && said.text.contains("shutdown");
             if is_tip && word != "shutdown" && word != "" {
                 drop(said);
-                return told(alloc, "jobctl", word, "jobctl --help has the words");
+                return told(alloc, "jobctl", word, "jobctl --help lists the subcommands");
             }
             Ok(said)
         }
@@ -124,7 +124,7 @@ pub fn explain_scope(alloc: Global, words: &[String]) -> Result<Explanation, All
 }
 
 fn told(alloc: Global, program: &str, word: &str, typed: &str) -> Result<Explanation, AllocError> {
-    let text = format!(in alloc; "{program}: {word:?} is no word of {program}; {typed}\n")?;
+    let text = format!(in alloc; "{program}: unknown argument {word:?}; {typed}\n")?;
     Ok(Explanation {
         text,
         is_help: false,

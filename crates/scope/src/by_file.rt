@@ -84,14 +84,14 @@ pub(crate) fn clash_of(of: &ScopeCommand) -> Option<&'static str> {
     };
     if !of.journals.as_slice().is_empty() {
         Some(if is_why {
-            "jobscope: why: --status-file and --journal can't stand together\n"
+            "jobscope: why: --status-file and --journal can't be given together\n"
         } else {
-            "jobscope: next: --status-file and --journal can't stand together\n"
+            "jobscope: next: --status-file and --journal can't be given together\n"
         })
     } else if of.moments.at.is_some() {
-        Some("jobscope: why: --status-file and --at can't stand together\n")
+        Some("jobscope: why: --status-file and --at can't be given together\n")
     } else if of.is_all {
-        Some("jobscope: next: --status-file and --all can't stand together\n")
+        Some("jobscope: next: --status-file and --all can't be given together\n")
     } else {
         None
     }
