@@ -30,7 +30,7 @@ SPANS = [(0, 59, []), (0, 23, []), (1, 31, []), (1, 12, MONTHS), (0, 7, DAYS)]
 # What cron takes and `jobscope cron` refuses on purpose: why, by a part of what is told.
 STRICTER = {"% ends a command": "a command's input has no counterpart", "the command begins with *": "a field too many is the likely mistake",
             "has the step": "a step past the field's values", "runs backwards": "cron never runs it", "0~9": "cron passes over what stands behind the 0",
-            "wanted five fields and a command": "cron gives the shell an empty command"}
+            "expected five fields and a command": "cron gives the shell an empty command"}
 # cron's own: it sets these itself, or the crontab of the trial does.
 OWN = {"SHELL", "HOME", "LOGNAME", "PATH", "PWD", "CASE", "_", "SHLVL", "OLDPWD", "MAILTO", "MAILFROM", "CRON_TZ", "USER"}
 

@@ -88,7 +88,7 @@ def serves_shut(stage, disk):
     launcher = stage.serve(store="disk/store")
     line = f"jobd: store {stage.at('disk/store')}: "
     check(launcher.lines(f"{line}database or disk is full") or launcher.lines(f"{line}No space left on device"), f"it said {launcher.said()!r}")
-    check(len(launcher.lines(f"{line}it stays shut")) == 1, f"it said {launcher.said()!r}")
+    check(len(launcher.lines(f"{line}it stays closed")) == 1, f"it said {launcher.said()!r}")
     launcher.load(shell_job("one", "exit 0"), DISABLED)
     launcher.load(shell_job("runs", f"echo run > {stage.at('ran')}", RunAtLoad=True))
     wait_for(lambda: text_at(stage.at("ran")) == "run\n", "no job runs")
@@ -131,7 +131,7 @@ def then_two(stage):
         end_process(launcher.pid)
         launcher.ends()
         launcher = stage.serve(store="disk/store")
-        check("it stays shut" not in launcher.said(), f"it said {launcher.said()!r}")
+        check("it stays closed" not in launcher.said(), f"it said {launcher.said()!r}")
         launcher.load(shell_job("two", "exit 0"), DISABLED)
         launcher.load(shell_job("one", "exit 0"))
         launcher.shut_down()

@@ -561,7 +561,7 @@ def no_process(stage):
         wait_for(lambda: launcher.lines(reason), lambda: f"the system's reason is not told: {launcher.said()[-300:]!r}")
         time.sleep(3)
         check([line for line in launcher.lines("job: run ") if reason in line], f"the start has another reason: {launcher.said()[-300:]!r}")
-        check([line for line in launcher.lines("cannot look at") if reason in line], f"a look has another reason: {launcher.said()[-300:]!r}")
+        check([line for line in launcher.lines("cannot check") if reason in line], f"a look has another reason: {launcher.said()[-300:]!r}")
         times = honest.end()
         check(times[-1] < 0.4, f"a list took {times[-1]:.2f} s")
         hung.go_on()
@@ -578,12 +578,12 @@ def no_proc(stage):
         launcher.load(shell_job(f"job{at}", "echo x", StandardOutPath=stage.at(f"out{at}"), RunAtLoad=True))
     for at in range(3):
         wait_for(lambda: text_at(stage.at(f"out{at}")) == "x\n", lambda: f"job{at} does not start: {launcher.said()[-300:]!r}")
-    told(launcher, "no look-out can be started from /proc/self/exe")
+    told(launcher, "no helper process can be started from /proc/self/exe")
     time.sleep(1.5)
     with open(stage.at("watched"), "w", encoding="utf-8") as out:
         out.write("x")
     wait_for(lambda: text_at(stage.at("seen")), "a change is not seen")
-    check(len(launcher.lines("no look-out can be started")) == 1, f"it is told again: {launcher.lines('no look-out')}")
+    check(len(launcher.lines("no helper process can be started")) == 1, f"it is told again: {launcher.lines('no helper process')}")
     launcher.shut_down(30)
 
 

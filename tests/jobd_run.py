@@ -870,7 +870,7 @@ def many_journals_are_kept(place):
     check(open(f"{journal}.1").read() == texts[2], "a journal was kept, though none is wanted")
     keeper = place.start(JOBD_JOURNALS="-1")
     check(keeper.wait(MOST) == 1, "a number that is none")
-    place.check_told("JOBD_JOURNALS is -1, wanted 0 to 99")
+    place.check_told("JOBD_JOURNALS is -1, expected 0 to 99")
 
 
 @scene
@@ -1147,7 +1147,7 @@ def wait_of_the_supervisor_that_is_too_short_is_told(place):
     keeper.wait(MOST)
     keeper = place.start(JOBD_STOP_WAIT="soon")
     check(keeper.wait(MOST) == 1, "a number that is none")
-    place.check_told("JOBD_STOP_WAIT is soon, wanted a number of seconds")
+    place.check_told("JOBD_STOP_WAIT is soon, expected a number of seconds")
 
 
 @scene
@@ -1323,7 +1323,7 @@ def what_was_not_loaded_is_seen(place):
         code, text, told = scope(place, *words)
         check(row in text and code == (2 if "--failing" in words else 0) and not told, f"{words}: {code} {text} {told}")
     code, text, _ = scope(place, "why", "--failing")
-    for name, why in (("shared", "another user owns it or may write to it"), ("twice", "good.json decides; twice.json is left out")):
+    for name, why in (("shared", "another user owns it or may write to it"), ("twice", "good.json is used; twice.json is ignored")):
         check(f"{place.jobs}/{name}.json: not loaded at the boot: {why}\n" in text, f"{name}: {text}")
     check(re.search(rf'^{place.jobs}/a "b\\\.json: not loaded at the boot: line 1, column 2: .', text, re.M), f"a name with marks: {text}")
     rows = [json.loads(it) for it in scope(place, "why", "--failing", "--json")[1].splitlines()]

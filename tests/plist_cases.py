@@ -151,7 +151,7 @@ def main():
                 line, why = told[path]
                 if value is not None and not any(words in why for words, _ in [*STRICTER, ("more than 127", "as serde_json's depth")]):
                     faults.append(f"{name}: {path} is refused, and plistlib reads it")
-                is_of_all = any(words in why for words in ("its value is no <dict>", "it is a binary property list", "it ends before </plist>"))
+                is_of_all = any(words in why for words in ("its value is not a <dict>", "it is a binary property list", "it ends before </plist>"))
                 wanted = line_of_fault(data)
                 if line is not None and not (is_of_all and wanted in (None, 1)) and int(line) != wanted or line is None and wanted is not None:
                     faults.append(f"{name}: {path}: the fault is in line {wanted}, and the case says {line}: {why}")

@@ -75,9 +75,9 @@ wants_usage 'another word'
 run ''
 wants_usage 'an empty word'
 run $'\377'
-wants 'a word that is not UTF-8' 64 '' 'jobd: a word is not UTF-8'
+wants 'a word that is not UTF-8' 64 '' 'jobd: an argument is not UTF-8'
 run replay $'\377'
-wants 'a second word that is not UTF-8' 64 '' 'jobd: a word is not UTF-8'
+wants 'a second word that is not UTF-8' 64 '' 'jobd: an argument is not UTF-8'
 run --help
 wants 'a call for help' 0 "$(with_line '^Usage: jobd' out)" ''
 run_full --help
@@ -88,11 +88,11 @@ mkdir -m 700 spool
 mkdir store
 head -c 65537 /dev/zero >long
 run serve --socket no/s --store store --spool spool --journal no/j --zone Mars
-wants 'a zone that is none' 7 '' 'jobd: zone Mars: no rule of a zone'
+wants 'a zone that is none' 7 '' 'jobd: zone Mars: not a POSIX TZ string'
 run serve --socket s --store o --spool spool --zone-file no
 wants 'a zone file that is not there' 7 '' 'jobd: zone file no: No such file or directory (os error 2)'
 run serve --socket s --store o --spool spool --zone-file long
-wants 'a zone file that is too long' 7 '' 'jobd: zone file long: no zone file of at most 65536 bytes'
+wants 'a zone file that is too long' 7 '' 'jobd: zone file long: not a zone file of at most 65536 bytes'
 run serve --socket no/s --store store --spool spool --journal no/j
 wants 'a control socket in no folder' 6 '' 'jobd: control socket no/s: No such file or directory (os error 2)'
 run serve --socket long --store store --spool spool --journal no/j
@@ -100,9 +100,9 @@ wants 'a control socket in the place of a file' 6 '' 'jobd: control socket long:
 run serve --socket s --store store --spool spool --journal no/j
 wants 'a journal in no folder' 8 '' 'jobd: journal no/j: No such file or directory (os error 2)'
 run serve --socket s --store store --spool spool
-wants 'a store that is a folder' 5 '' 'jobd: store store: it is no plain file'
+wants 'a store that is a folder' 5 '' 'jobd: store store: it is not a plain file'
 run serve --socket s --store o --spool spool --journal store
-wants 'a journal that is a folder' 8 '' 'jobd: journal store: it is no plain file'
+wants 'a journal that is a folder' 8 '' 'jobd: journal store: it is not a plain file'
 head -c 5000 long >other
 run serve --socket s --store other --spool spool
 wants 'a store that is another file' 5 '' "$(with_line '^jobd: store other: ' err)"

@@ -142,7 +142,7 @@ def bad_line(line):
     try:
         found = json.loads(line)
     except ValueError:
-        return "no JSON"
+        return "not JSON"
     if type(found) is not dict or set(found) != {"code", "orders", "text"}:
         return "other keys"
     if found["code"] not in range(16) or type(found["text"]) is not str or type(found["orders"]) is not list:

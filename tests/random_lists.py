@@ -132,21 +132,21 @@ def meant(data):
 # What the program refuses and plistlib takes, by the words of the refusal.
 STRICTER = [
     ("has no place in a definition", "a date or bytes"),
-    ("its value is no <dict>", "a value that is no dictionary"),
+    ("its value is not a <dict>", "a value that is no dictionary"),
     ("has no number of 64 bits", "a real that JSON has not, or in a form of python's own, as 1_0"),
     ("<plist> has no value in it", "an empty <plist>"),
-    ("a text stands between elements", "a text between elements"),
+    ("there is text between elements", "a text between elements"),
     ("has an attribute that no property list has", "an attribute"),
     ("stands behind the list's value", "more than one value, of which plistlib takes the last"),
     ("stands before <plist>", "no <plist> around the value"),
     ("has no integer from", "an integer past 64 bits, or in a form of python's own, as 1_0"),
     ("is no element of a property list", "an element that plistlib passes over"),
-    ("<?xml ..?> does not stand first", "another version of XML"),
+    ("<?xml ..?> is not first", "another version of XML"),
     ("is not closed before the next element", "an element within a text"),
     ("has a text in it", "a text in <true> or <false>"),
     ("the last <key> of a <dict> has no value", "an empty key without a value, which plistlib takes for none"),
-    ("<key> stands where a value is wanted", "an empty key without a value, which plistlib takes for none"),
-    ("is no entity of XML", "an entity that nothing defines, which plistlib passes over"),
+    ("<key> is where a value is expected", "an empty key without a value, which plistlib takes for none"),
+    ("is not an XML entity", "an entity that nothing defines, which plistlib passes over"),
 ]
 
 

@@ -212,7 +212,7 @@ def no_memory(stage):
     library, absent = stage.at("calls.so"), stage.at("absent")
     subprocess.run(["cc", "-shared", "-fPIC", "-O1", "-o", library, os.path.join(HERE, "broken_calls.c")], check=True)
     launcher = stage.serve(env={"LD_PRELOAD": library, "BREAK": "memory_is_refused", "NO_MEMORY": absent})
-    line = "a clock reading was refused: memory was refused"
+    line = "a clock reading was refused: no memory"
     for number in range(20):
         launcher.load({"Label": f"job{number}", "ProgramArguments": ["/bin/true"], "StartCalendarInterval": [{"Minute": minute} for minute in range(60)]})
     time.sleep((57 - time.time()) % 60)

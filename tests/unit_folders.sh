@@ -84,12 +84,12 @@ is /var/lib/daemon/in 'root 755'
 # What never answers.
 mkfifo fifo.service
 timeout 10 python3 "$script" fifo.service 2>told && fail "a FIFO is a unit"
-grep -q 'fifo.service: no plain file' told || fail "a FIFO: $(cat told)"
+grep -q 'fifo.service: not a plain file' told || fail "a FIFO: $(cat told)"
 mkdir app.service.d
 mkfifo app.service.d/a.conf
 printf '[Service]\nExecStart=/bin/true\n' >app.service
 timeout 10 python3 "$script" app.service >/dev/null 2>told && fail "a FIFO is a drop-in"
-grep -q 'a.conf: no plain file' told || fail "a drop-in: $(cat told)"
+grep -q 'a.conf: not a plain file' told || fail "a drop-in: $(cat told)"
 rm -r app.service.d
 mkfifo variables
 printf '[Service]\nEnvironmentFile=%s/variables\nExecStart=/bin/true\n' "$work" >app.service

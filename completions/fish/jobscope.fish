@@ -49,7 +49,7 @@ complete -c jobscope -n $none -a next -d 'Show the coming starts of calendars an
 complete -c jobscope -n $none -a status -d 'Show the status of each job of a launcher'
 complete -c jobscope -n $none -a metrics -d 'Print the same as metrics for Prometheus'
 complete -c jobscope -n $none -a why -d 'Explain why each job runs or not'
-complete -c jobscope -n $none -a log -d "Print the events of a journal in plain words"
+complete -c jobscope -n $none -a log -d "Print the events of a journal in plain English"
 complete -c jobscope -n $none -a runs -d "Count each job's runs"
 complete -c jobscope -n $none -a picture -d "Draw each job's runs over time"
 complete -c jobscope -n $none -a show -d 'Show job definitions as they are loaded'

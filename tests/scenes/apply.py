@@ -196,7 +196,7 @@ def a_change_of_the_calendar_leaves_the_run(stage):
         check(got.status == 2 and got.words() == [("running", "backup")], f"{words}: {got}")
         rest = got.rest("running", "backup")
         check(rest.startswith("StartCalendarInterval changed; run 1 has run since "), f"{words}: {got}")
-        check(rest.endswith(": left (--wait waits for its end, --now ends it)"), f"{words}: {got}")
+        check(rest.endswith(": left (--wait waits until it exits, --now stops it)"), f"{words}: {got}")
         unharmed(launcher, "backup", pid, got)
     has_loaded(stage, "backup", old)
     make(stage.at("go"))
@@ -256,7 +256,7 @@ def the_file_named_for_a_label_decides(stage):
     got = apply(stage)
     check(("new", "nginx") in got.words(), f"what is named for it is not loaded: {got}")
     told = [rest for word, label, rest in got.rows if (word, label) == ("twice", "nginx")]
-    check(told and all(rest.startswith("nginx.json decides; ") for rest in told), f"who decides: {got}")
+    check(told and all(rest.startswith("nginx.json is used; ") for rest in told), f"who decides: {got}")
     check(all(f"{name} is left out" in " ".join(told) or name in " ".join(told) for name in ("nginx-old.json", "zz.json")), f"who is left out: {got}")
     has_loaded(stage, "nginx", right)
     pid = running(launcher, "nginx")
@@ -666,7 +666,7 @@ def put_back(stage, launcher):
         got = apply(stage)
         check(got.status == 11, f"the code of the refusal: {got}")
         told = got.out + got.said
-        check("refused: 11" in told and "its definition of before is loaded again" in told, f"what is said of it: {got}")
+        check("refused: 11" in told and "its previous definition is loaded again" in told, f"what is said of it: {got}")
         has_loaded(stage, "web", old)
         check(running(launcher, "web") != first, "the run of before goes on, so nothing was unloaded")
     in_effect(apply(stage), ("changed", "web"))
@@ -821,7 +821,7 @@ def prune_takes_only_what_the_folder_had(stage):
     os.unlink(stage.at("jobs/mine.json"))
     got = apply(stage)
     check(got.status == 2 and got.words() == [("orphan", "mine")], f"without --prune: {got}")
-    check(got.rest("orphan", "mine") == "its file is gone since the last apply of this folder: left (--prune unloads it)", f"its line: {got}")
+    check(got.rest("orphan", "mine") == "its file was removed after the last apply of this folder: left (--prune unloads it)", f"its line: {got}")
     check(loaded(launcher) == ["hand", "mine", "stays", "theirs"], f"loaded: {loaded(launcher)}")
     got = apply(stage, "--dry-run", "--prune", "jobs")
     check(got.status == 0 and got.words() == [("orphan", "mine")] and "mine" in loaded(launcher), f"--dry-run: {got}")
@@ -860,7 +860,7 @@ def a_stale_status_file(stage):
     check(got.status == 69 and not got.rows, f"a launcher that was killed: {got}")
     second = stage.serve(store="store2")
     got = apply(stage)
-    check(got.status == 69 and "keeps no status file (JOBD_STATUS_FILE), so nothing tells what is loaded" in got.said, f"a launcher without a status file: {got}")
+    check(got.status == 69 and "has no status file (JOBD_STATUS_FILE), so it is not known what is loaded" in got.said, f"a launcher without a status file: {got}")
     found = subprocess.run(
         apply_words(stage, ["jobs"]), cwd=stage.folder, stdin=subprocess.DEVNULL, capture_output=True, text=True, timeout=patience(),
         env={**os.environ, "JOBD_STATUS_FILE": stale},
@@ -952,9 +952,9 @@ def lines_of_the_plan(stage):
         "new       new        load new.json",
         "changed   mail       StandardOutPath, ThrottleInterval: unload, load",
         "renamed   app -> www the same definition under another label: unload app, load www",
-        "twice     same       same.json decides; same-old.json is left out",
+        "twice     same       same.json is used; same-old.json is ignored",
         "twice     api        a.json and b.json both name it: left",
-        "orphan    gone       its file is gone since the last apply of this folder: left (--prune unloads it)",
+        "orphan    gone       its file was removed after the last apply of this folder: left (--prune unloads it)",
     ):
         check(row in rows, f"no line {row!r}: {got}")
     for form in (r"unread    db\.json    line 3, column 3: .*: nothing of this folder is pruned", r"at boot   deploy     jobd-run would leave deploy\.json out: .*"):

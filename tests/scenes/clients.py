@@ -52,7 +52,7 @@ def a_client_still_for_a_minute(stage):
         check(len(names) == 2, f"one client holds the files {names}")
         got = len(call(stage.at("big")))
         check(got == 400000, f"a second client got {got} bytes")
-        text = "jobd: big: a client was let go: it took nothing of its reply for a minute"
+        text = "jobd: big: a client was disconnected: it took nothing of its reply for a minute"
         wait_for(lambda: text in launcher.said().splitlines(), lambda: f"after 70 s it said {launcher.said()!r}", 70)
         took = time.monotonic() - begun
         check(took > 59, f"it is let go after {took:.0f} s")

@@ -68,12 +68,12 @@ def paths_and_logs_without_an_answer(stage):
         launcher.ask({"req": "stop", "job": "stopped"})
         launcher.tells("stopped", "last exit = signal 15")
         wait_for(lambda: launcher.lines("log0: run 1: "), "the start without an answer is not told")
-        wait_for(lambda: launcher.lines("cannot look at "), "the path without an answer is not told")
+        wait_for(lambda: launcher.lines("cannot check "), "the path without an answer is not told")
         wait_for(lambda: len(honest.times) >= 5, lambda: f"only {len(honest.times)} lists were answered")
     finally:
         withheld.end()
         times = honest.end()
-    for line in launcher.lines("log0: run 1: ") + launcher.lines("cannot look at "):
+    for line in launcher.lines("log0: run 1: ") + launcher.lines("cannot check "):
         check(line.endswith("no answer"), f"of what got no answer it tells {line!r}")
     # A start waits half a second for its log at most, all starts two seconds, and meanwhile a list waits too: each log of a disk is asked about by itself.
     in_time(times[-1] < BOUND / 2, f"a list took {times[-1]:.2f} s")

@@ -205,7 +205,7 @@ def a_label_that_is_not_loaded_names_those_near_it(stage):
         (["enable", "ngnix"], '{"job":"ngnix","req":"enable"}\n', DONE, 0, [f"jobctl: ngnix {kept}; near it: nginx"]),
         (["enable", "nginx"], '{"job":"nginx","req":"enable"}\n', DONE, 0, []),
         (["disable", "other"], '{"job":"other","req":"disable"}\n', DONE, 0, [f"jobctl: other {kept}"]),
-        (["disable", "nginx"], '{"job":"nginx","req":"disable"}\n', DONE, 0, ["jobctl: nginx is loaded, and goes on until it is unloaded"]),
+        (["disable", "nginx"], '{"job":"nginx","req":"disable"}\n', DONE, 0, ["jobctl: nginx is loaded, and stays loaded until it is unloaded"]),
     ]:
         expect(stage, words, replies=reply + listed, status=status, asked=request + LISTED, told=told)
 
@@ -299,10 +299,10 @@ def files_that_are_left_out(stage):
     bad = '{"code":8,"text":"bad definition: NotJson -\\n"}\n'
     for words in (["@/odd"], [f"@/odd/{name}" for name in ("a.json", "b\udcff.json", "kmsg.plist", "pipe.json", "z.json")]):
         expect(stage, ["load", *words], replies=DONE + bad + DONE, status=65, asked=load("a") + load("") + load("z"), told=[
-            "jobctl: @/odd/b\ufffd.json: its name is not UTF-8", "jobctl: @/odd/kmsg.plist:", "bad definition: NotJson -", "jobctl: @/odd/pipe.json: no plain file",
+            "jobctl: @/odd/b\ufffd.json: its name is not UTF-8", "jobctl: @/odd/kmsg.plist:", "bad definition: NotJson -", "jobctl: @/odd/pipe.json: not a plain file",
         ])
     for words in (["stop", "\udcff"], ["load", "-F", "\udcff", "--socket", "s\udcff"], ["\udcff"], ["load", "--sock\udcff", "@/odd"]):
-        expect(stage, words, IS_MISSING, status=64, told=["jobctl: a word is not UTF-8"])
+        expect(stage, words, IS_MISSING, status=64, told=["jobctl: an argument is not UTF-8"])
     with subprocess.Popen(["echo", "piped"], stdout=subprocess.PIPE) as echo:
         words = [*stage.given.jobctl, "--socket", "missing", "load", f"/dev/fd/{echo.stdout.fileno()}"]
         ran = subprocess.run(words, pass_fds=[echo.stdout.fileno()], cwd=stage.folder, capture_output=True, timeout=BOUND, text=True)
@@ -398,7 +398,7 @@ def the_environment_is_read(stage):
     expect(stage, ["list"], IS_MISSING, status=69, told=["jobctl: jobd.sock: "], env={"JOBD_SOCKET": "", "JOBCTL_TIMEOUT": ""})
     text = '{"code":0,"text":"a\\n"}\n'
     expect(stage, ["list"], replies=text, asked=LISTED, printed="a\n", env={"JOBCTL_TIMEOUT": "0"})
-    expect(stage, ["list"], replies=text, status=64, told=["jobctl: JOBCTL_TIMEOUT: no number of seconds"], env={"JOBCTL_TIMEOUT": "soon"})
+    expect(stage, ["list"], replies=text, status=64, told=["jobctl: JOBCTL_TIMEOUT: not a number of seconds"], env={"JOBCTL_TIMEOUT": "soon"})
 
 
 def a_word_that_is_none_is_named(stage):

@@ -24,7 +24,7 @@ TOO_LONG = "File name too long (os error 36)"
 
 # A serial line, whose open waits for its carrier; a machine may have none.
 SERIAL = "/dev/ttyS0"
-MAY_WAIT = "is a device whose open may wait, and no plain file"
+MAY_WAIT = "is a device whose open may wait, not a plain file"
 STREAMS = [("StandardInPath", "input"), ("StandardOutPath", "output"), ("StandardErrorPath", "errors")]
 
 # A name of 1,023 bytes, which no file can have: a path of 1,024 may stand in a definition.
@@ -218,13 +218,13 @@ def refused_starts(stage):
         ({"StandardOutPath": at("late/f"), **soon}, f"cannot open {at('late/f')} for its output: {ABSENT}"),
         ({"StandardOutPath": NO_NAME}, f"cannot open {NO_NAME} for its output: {TOO_LONG}"),
         ({"StandardErrorPath": at("late/f"), **soon}, f"cannot open {at('late/f')} for its errors: {ABSENT}"),
-        ({"StandardInPath": at("fifo")}, f"cannot open {at('fifo')} for its input: is a FIFO, and no plain file"),
-        ({"StandardOutPath": at("link")}, f"cannot open {at('link')} for its output: is a FIFO, and no plain file"),
-        ({"StandardErrorPath": at("fifo")}, f"cannot open {at('fifo')} for its errors: is a FIFO, and no plain file"),
-        ({"StandardInPath": at("folder")}, f"cannot open {at('folder')} for its input: is a folder, and no plain file"),
+        ({"StandardInPath": at("fifo")}, f"cannot open {at('fifo')} for its input: is a FIFO, not a plain file"),
+        ({"StandardOutPath": at("link")}, f"cannot open {at('link')} for its output: is a FIFO, not a plain file"),
+        ({"StandardErrorPath": at("fifo")}, f"cannot open {at('fifo')} for its errors: is a FIFO, not a plain file"),
+        ({"StandardInPath": at("folder")}, f"cannot open {at('folder')} for its input: is a folder, not a plain file"),
         *[({key: SERIAL}, f"cannot open {SERIAL} for its {what}: {MAY_WAIT}") for key, what in STREAMS if os.path.exists(SERIAL)],
-        ({"StandardOutPath": at("folder")}, f"cannot open {at('folder')} for its output: is a folder, and no plain file"),
-        ({"StandardErrorPath": at("other")}, f"cannot open {at('other')} for its errors: is a socket, and no plain file"),
+        ({"StandardOutPath": at("folder")}, f"cannot open {at('folder')} for its output: is a folder, not a plain file"),
+        ({"StandardErrorPath": at("other")}, f"cannot open {at('other')} for its errors: is a socket, not a plain file"),
     ]
     before = at_rest(launcher)
     for number, (keys, line) in enumerate(cases):
@@ -321,7 +321,7 @@ def sights_that_are_refused(stage):
     further ones the number; what was not told is at the next look. How many come at once is the look-out's affair."""
     launcher = stage.serve()
     launcher.load(shell_job("first", ":", WatchPaths=[NO_NAME]))
-    comes_to_say(launcher, f"cannot look at {NO_NAME}: {TOO_LONG}")
+    comes_to_say(launcher, f"cannot check {NO_NAME}: {TOO_LONG}")
     paths = ["/" * number + "n" * 1000 for number in range(2, 8)] + ["/" + "m" * 254 + str(number) for number in range(10, 80)]
     many = [shell_job(f"many{at}", ":", WatchPaths=paths[at : at + 38]) for at in (0, 38)]
     with connect(launcher.path) as client:
@@ -330,11 +330,11 @@ def sights_that_are_refused(stage):
         while got.count(b"\n") < 2:
             got += client.recv(65536)
     check(got.count(b'"code":0') == 2, f"the loads got {got!r}")
-    looks = lambda: launcher.lines("jobd: cannot look at ")
+    looks = lambda: launcher.lines("jobd: cannot check ")
     wait_for(lambda: len(looks()) >= 77, lambda: f"of 77 looks {len(looks())} are told")
     check(len(looks()) == len(set(looks())) == 77, f"{len(looks())} looks are told, of them {len(set(looks()))} different ones")
     told = launcher.said().partition(" more lines were dropped")
-    first = told[0].count("jobd: cannot look at ")
+    first = told[0].count("jobd: cannot check ")
     check(not told[1] or first >= 64, f"{first} looks are told before lines are dropped")
     launcher.shut_down()
 
@@ -508,7 +508,7 @@ def replies_as_they_grow(stage):
     make(at("now"))
     launcher.tells("vanish", "last exit = code 0")
     check(text_at(at("got")) == "hello", f"the run has the request {text_at(at('got'))!r}")
-    comes_to_say(launcher, "vanish: a client was let go: Broken pipe (os error 32)")
+    comes_to_say(launcher, "vanish: a client was disconnected: Broken pipe (os error 32)")
     wait_for(lambda: not spooled(stage), lambda: f"the spool has {spooled(stage)}")
     for label in ("grows", "long", "vanish"):
         unload(launcher, label)
@@ -531,7 +531,7 @@ def names_in_the_spool_are_taken(stage):
         put(stage.at(f"spool/{name}"))
     got = [call(stage.at("cat"), text) for text in (b"second", b"third")]
     check(got == [b"", b""], f"clients at names that are taken got {got}")
-    comes_to_say(launcher, f"cat: a client was let go: cannot spool its request in {stage.at('spool')}: File exists (os error 17)")
+    comes_to_say(launcher, f"cat: a client was disconnected: cannot spool its request in {stage.at('spool')}: File exists (os error 17)")
     check(call(stage.at("cat"), b"fourth") == b"fourth", "the next client is not served")
     wait_for(lambda: spooled(stage) == sorted(taken), lambda: f"the spool has {spooled(stage)}, and not what was put there")
     check(text_at(victim) == "kept\n", f"what a link led to has {text_at(victim)!r}")
@@ -542,7 +542,7 @@ def spool_files_that_change(stage):
     """A spooled file is removed, or another one put at its name: its client is let go, which is told, and the next one is served."""
     launcher = stage.serve()
     launcher.load(gated_job(stage))
-    front = "slow: RUN: a client was let go: cannot open the spooled "
+    front = "slow: RUN: a client was disconnected: cannot open the spooled "
     another = "another file is at its name"
     clients, known = [], set()
     for text in (b"runs", b"removed", b"moved", b"linked", b"last"):
@@ -599,7 +599,7 @@ def replies_that_nobody_takes(stage):
     for count in (65, 66):
         come(count)
         wait_for(lambda: len(spooled(stage, "reply")) == 64, lambda: f"of {count} clients are held {len(spooled(stage, 'reply'))}")
-        comes_to_say(launcher, "big: a client was let go: it takes nothing, and so do 64 others of the job")
+        comes_to_say(launcher, "big: a client was disconnected: it takes nothing, like 64 others of the job")
     got = [len(read_all(client)) for client in clients]
     check(max(got[:2]) < 400000 and set(got[2:]) == {400000}, f"the first got {got[:3]}, and of the others {got[2:].count(400000)} all")
     launcher.shut_down()
@@ -627,7 +627,7 @@ def room_for_three(stage):
         take(count)
     check(launcher.said() == "", f"with room for three it said {launcher.said()!r}")
     take(3)
-    room = "big: a client was let go: it takes nothing, and 3 connections are held"
+    room = "big: a client was disconnected: it takes nothing, and 3 connections are open"
     comes_to_say(launcher, room)
     wait(b"second")
     wait_for(lambda: len([name for name in requests_in(stage) if name[0] == requests_in(stage)[0][0]]) == 2, "a second is not held")
@@ -826,7 +826,7 @@ def a_path_with_one_launcher(stage):
     other.close()
     os.remove(at("socket"))
     os.mkdir(at("socket.lock"))
-    is_refused(stage, "with a folder at its lock", "its lock is no plain file")
+    is_refused(stage, "with a folder at its lock", "its lock is not a plain file")
     check(not os.path.exists(at("socket")) and os.path.isdir(at("socket.lock")), "the folder is gone, or a socket is left")
     is_refused(stage, "in a folder that is missing", ABSENT, "none/socket")
     long = "s" * (108 - len(stage.folder) - 1)
@@ -858,7 +858,7 @@ def files_that_were_put_there(stage):
             os.remove(at(name))
         check(launcher.ask_over(client, {"req": "shutdown"})["code"] == 0, "shutdown refused")
     # If a second is just over, they are made again: each by itself, if it was over between the two.
-    told = {f"jobd: control socket: {what} was gone, and is made again" for what in ("its file", "its lock's file")}
+    told = {f"jobd: control socket: {what} was removed, and is made again" for what in ("its file", "its lock's file")}
     check(launcher.ends() == 0 and set(launcher.said().splitlines()) <= told, f"without its files it ended so: {launcher.said()!r}")
 
 
@@ -871,7 +871,7 @@ def a_look_that_is_refused(stage):
     launcher.tells("there", "state = running")
     os.symlink("flag", stage.at("link"))
     os.rename(stage.at("link"), path)
-    comes_to_say(launcher, f"cannot look at {path}: Too many levels of symbolic links (os error 40)")
+    comes_to_say(launcher, f"cannot check {path}: Too many levels of symbolic links (os error 40)")
     reply = launcher.ask({"req": "kickstart", "job": "there", "k": True})
     check(reply["code"] == 0, f"kickstart got {reply}")
     wait_for(lambda: runs_of(launcher, "there") == 2, "a job is not started again whose file was there at the last look")

@@ -183,7 +183,7 @@ def a_line_too_long(stage):
     lines = [HEADER, load_of("web"), '{"ev":"start","job":"web"}\n', " " * 262145 + "\n", '{"ev":"spawned","job":"web","run":1,"pid":5}\n']
     path = make(stage.at("long"), "".join(lines))
     ran = subprocess.run([*stage.given.jobscope, "why", "--journal", path], capture_output=True, timeout=patience(), text=True)
-    told = f"jobscope: {path}: line 4: longer than 262144 bytes; told is what stands before it\n"
+    told = f"jobscope: {path}: line 4: longer than 262144 bytes; the output covers the lines before it\n"
     awaited = "The start of run 1 was ordered, and the answer is awaited."
     check((ran.returncode, ran.stderr) == (65, told), f"a line too long got {ran.returncode} {ran.stderr!r}")
     check(awaited in ran.stdout, f"before a line too long stood {ran.stdout!r}")
@@ -309,10 +309,10 @@ As of 2026-11-25 Wed 14:02:57 +0100, the journal's last event, 2 days 7 h ago.
 {writer}
 
 web is running.
-  Run 1 lives, process 5, since {since} (for {lived}).
+  Run 1 is running, PID 5, since {since} (for {lived}).
 {throttled}  It is wanted: KeepAlive is true.
 """
-NOBODY = "No launcher writes this journal now: it ended or was killed."
+NOBODY = "No launcher writes this journal now: it exited or was killed."
 ENDED = {"writer": NOBODY, "since": "14:02:57", "lived": "0.0 s",
     "throttled": "  It is throttled until 14:03:07 (in 10.0 s): its last start was ordered at 14:02:57, ThrottleInterval is 10.\n"}
 
@@ -322,7 +322,7 @@ def a_journal_that_is_held(stage):
     load = json.dumps({"ev": "load", "def": json.dumps({"Label": "web", "Program": "/bin/true", "KeepAlive": True})})
     path = make(stage.at("held"), HEADER + load + '\n{"ev":"spawned","job":"web","run":1,"pid":5}\n')
     other = make(stage.at("beside"), "")
-    lives = f"The launcher that writes this journal lives (process {os.getpid()}): spans are up to now."
+    lives = f"The launcher that writes this journal is running (PID {os.getpid()}): durations are measured to the present."
     writes = {"writer": lives, "since": "2026-11-25 Wed 14:02:57 +0100", "lived": "2 days 7 h", "throttled": ""}
     for file, lock, wanted in ((path, fcntl.LOCK_EX, writes), (path, fcntl.LOCK_SH, ENDED), (other, fcntl.LOCK_EX, ENDED)):
         with open(file, encoding="utf-8") as held:
@@ -338,7 +338,7 @@ def a_launcher_that_is_killed(stage):
     words = ["why", "--journal", stage.at("journal")]
     for _ in range(3):
         got = ran(stage, words)
-        check(f"lives (process {launcher.pid}): spans are up to now.\n" in got[1], f"of a launcher that lives: {got}")
+        check(f"lives (process {launcher.pid}): durations are measured to the present.\n" in got[1], f"of a launcher that lives: {got}")
     launcher.process.kill()
     launcher.process.wait()
     check(NOBODY in (got := ran(stage, words))[1], f"of a launcher that was killed: {got}")

@@ -321,7 +321,7 @@ def a_control_socket_that_was_removed(stage):
     launcher = stage.serve()
     path, lock = stage.at("socket"), stage.at("socket.lock")
     is_there = lambda: os.path.exists(path) and stat.S_ISSOCK(os.stat(path).st_mode) and stat.S_IMODE(os.stat(path).st_mode) == 0o600
-    told = "jobd: control socket: its file was gone, and is made again"
+    told = "jobd: control socket: its file was removed, and is made again"
     with connect(path) as client:
         check(launcher.ask_over(client, {"req": "list"})["code"] == 0, "list refused")
         for times in (1, 2):
@@ -331,7 +331,7 @@ def a_control_socket_that_was_removed(stage):
             launcher.answers("at a control socket that was made again")
             check(launcher.ask_over(client, {"req": "list"})["code"] == 0, "a client that was there before is let go")
         os.replace(make(stage.at("text"), "text"), path)
-        refused = "jobd: control socket: its file is gone, and can't be made again: "
+        refused = "jobd: control socket: its file was removed, and can't be made again: "
         wait_for(lambda: launcher.lines(refused), lambda: f"it said {launcher.said()!r}")
         time.sleep(2.5)
         check(len(launcher.lines(refused)) == 1 and text_at(path) == "text", f"it has {text_at(path)!r}, and was told {launcher.lines(refused)}")
@@ -341,7 +341,7 @@ def a_control_socket_that_was_removed(stage):
         wait_for(lambda: len(launcher.lines(told)) == 3, lambda: f"it said {launcher.said()!r}")
         os.remove(lock)
         wait_for(lambda: os.path.exists(lock), "its lock alone is not made again")
-        locked = "jobd: control socket: its lock's file was gone, and is made again"
+        locked = "jobd: control socket: its lock's file was removed, and is made again"
         wait_for(lambda: launcher.lines("")[4:] == [locked], lambda: f"it said {launcher.said()!r}")
     launcher.answers("at a control socket that was made again with its lock")
     second = stage.start(store="store.2", spool="spool.2")

@@ -119,7 +119,7 @@ def one_who_takes_nothing_goes_after_five_seconds(stage):
     took = time.monotonic() - start
     check(got == b"hello", f"the newcomer got {got!r}")
     check(took > 3.5, f"it had its place after {took:.1f} s already")
-    text = "jobd: big: a client was let go: it takes nothing, and 2 connections are held\n"
+    text = "jobd: big: a client was disconnected: it takes nothing, and 2 connections are open\n"
     check(launcher.said() == text, f"it said {launcher.said()!r}")
     check([len(read_all(client)) == 400000 for client in still] == [False, True], "not the first of two went, or both")
     launcher.shut_down()

@@ -197,7 +197,7 @@ def what_tells_a_launchers_places(stage):
 def a_journal_that_is_renamed(stage):
     """It is told once, and written on; a journal that is put back is watched again. Who closes it is told that alone."""
     launcher = stage.serve(journal="journal")
-    moved = "it was renamed or removed, and is written on where it is now"
+    moved = "it was renamed or removed; the launcher goes on writing to the same file"
 
     def says(count):
         def said():
@@ -263,7 +263,7 @@ def who_may_read_a_status_file(stage):
         check(stat.S_IMODE(data.st_mode) == 0o640 and data.st_gid == own, f"{name}: {oct(data.st_mode)}, {data.st_gid}")
     check(stat.S_IMODE(os.stat(path + ".lock").st_mode) == 0o600, "others may read the lock")
     launcher.shut_down()
-    for word, told in (("4000000", "Operation not permitted"), ("adm", "it is no number of a group")):
+    for word, told in (("4000000", "Operation not permitted"), ("adm", "it is not the number of a group")):
         if word.isdigit() and os.geteuid() == 0:
             continue
         launcher = stage.serve(env={"JOBD_STATUS_FILE": path, "JOBD_STATUS_GROUP": word})
@@ -409,25 +409,25 @@ def status_files_that_are_refused(stage):
 
 # The families of a job's samples, by name: their kind, what they tell, and the value by the job's part of the file.
 FAMILIES = {
-    "jobd_job_running": ("gauge", "Whether a run of the job lives.", lambda job: int(job["pid"] is not None)),
-    "jobd_job_starts_total": ("counter", "Starts that were ordered since the load, refused ones too.", lambda job: job["starts"]),
-    "jobd_job_failures_total": ("counter", "Runs since the load that did not end with code 0.", lambda job: job["failures"] - job["refusals"]),
+    "jobd_job_running": ("gauge", "Whether a run of the job is running.", lambda job: int(job["pid"] is not None)),
+    "jobd_job_starts_total": ("counter", "Starts that were ordered since the load, including refused ones.", lambda job: job["starts"]),
+    "jobd_job_failures_total": ("counter", "Runs since the load that did not exit with code 0.", lambda job: job["failures"] - job["refusals"]),
     "jobd_job_refused_total": ("counter", "Starts since the load that the system refused.", lambda job: job["refusals"]),
     "jobd_job_last_end_timestamp_seconds": (
-        "gauge", "When the last run of the job ended.", lambda job: job["last_end"] and job["last_end"]["ended"]["wall"]),
+        "gauge", "When the last run of the job exited.", lambda job: job["last_end"] and job["last_end"]["ended"]["wall"]),
 }
 NEXT = "jobd_job_next_start_timestamp_seconds"
-NEXT_HEAD = f"# HELP {NEXT} When the job starts next by the clocks alone.\n# TYPE {NEXT} gauge\n"
+NEXT_HEAD = f"# HELP {NEXT} When the job is scheduled to start next.\n# TYPE {NEXT} gauge\n"
 # Those behind the next starts.
 LATER = {
     "jobd_job_last_success_timestamp_seconds": (
         "gauge", "When a run of the job last exited with code 0, since its load.", lambda job: job["succeeded"] and job["succeeded"]["wall"]),
     "jobd_job_last_exit_code": (
-        "gauge", "The exit code of the last run of the job, or 128 and the signal that ended it.",
+        "gauge", "The exit code of the last run of the job, or 128 plus the signal that killed it.",
         lambda job: job["last_end"] and job["last_end"].get("code", 128 + job["last_end"].get("signal", 0))),
 }
 TAKEN = {
-    "jobd_job_resident_bytes": ("gauge", "The memory that the process of the job has."),
+    "jobd_job_resident_bytes": ("gauge", "The resident memory of the process of the job."),
     "jobd_job_cpu_seconds_total": ("counter", "The processor time that the process of the job has used."),
 }
 LAST = {"jobd_job_disabled": ("gauge", "Whether the label of the job is disabled.", lambda job: int(job["disabled"] is not None))}
@@ -446,9 +446,9 @@ def wanted_samples(path, is_up):
     first, jobs = told(path)
     text = ""
     for name, help_text, value in (
-        ("jobd_up", "Whether the launcher lives.", int(is_up)),
+        ("jobd_up", "Whether the launcher is running.", int(is_up)),
         ("jobd_journal_open", "Whether the journal of the launcher is open.", 1),
-        ("jobd_status_timestamp_seconds", "When the launcher told how it stands.", first["at"]["wall"]),
+        ("jobd_status_timestamp_seconds", "When the launcher wrote the status file.", first["at"]["wall"]),
     ):
         text += f"# HELP {name} {help_text}\n# TYPE {name} gauge\n{name} {value}\n"
     return text + families_of(FAMILIES, jobs, is_up)
@@ -639,15 +639,15 @@ def why_and_status_of_now(stage):
         launcher.load(definition)
     comes_to_say(stage, path, "runs", "runs is running.", "It is wanted: KeepAlive is true.")
     comes_to_say(stage, path, "refused", "was refused, at ", f": {MISSING}.", "It is wanted: it starts at its load (RunAtLoad is true).")
-    comes_to_say(stage, path, "throttled", "It is throttled until ", "ThrottleInterval is 600.", "It ended last with code 3", "It starts at ")
+    comes_to_say(stage, path, "throttled", "It is throttled until ", "ThrottleInterval is 600.", "Its last run exited with code 3", "It starts at ")
     comes_to_say(stage, path, "waits", f"once {flag} exists (KeepAlive PathState)")
-    comes_to_say(stage, path, "crashed", "It ended last by signal 11 (a crash)", "Nothing wants it.")
+    comes_to_say(stage, path, "crashed", "Its last run was killed by signal 11 (a crash)", "Nothing wants it.")
     comes_to_say(stage, path, "spent", "LaunchOnlyOnce is true, and a start went well.")
     launcher.ask({"req": "disable", "job": "disabled"})
     comes_to_say(stage, path, "disabled", "disabled is running.", "It is disabled: `jobctl enable disabled`.")
     job_where(path, "stopped", lambda job: job["state"] == "running")
     launcher.ask({"req": "stop", "job": "stopped"})
-    comes_to_say(stage, path, "stopped", "It ended last by signal 15, ", "Nothing wants it.")
+    comes_to_say(stage, path, "stopped", "Its last run was killed by signal 15, ", "Nothing wants it.")
 
     rows = cells(stage, path)
     check(rows["runs"][1:3] == ["running", str(told(path)[1]["runs"]["pid"])] and rows["runs"][-1] == "-", f"of runs: {rows['runs']}")
@@ -666,7 +666,7 @@ def why_and_status_of_now(stage):
     end_process(launcher.pid)
     launcher.ends()
     status, text, _ = asked(stage, path, "why", "runs")
-    check(status == 0 and "is gone" in text and "runs is run by no launcher" in text, f"of a killed launcher: {text}")
+    check(status == 0 and "exited or was killed" in text and "runs is not supervised" in text, f"of a killed launcher: {text}")
     rows = cells(stage, path)
     check({row[1] for row in rows.values()} == {"unknown"} and {row[2] for row in rows.values()} == {"-"}, f"rows of a killed launcher: {rows}")
     check(asked(stage, path, "why", "--failing", "runs")[0] == 2, "a job of a killed launcher does not fail")
@@ -681,7 +681,7 @@ def whose_launcher_is_none(stage):
     launcher, path = serve(stage)
     launcher.load(shell_job("waits", "exec sleep 600", KeepAlive={"PathState": {stage.at("flag"): True}}))
     job_where(path, "waits", lambda job: job["state"] == "idle")
-    lives = f"The launcher lives (process {launcher.pid})"
+    lives = f"The launcher is running (PID {launcher.pid})"
     check(lives in asked(stage, path, "status")[1], f"a living launcher is not told: {asked(stage, path, 'status')}")
     first = told(path)[0]
     end_process(launcher.pid)
@@ -696,14 +696,14 @@ def whose_launcher_is_none(stage):
 
     with subprocess.Popen(["sleep", "600"]) as other:
         by_chance = file_of(other.pid, began(other.pid) + 1)
-        gone = f"The launcher (process {other.pid}) is gone"
+        gone = f"The launcher (PID {other.pid}) is gone"
         check(gone in asked(stage, by_chance, "status")[1], f"another process with its number: {asked(stage, by_chance, 'status')}")
         its_own = file_of(other.pid, began(other.pid))
-        check(f"The launcher lives (process {other.pid})" in asked(stage, its_own, "status")[1], "the same moment of the start is not told as the launcher")
+        check(f"The launcher is running (PID {other.pid})" in asked(stage, its_own, "status")[1], "the same moment of the start is not told as the launcher")
         other.kill()
         wait_for(lambda: text_at(f"/proc/{other.pid}/stat").rpartition(")")[2].split()[0] == "Z", "it does not end")
         check(gone in asked(stage, its_own, "status")[1], f"a process that has ended: {asked(stage, its_own, 'status')}")
-        check("is run by no launcher" in asked(stage, its_own, "why", "waits")[1], f"of its job: {asked(stage, its_own, 'why', 'waits')}")
+        check("is not supervised" in asked(stage, its_own, "why", "waits")[1], f"of its job: {asked(stage, its_own, 'why', 'waits')}")
 
 
 def what_a_socket_waits_for(stage):
@@ -738,7 +738,7 @@ def where_errors_went(stage):
     os.mkfifo(fifo, 0o600)
     wanted = [
         f"empty: its errors went to {empty}; there is no line in it",
-        f"fifo: its errors went to {fifo}; it can't be read: no plain file",
+        f"fifo: its errors went to {fifo}; it can't be read: not a plain file",
         f"long: its errors went to {stage.at('long.err')}; the last line is: {'x' * 160}\u2026",
         "lost: its errors are lost: no StandardErrorPath",
         f"plain: its errors went to {plain}; the last line is: no \ufffd[31mhost\ufffd",

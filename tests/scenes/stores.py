@@ -56,7 +56,7 @@ def log_that_goes_away(stage, name, how):
             shutil.copyfile(path, stage.at("older"))
     how(path)
     launcher.shut_down()
-    told = launcher.lines(f"store {stage.at(name)}: its files had not the last settings of all labels")
+    told = launcher.lines(f"store {stage.at(name)}: its files lack the last settings of some labels")
     check(len(told) == 1, f"the log was {name}: said {launcher.said()!r}")
     shown = stage.run(["overrides", "--store", name]).stdout
     check([line.split("\t")[:2] for line in shown.splitlines()] == wanted, f"the log was {name}: the store has {shown!r}")

@@ -32,7 +32,7 @@ def reasons_are_told(stage):
     jobs.append(("bound", None, f"{stage.at('gone/socket')}: {absent}"))
     told = lambda label, text: [line for line in launcher.lines(f"jobd: {label}: ") if line.endswith(text)]
     launcher.load(shell_job("watch", ":", WatchPaths=[stage.at("loop/x")]))
-    sight = f"jobd: cannot look at {stage.at('loop/x')}: {looping}"
+    sight = f"jobd: cannot check {stage.at('loop/x')}: {looping}"
     wait_for(lambda: launcher.lines(sight), f"no line {sight!r} in {launcher.said()!r}")
     for label, _, text in jobs:
         wait_for(lambda: told(label, text), lambda: f"no line `jobd: {label}: ..{text}` in {launcher.said()!r}")

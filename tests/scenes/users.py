@@ -283,7 +283,7 @@ def settings_outlive_the_launcher(stage):
     user.make("idle.json", IDLE)
     user.serve()
     user.ask("load -w idle.json")
-    user.ask("disable system/idle", told="jobctl: idle is loaded, and goes on until it is unloaded\n")
+    user.ask("disable system/idle", told="jobctl: idle is loaded, and stays loaded until it is unloaded\n")
     user.ask("load idle.json", 4, "already loaded\n")
     user.ask("shutdown")
     user.ended(0, REMOVED)
@@ -304,12 +304,12 @@ def starts_that_are_refused(stage):
     user = User(stage)
     absent = "No such file or directory (os error 2)\n"
     places = "serve --socket socket --store store --spool spool"
-    user.run(f"{places} --zone Mars", 7, "jobd: zone Mars: no rule of a zone\n")
+    user.run(f"{places} --zone Mars", 7, "jobd: zone Mars: not a POSIX TZ string\n")
     user.run(f"{places} --zone-file nowhere", 7, f"jobd: zone file nowhere: {absent}")
     words = "serve --socket nowhere/socket --store store --spool spool"
     user.run(words, 6, f"jobd: control socket nowhere/socket: {absent}")
     user.run(f"{places} --journal nowhere/journal", 8, f"jobd: journal nowhere/journal: {absent}")
-    user.run("serve --socket socket --store spool --spool spool", 5, "jobd: store spool: it is no plain file\n")
+    user.run("serve --socket socket --store spool --spool spool", 5, "jobd: store spool: it is not a plain file\n")
     user.run("overrides --store nowhere", 5, f"jobd: store nowhere: {absent}")
     user.ask("list", 69, f"jobctl: socket: {absent}")
     user.serve()

@@ -156,7 +156,7 @@ EXPLAINED = [
     ("jobctl --help", True, False, "3 no such job"),
     ("jobctl --help", True, False, "69 no answer"),
     ("jobctl --help", True, False, "74 the reply can't be printed"),
-    ("jobctl --help", True, False, "that of JOBD_SOCKET"),
+    ("jobctl --help", True, False, "default: JOBD_SOCKET"),
     ("jobctl --help", True, False, "Why a job does not run: jobscope why LABEL. Manual pages: jobctl(1), jobscope(1), jobd.json(5), jobd(8).\n"),
     ("jobctl start --help", True, False, "jobctl --help lists the exit statuses."),
     ("jobctl --help", True, False, "\nKivgrond 0.3.0\n"),
@@ -382,7 +382,7 @@ NAMES = [
 ]
 
 # What each program says of a word that is not UTF-8.
-NO_TEXT = {b"jobd": b"jobd: a word is not UTF-8\n", b"jobctl": b"jobctl: a word is not UTF-8\n", b"jobscope": b"jobscope: invalid data\n"}
+NO_TEXT = {b"jobd": b"jobd: an argument is not UTF-8\n", b"jobctl": b"jobctl: an argument is not UTF-8\n", b"jobscope": b"jobscope: invalid data\n"}
 
 # A subcommand of each program alone, whose help is asked for.
 OWN_WORD = {b"jobd": b"replay", b"jobctl": b"kickstart", b"jobscope": b"picture"}

@@ -109,7 +109,7 @@ pub(crate) fn read_applied(
         Ok(data) if !data.is_file() || data.uid() != user => {
             return Err(io::Error::new(
                 io::ErrorKind::InvalidInput,
-                "it is no plain file of the launcher's user",
+                "it is not a plain file of the launcher's user",
             ));
         }
         Ok(_) => {}

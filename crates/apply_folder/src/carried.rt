@@ -173,9 +173,9 @@ fn waited(host: &HostRuntime, waiting: &mut Waiting) -> u64 {
 fn tell_wait(host: &HostRuntime, task: &Task<'_>, most: u64) {
     let label = task.label;
     let _written = if task.exit_time_out == 0 {
-        eprintln!(host; "jobctl: apply: waits for {label} to end, without bound (ExitTimeOut 0)")
+        eprintln!(host; "jobctl: apply: waits without limit until {label} exits (ExitTimeOut 0)")
     } else {
-        eprintln!(host; "jobctl: apply: waits for {label} to end, {most} seconds at most")
+        eprintln!(host; "jobctl: apply: waits until {label} exits, at most {most} seconds")
     };
 }
 

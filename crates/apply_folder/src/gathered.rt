@@ -358,7 +358,7 @@ fn contents_of(alloc: Global, text: String) -> Result<Contents, AllocError> {
             digest: String::new(alloc),
             standing: Standing::Unread,
             text,
-            why: String::from_str(alloc, "no JSON")?,
+            why: String::from_str(alloc, "not JSON")?,
         }),
     }
 }

@@ -41,7 +41,7 @@ fn write_own(
     if Standing::read(host).user != Some(user) {
         return Err(io::Error::new(
             io::ErrorKind::PermissionDenied,
-            "it is written by the launcher's own user alone",
+            "only the launcher's own user writes it",
         ));
     }
     write_applied(host, alloc, path, text)

@@ -78,7 +78,7 @@ pub(crate) fn look_at(
         thread::sleep(host, Duration::from_millis(BETWEEN));
     }
     let _written = eprintln!(host;
-        "jobctl: apply: {path}: it is not there, or is behind, so it does not say what is loaded"
+        "jobctl: apply: {path}: it does not exist or is out of date, so it does not say what is loaded"
     );
     Err(Stop::Told(NO_ANSWER))
 }
@@ -91,7 +91,7 @@ fn checked(host: &HostRuntime, path: &str, look: Look) -> Result<Look, Stop> {
         }
     }
     drop(look);
-    match stale(host, path, "its launcher tells no definition") {
+    match stale(host, path, "its launcher does not report job definitions") {
         Ok(()) => Err(Stop::Told(NO_ANSWER)),
         Err(stop) => Err(stop),
     }
@@ -139,7 +139,7 @@ fn tell_trouble(host: &HostRuntime, path: &str, trouble: Trouble) -> Stop {
     let _written = match trouble {
         Trouble::NoMemory | Trouble::Line(_, StatusFault::NoMemory) => return Stop::NoMemory,
         Trouble::Read(error) => eprintln!(host; "jobctl: apply: {path}: {error}"),
-        _ => eprintln!(host; "jobctl: apply: {path}: it is no whole status file"),
+        _ => eprintln!(host; "jobctl: apply: {path}: it is not a complete status file"),
     };
     Stop::Told(NO_ANSWER)
 }
@@ -175,14 +175,14 @@ fn check_launcher(
     places: &Option<Places>,
 ) -> Result<(), Stop> {
     let Some(launcher) = standing.launcher() else {
-        return stale(host, path, "it names no launcher");
+        return stale(host, path, "it does not name a launcher");
     };
     if let Life::Gone = standing.life {
-        return stale(host, path, "the launcher that wrote it has ended");
+        return stale(host, path, "the launcher that wrote it has exited");
     }
     match places {
         Some(places) if !is_of(places, &launcher) => {
-            stale(host, path, "it is of another launcher")
+            stale(host, path, "another launcher wrote it")
         }
         _ => Ok(()),
     }
@@ -317,7 +317,7 @@ pub(crate) fn status_path(
         }
         _ => {
             let _written = eprintln!(host;
-                "jobctl: apply: the launcher at {socket} keeps no status file (JOBD_STATUS_FILE), so nothing tells what is loaded"
+                "jobctl: apply: the launcher at {socket} has no status file (JOBD_STATUS_FILE), so it is not known what is loaded"
             );
             Err(Stop::Told(NO_ANSWER))
         }

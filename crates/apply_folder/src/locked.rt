@@ -41,14 +41,14 @@ pub(crate) fn lock_beside(
             }
             Err(error) => {
                 let _written = eprintln!(host;
-                    "jobctl: apply: {socket}{BEHIND}: {error}: another apply is not waited for"
+                    "jobctl: apply: {socket}{BEHIND}: {error}: it does not wait for another apply"
                 );
                 return Ok(None);
             }
         }
     }
     let _written = eprintln!(host;
-        "jobctl: apply: {socket}{BEHIND}: held by another apply for a minute"
+        "jobctl: apply: {socket}{BEHIND}: another apply has held it for a minute"
     );
     Err(Stop::Told(NO_ANSWER))
 }

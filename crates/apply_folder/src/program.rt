@@ -34,17 +34,23 @@ const HELP: &str = "Brings files and folders of job definitions into effect
 
 Usage: jobctl [--socket PATH] apply [--dry-run] [--prune] [--now] [--strict] [--wait] [--json] [--] PATH..
 
-A line for each step is printed: what is new is loaded, what changed is unloaded and loaded, and what is the same is not touched. No run is ended but that of a job that is kept alive.
+It loads what is new, unloads and loads again what changed, and leaves the rest as it is. It prints a line for each step. It stops no run, except that of a job that is kept alive and changed.
 
-  --dry-run  Show the plan and do nothing
-  --prune    Unload what an earlier apply of the folder loaded and no file names any more
-  --now      End the runs of jobs that changed
-  --strict   Do nothing if a definition has a warning
-  --wait     Wait for the ends of runs, and then bring their files into effect
-  --json     An object for each step
-  --socket PATH  The launcher's control socket; where absent, that of JOBD_SOCKET, else jobd.sock
+  --dry-run  Show the steps, and do nothing
+  --prune    Unload what an earlier apply of the folder loaded and no file has any more
+  --now      Stop the runs of jobs that changed
+  --strict   Do nothing if a job definition has a warning
+  --wait     Wait until runs exit, and then bring their files into effect
+  --json     Print a JSON object for each step
+  --socket PATH  The launcher's control socket (default: JOBD_SOCKET, else jobd.sock)
 
-Exit status: 0 in effect, 2 something was left or waits, 65 a file can't be read; else the launcher's first refusal, 64 these words are no command, 69 no answer from the launcher.
+Exit status:
+   0 in effect
+   2 something was left, or waits
+  64 invalid arguments
+  65 a file can't be read
+  69 no answer from the launcher
+Otherwise it is the code of the launcher's first refusal.
 ";
 
 /// The name of the file in the folder of the launcher's store.
@@ -86,7 +92,9 @@ fn tell_wrong(host: &HostRuntime, alloc: Global, why: &'static str, word: &str) 
     let Ok(word) = plain(alloc, word) else {
         return want_memory(host);
     };
-    let _written = eprintln!(host; "jobctl: apply: {why}{word}; jobctl apply --help has the words");
+    let _written = eprintln!(host;
+        "jobctl: apply: {why}{word}; jobctl apply --help lists the options"
+    );
     drop(word);
     USAGE
 }
@@ -203,7 +211,7 @@ fn places_of(host: &HostRuntime, alloc: Global, socket: &str) -> Result<Option<P
         }
         Err(PlacesFault::NotPlaces) => {
             let _written = eprintln!(host;
-                "jobctl: apply: {socket}.places: no places of a launcher"
+                "jobctl: apply: {socket}.places: it is not a file of a launcher's places"
             );
             Ok(None)
         }
@@ -295,7 +303,7 @@ fn state_path(alloc: Global, places: &Option<Places>) -> Result<Option<String>, 
 fn tell_no_state(host: &HostRuntime, words: &ApplyWords) {
     if words.flags.prune {
         let _written = eprintln!(host;
-            "jobctl: apply: what an earlier apply loaded is not known, so nothing is pruned"
+            "jobctl: apply: it is not known what an earlier apply loaded, so nothing is pruned"
         );
     }
 }
@@ -312,7 +320,7 @@ fn with_state(
         Err(error) if error.kind() == ErrorKind::OutOfMemory => return Err(Stop::NoMemory),
         Err(error) => {
             let _written = eprintln!(host;
-                "jobctl: apply: {state}: {error}: what an earlier apply loaded is not known, so nothing is pruned"
+                "jobctl: apply: {state}: {error}: it is not known what an earlier apply loaded, so nothing is pruned"
             );
             drop(error);
             (Applied::nothing(ground.alloc), false)
@@ -561,7 +569,7 @@ fn show_goes_on(
         label: file.label.as_str(),
         file: file.path.as_str(),
         keys: "[]",
-        reason: "it is loaded, and goes on until it is unloaded",
+        reason: "it is loaded, and stays loaded until it is unloaded",
         done: false,
     };
     show(host, alloc, scene.flags.json, &line)
@@ -585,7 +593,7 @@ fn show_left_out(
         let label = file.label.as_str();
         if !file.is_named() && named.binary_search(&label).is_ok() {
             progress.has_twice = true;
-            let reason = format!(in alloc; "{label}.json decides; {} is left out", file.name())?;
+            let reason = format!(in alloc; "{label}.json is used; {} is ignored", file.name())?;
             let line = Line {
                 word: "twice",
                 label,

@@ -171,7 +171,7 @@ fn put_unload(around: &Around<'_>, label: &str, keys: &[String], ink: &mut Ink) 
             ink.put(", load ");
             ink.put_plain(heir.label.as_str());
         }
-        None => ink.put("its file is gone since the last apply of this folder: unload"),
+        None => ink.put("its file was removed after the last apply of this folder: unload"),
     }
 }
 
@@ -187,7 +187,7 @@ fn put_left(
         Reason::Runs => put_running(around, file, keys, ink),
         Reason::Several => put_several(around.files, label, ink),
         Reason::Orphan => ink.put(
-            "its file is gone since the last apply of this folder: left (--prune unloads it)",
+            "its file was removed after the last apply of this folder: left (--prune unloads it)",
         ),
         Reason::LeftAtBoot => put_at_boot(file, ink),
         Reason::Goes if file.is_some() => ink.put("it is still being removed: waits for it"),
@@ -203,16 +203,16 @@ fn put_running(around: &Around<'_>, file: Option<&Filed>, keys: &[String], ink: 
             ink.put(" changed");
         }
     } else {
-        ink.put("its file is gone");
+        ink.put("its file was removed");
     }
     if let Some(job) = around.job {
         ink.put_all(&[Text("; run "), Number(job.run), Text(" has run since ")]);
         put_clock(around, job.since, ink);
     }
     ink.put(if around.waits {
-        ": waits for its end"
+        ": waits until it exits"
     } else {
-        ": left (--wait waits for its end, --now ends it)"
+        ": left (--wait waits until it exits, --now stops it)"
     });
 }
 
@@ -289,7 +289,7 @@ pub(crate) fn outcome_text(
         Outcome::Done => return Ok(None),
         Outcome::Left(why) => ink.put_all(&[Text(reason_text(*why)), Text(": left")]),
         Outcome::Late => ink.put(
-            "it has not ended in time, and is still being removed: apply again",
+            "it has not exited in time, and is still being removed: apply again",
         ),
         Outcome::Refused(code, text) => {
             let is_load = matches!(step.operation, Operation::Load(_));
@@ -299,16 +299,16 @@ pub(crate) fn outcome_text(
         Outcome::Restored(code, text) => {
             ink.put("load ");
             put_refused(*code, text.as_str(), &mut ink);
-            ink.put("; its definition of before is loaded again");
+            ink.put("; its previous definition is loaded again");
         }
         Outcome::Down(code, text) => {
             ink.put_plain(step.label);
             ink.put(" is DOWN: load ");
             put_refused(*code, text.as_str(), &mut ink);
             ink.put(if has_before {
-                "; its definition of before was refused too"
+                "; its previous definition was refused too"
             } else {
-                "; its definition of before is not known"
+                "; its previous definition is not known"
             });
         }
     }

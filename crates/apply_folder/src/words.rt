@@ -185,7 +185,7 @@ impl WordReader {
 
     fn take_socket(&mut self, alloc: Global, word: &str) -> Result<(), AllocError> {
         if word.ends_with(MARK) {
-            return self.refuse(alloc, "a word is not UTF-8", "");
+            return self.refuse(alloc, "an argument is not UTF-8", "");
         }
         self.words.socket = Some(Text::copy_of(alloc, word)?);
         Ok(())
@@ -207,7 +207,7 @@ impl WordReader {
         }
         match wish_of(word) {
             Some(wish) => self.words.flags = self.words.flags.with(wish),
-            None => return self.refuse(alloc, "no option of apply: ", word),
+            None => return self.refuse(alloc, "unknown option: ", word),
         }
         Ok(())
     }
@@ -234,11 +234,11 @@ impl WordReader {
         match wrong {
             Some((why, word)) => Ok(Meant::Wrong(why, word)),
             None if wants_socket => Ok(Meant::Wrong(
-                "--socket wants a path",
+                "--socket needs a path",
                 Text::copy_of(alloc, "")?,
             )),
             None if words.paths.is_empty() => Ok(Meant::Wrong(
-                "apply wants a file or a folder",
+                "name a file or a folder",
                 Text::copy_of(alloc, "")?,
             )),
             None => Ok(Meant::Apply(words)),

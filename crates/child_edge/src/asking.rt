@@ -175,10 +175,10 @@ fn refusal_of(answer: Answer) -> Option<io::Error> {
     let words = match answer {
         Answer::Refused { error } => return Some(error_of(error)),
         Answer::Shut => return Some(no_answer()),
-        Answer::Fifo => "is a FIFO, and no plain file",
-        Answer::Socket => "is a socket, and no plain file",
-        Answer::Folder => "is a folder, and no plain file",
-        Answer::Device => "is a device whose open may wait, and no plain file",
+        Answer::Fifo => "is a FIFO, not a plain file",
+        Answer::Socket => "is a socket, not a plain file",
+        Answer::Folder => "is a folder, not a plain file",
+        Answer::Device => "is a device whose open may wait, not a plain file",
         _ => return None,
     };
     Some(io::Error::new(ErrorKind::InvalidInput, words))

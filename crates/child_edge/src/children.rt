@@ -182,7 +182,7 @@ impl<P: OpenProcess + Drop> Children<P> {
             Ok(None) => shell.term(rt, child.id()),
             Ok(Some(_)) => Ok(()),
             Err(_) => Err(io::Error::other(
-                "it can't be waited for, so its number may be another's",
+                "it can't be waited for, so its PID may be another process's",
             )),
         }
     }

@@ -158,7 +158,7 @@ impl Connections {
                 Ok(())
             }
             Err(error) => {
-                let form = "a client was let go: cannot spool its request in $: $";
+                let form = "a client was disconnected: cannot spool its request in $: $";
                 let holes = [Words(self.folder.as_str()), Error(error)];
                 notices.refused(key.0, Asked::Spool, label, None, form, &holes);
                 Err(error)

@@ -80,33 +80,33 @@ impl LetGo {
         match self {
             LetGo::Still => (
                 Asked::Client,
-                "a client was let go: it took nothing of its reply for a minute",
+                "a client was disconnected: it took nothing of its reply for a minute",
                 Number(0),
             ),
-            LetGo::Write(error) => (Asked::Client, "a client was let go: $", Error(error)),
+            LetGo::Write(error) => (Asked::Client, "a client was disconnected: $", Error(error)),
             LetGo::Read(error) => (
                 Asked::Client,
-                "a client was let go: cannot read its reply: $",
+                "a client was disconnected: cannot read its reply: $",
                 Error(error),
             ),
             LetGo::Job(count) => (
                 Asked::Over,
-                "a client was let go: it takes nothing, and so do $ others of the job",
+                "a client was disconnected: it takes nothing, like $ others of the job",
                 Number(count as u64),
             ),
             LetGo::Room(count) => (
                 Asked::Room,
-                "a client was let go: it takes nothing, and $ connections are held",
+                "a client was disconnected: it takes nothing, and $ connections are open",
                 Number(count as u64),
             ),
             LetGo::NoRoom(count) => (
                 Asked::NoRoom,
-                "a client was let go: $ connections are held",
+                "a client was disconnected: $ connections are open",
                 Number(count as u64),
             ),
             LetGo::Share => (
                 Asked::Share,
-                "a client was let go: the job has its share of the connections",
+                "a client was disconnected: the job has its share of the connections",
                 Number(0),
             ),
         }
@@ -179,7 +179,7 @@ impl Notices {
 
     // Without memory for the line itself it is logged later.
     fn short(&mut self) -> Option<Notice> {
-        let text = filled(self.alloc, "a request was refused: memory was refused", &[])?;
+        let text = filled(self.alloc, "a request was refused: no memory", &[])?;
         self.is_short = false;
         Some(Notice {
             kind: NoticeKind::Refusal,
@@ -244,7 +244,7 @@ impl Notices {
     /// A start found that a file of its connection is lost.
     pub(crate) fn spool_lost(&mut self, start: Start<'_>, failure: Failure) {
         let (_, file) = failure.said(start.def);
-        let form = "a client was let go: cannot open $: $";
+        let form = "a client was disconnected: cannot open $: $";
         self.start_refused(start, Asked::Spool, form, file, failure.error);
     }
 
@@ -389,7 +389,7 @@ impl Notices {
     // A check of the path was refused, for this reason.
     fn unseen(&mut self, path: &str, error: io::Error) {
         let holes = [Words(path), Error(error)];
-        let Some(reason) = filled(self.alloc, "cannot look at $: $", &holes) else {
+        let Some(reason) = filled(self.alloc, "cannot check $: $", &holes) else {
             return;
         };
         let is_told = match self.paths.get(path) {
@@ -424,7 +424,7 @@ impl Notices {
     pub(crate) fn alone(&mut self) {
         if self.has_place() {
             let form =
-                "no look-out can be started from /proc/self/exe: a path that hangs stops the launcher";
+                "no helper process can be started from /proc/self/exe: a path that hangs stops the launcher";
             let line = filled(self.alloc, form, &[]);
             self.add(NoticeKind::Refusal, line);
         }

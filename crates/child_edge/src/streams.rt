@@ -237,13 +237,13 @@ fn allow(data: io::Result<Metadata>) -> io::Result<()> {
 
 fn words_of(kind: FileType) -> &'static str {
     if kind.is_fifo() {
-        "is a FIFO, and no plain file"
+        "is a FIFO, not a plain file"
     } else if kind.is_socket() {
-        "is a socket, and no plain file"
+        "is a socket, not a plain file"
     } else if kind.is_dir() {
-        "is a folder, and no plain file"
+        "is a folder, not a plain file"
     } else {
-        "is a device whose open may wait, and no plain file"
+        "is a device whose open may wait, not a plain file"
     }
 }
 

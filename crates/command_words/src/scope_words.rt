@@ -287,7 +287,7 @@ const SUBCOMMANDS: &[Subcommand] = &[
     },
     Subcommand {
         name: "log",
-        about: "Print the events of a journal in plain words",
+        about: "Print the events of a journal in plain English",
         after: SEE_EXIT,
         arguments: LOG,
     },

@@ -50,9 +50,9 @@ impl Display for Fault {
             Fault::NotText => "not UTF-8",
             Fault::TooLong => "too long for a request",
             Fault::LongRecord => "too long for a line of the journal",
-            Fault::NoReply => "no reply came",
+            Fault::NoReply => "no reply",
             Fault::LongReply => "the reply is too long",
-            Fault::BadReply => "what came is no reply",
+            Fault::BadReply => "what came is not a reply",
         };
         f.write_str(text)
     }

@@ -68,7 +68,7 @@ fn text_about(alloc: Global, asked: &Asked<'_>, list: &str) -> Result<String, Al
         if asked.is_disabled {
             put_front(
                 asked.label,
-                " is loaded, and goes on until it is unloaded\n",
+                " is loaded, and stays loaded until it is unloaded\n",
                 &mut text,
             )?;
         }

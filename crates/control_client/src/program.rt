@@ -201,7 +201,7 @@ fn has_more_marks(words: &[String], command: &Command) -> bool {
 }
 
 fn refuse_mark<R: Eprint>(rt: &R) -> u8 {
-    let _written = eprintln!(rt; "jobctl: a word is not UTF-8");
+    let _written = eprintln!(rt; "jobctl: an argument is not UTF-8");
     USAGE
 }
 
@@ -218,7 +218,7 @@ pub fn tell_setting<R: Eprint>(rt: &R, fault: SettingFault) -> u8 {
     let (name, why) = match fault {
         SettingFault::NoMemory => return want_memory(rt),
         SettingFault::Socket => ("JOBD_SOCKET", "not UTF-8"),
-        SettingFault::Patience => ("JOBCTL_TIMEOUT", "no number of seconds"),
+        SettingFault::Patience => ("JOBCTL_TIMEOUT", "not a number of seconds"),
     };
     let _written = eprintln!(rt; "jobctl: {name}: {why}");
     USAGE

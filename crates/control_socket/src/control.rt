@@ -816,7 +816,7 @@ fn lock_beside<R: Files<File = File>>(rt: &R, alloc: Global, path: &str) -> io::
                 Error::new(ErrorKind::AddrInUse, "another launcher holds its lock")
             }
             ErrorKind::AlreadyExists => {
-                Error::new(ErrorKind::AddrInUse, "its lock is no plain file")
+                Error::new(ErrorKind::AddrInUse, "its lock is not a plain file")
             }
             _ => error,
         }),

@@ -196,13 +196,13 @@ fn is_going_away(kind: ErrorKind) -> bool {
 fn line_of(alloc: Global, told: Told, error: Option<Error>) -> Result<String, AllocError> {
     let what = match told {
         Told::Accept => "cannot accept",
-        Told::Client => "a client was let go",
-        Told::NoMemory => "a client was let go: no memory",
-        Told::Look => "cannot look at its file",
-        Told::NoFile => "its file is gone, and can't be made again",
-        Told::File => "its file was gone, and is made again",
-        Told::NoLock => "its lock's file is gone, and can't be made again",
-        Told::Lock => "its lock's file was gone, and is made again",
+        Told::Client => "a client was disconnected",
+        Told::NoMemory => "a client was disconnected: no memory",
+        Told::Look => "cannot check its file",
+        Told::NoFile => "its file was removed, and can't be made again",
+        Told::File => "its file was removed, and is made again",
+        Told::NoLock => "its lock's file was removed, and can't be made again",
+        Told::Lock => "its lock's file was removed, and is made again",
     };
     match error {
         Some(error) => format!(in alloc; "control socket: {what}: {error}"),

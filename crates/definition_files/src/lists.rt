@@ -110,7 +110,7 @@ fn add_list(
         Ok(made) if !made.starts_with(b"{") => {
             drop(made);
             let _written = eprintln!(host;
-                "{path}: error: its value is no <dict>, as a definition is"
+                "{path}: error: its value is not a <dict>, as a job definition is"
             );
             Ok(Verdict::Refused)
         }

@@ -167,7 +167,7 @@ pub fn tell_clockless(host: &HostRuntime, name: &str, clockless: u64, jobs: u64)
     }
     let has = if clockless == 1 { "has" } else { "have" };
     line.fill(
-        "$ of $ $ no clock\n",
+        "$ of $ $ no schedule\n",
         &[Number(clockless), Number(jobs), Text(has)],
     );
     tell_line(host, line);

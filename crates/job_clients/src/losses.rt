@@ -132,7 +132,7 @@ impl Losses {
         if self.waiting.len() >= ROOM {
             return false;
         }
-        match format!(in self.alloc; "{label}: a client was let go: {reason}") {
+        match format!(in self.alloc; "{label}: a client was disconnected: {reason}") {
             Ok(line) => self.waiting.push_back(Text::new(line)).is_ok(),
             Err(_) => false,
         }

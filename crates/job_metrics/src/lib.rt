@@ -120,20 +120,20 @@ fn family_help(family: Family) -> &'static str
     ensures { result.now ≡ family_help family }
 {
     match family {
-        Family::Up => "Whether the launcher lives.",
+        Family::Up => "Whether the launcher is running.",
         Family::JournalOpen => "Whether the journal of the launcher is open.",
-        Family::Told => "When the launcher told how it stands.",
-        Family::LeftOut => "Definitions that were not loaded at the boot, and are not since.",
-        Family::Running => "Whether a run of the job lives.",
-        Family::Starts => "Starts that were ordered since the load, refused ones too.",
-        Family::Failures => "Runs since the load that did not end with code 0.",
+        Family::Told => "When the launcher wrote the status file.",
+        Family::LeftOut => "Job definitions that were not loaded at boot, nor since.",
+        Family::Running => "Whether a run of the job is running.",
+        Family::Starts => "Starts that were ordered since the load, including refused ones.",
+        Family::Failures => "Runs since the load that did not exit with code 0.",
         Family::Refusals => "Starts since the load that the system refused.",
-        Family::LastEnd => "When the last run of the job ended.",
-        Family::NextStart => "When the job starts next by the clocks alone.",
+        Family::LastEnd => "When the last run of the job exited.",
+        Family::NextStart => "When the job is scheduled to start next.",
         Family::LastSuccess => "When a run of the job last exited with code 0, since its load.",
         Family::LastExit =>
-            "The exit code of the last run of the job, or 128 and the signal that ended it.",
-        Family::Resident => "The memory that the process of the job has.",
+            "The exit code of the last run of the job, or 128 plus the signal that killed it.",
+        Family::Resident => "The resident memory of the process of the job.",
         Family::Processor => "The processor time that the process of the job has used.",
         Family::Disabled => "Whether the label of the job is disabled.",
     }

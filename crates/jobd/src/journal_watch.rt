@@ -109,7 +109,7 @@ impl<R: System> JournalWatch<R> {
         self.is_told = true;
         let path = self.path.as_str();
         let line = format!(in self.alloc;
-            "journal {path}: it was renamed or removed, and is written on where it is now"
+            "journal {path}: it was renamed or removed; the launcher goes on writing to the same file"
         );
         if let Ok(line) = line {
             let notice = Notice {

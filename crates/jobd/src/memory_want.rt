@@ -5,7 +5,7 @@ use history_model::Text;
 use std::alloc::Global;
 
 /// What the launcher logs of a clock reading for which it had no memory.
-const WANTING: &str = "a clock reading was refused: memory was refused";
+const WANTING: &str = "a clock reading was refused: no memory";
 
 /// What became of the last clock reading.
 #[derive(Drop)]

@@ -182,7 +182,7 @@ fn group_of<R: System + Env>(rt: &R, plan: &Plan) -> Option<u32> {
             level,
             STATUS_GROUP,
             word.as_str(),
-            &"it is no number of a group",
+            &"it is not the number of a group",
         );
     }
     drop(word);

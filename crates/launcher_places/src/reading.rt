@@ -33,9 +33,12 @@ pub fn owner_of<R: Files>(rt: &R, path: &str) -> io::Result<u32> {
 pub fn check_own_file<R: Files>(rt: &R, path: &str, owner: u32) -> io::Result<()> {
     let data = fs::symlink_metadata(rt, path)?;
     if !data.is_file() {
-        Err(Error::new(ErrorKind::InvalidInput, "it is no plain file"))
+        Err(Error::new(ErrorKind::InvalidInput, "it is not a plain file"))
     } else if data.uid() != owner && data.uid() != 0 {
-        Err(Error::new(ErrorKind::InvalidInput, "it is not of the launcher's user"))
+        Err(Error::new(
+            ErrorKind::InvalidInput,
+            "the launcher's user does not own it",
+        ))
     } else {
         Ok(())
     }

@@ -385,5 +385,8 @@ fn put(text: &mut Vec<u8>, asks: Asks, path: &str) -> Result<(), AllocError> {
 }
 
 fn full() -> io::Error {
-    io::Error::new(ErrorKind::TimedOut, "16 look-outs have not gone yet")
+    io::Error::new(
+        ErrorKind::TimedOut,
+        "16 helper processes have not exited yet",
+    )
 }

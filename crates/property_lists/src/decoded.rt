@@ -3,13 +3,13 @@
 use crate::fault::Wrong;
 use std::alloc::AllocError;
 
-const UNKNOWN: &str = "&$; is no entity of XML";
+const UNKNOWN: &str = "&$; is not an XML entity";
 
 /// Adds the letters of the text: each entity is decoded once, and an end of a line is a newline. Refused: an entity that XML does not know
 /// by itself, `&` without an entity, and `]]>`. A refusal leaves what was added before.
 pub(crate) fn add_decoded<'a>(text: &'a str, into: &mut String) -> Result<(), Wrong<'a>> {
     if text.contains("]]>") {
-        return Err(Wrong::Because("]]> stands outside of a CDATA section", ""));
+        return Err(Wrong::Because("]]> is outside of a CDATA section", ""));
     }
     let mut is_first = true;
     for part in text.split('&') {
@@ -17,7 +17,7 @@ pub(crate) fn add_decoded<'a>(text: &'a str, into: &mut String) -> Result<(), Wr
             part
         } else {
             let Some((name, behind)) = part.split_once(';') else {
-                return Err(Wrong::Because("& begins no entity; wanted &amp;", ""));
+                return Err(Wrong::Because("& does not begin an entity; expected &amp;", ""));
             };
             match letter_of(name) {
                 Some(letter) => into.push(letter)?,

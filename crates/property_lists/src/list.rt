@@ -158,7 +158,7 @@ fn checked<'a>(alloc: Global, made: Vec<u8>) -> Result<Vec<u8>, ListFault<'a>>
             drop(made);
             Err(ListFault::Refused {
                 line: 1,
-                why: "it has no value that JSON has",
+                why: "it has no value that JSON can express",
                 found: "",
             })
         }
@@ -174,7 +174,7 @@ fn read_all<'a>(text: &'a str, making: &mut Making<'a>) -> Option<(Wrong<'a>, us
     if let Some(offset) = text.find(is_none) {
         let left = text.len().saturating_sub(offset);
         return Some((
-            Wrong::Because("a control character is no part of XML", ""),
+            Wrong::Because("XML does not allow control characters", ""),
             left,
         ));
     }
@@ -253,7 +253,7 @@ fn take_between<'a>(making: &mut Making<'a>, mark: Mark<'a>) -> Result<(), Wrong
             if text.trim_start_matches(is_blank).is_empty() {
                 Ok(())
             } else {
-                Err(Wrong::Because("a text stands between elements", ""))
+                Err(Wrong::Because("there is text between elements", ""))
             }
         }
         Mark::Open(name) => begin(making, name),
@@ -266,7 +266,7 @@ fn take_between<'a>(making: &mut Making<'a>, mark: Mark<'a>) -> Result<(), Wrong
             making.stage = Stage::Named;
             Ok(())
         }
-        Mark::Doctype => Err(Wrong::Because("the DOCTYPE line stands behind <plist>", "")),
+        Mark::Doctype => Err(Wrong::Because("the DOCTYPE line comes after <plist>", "")),
         Mark::Nothing | Mark::End => Ok(()),
     }
 }
@@ -288,7 +288,7 @@ fn begin<'a>(making: &mut Making<'a>, name: &'a str) -> Result<(), Wrong<'a>> {
         return Ok(());
     }
     let Some(element) = element_named(name) else {
-        return Err(Wrong::Because("<$> is no element of a property list", name));
+        return Err(Wrong::Because("<$> is not an element of a property list", name));
     };
     if let Some(why) = misplaced(making, element) {
         return Err(Wrong::Because(why, name));
@@ -307,24 +307,21 @@ fn begin<'a>(making: &mut Making<'a>, name: &'a str) -> Result<(), Wrong<'a>> {
 fn misplaced(making: &Making<'_>, element: Element) -> Option<&'static str> {
     let is_key = matches!(element, Element::Leaf(Leaf::Key));
     match making.stage {
-        Stage::Before | Stage::Named => return Some("<$> stands before <plist>"),
-        Stage::Behind | Stage::Done => return Some("<$> stands behind the list's value"),
+        Stage::Before | Stage::Named => return Some("<$> comes before <plist>"),
+        Stage::Behind | Stage::Done => return Some("<$> comes after the list's value"),
         Stage::Within => {}
     }
     match making.open.last() {
-        Some(Inside::Key) if !is_key => Some("<$> stands where a <key> is wanted"),
+        Some(Inside::Key) if !is_key => Some("<$> is where a <key> is expected"),
         Some(Inside::Key) => None,
-        _ if is_key => Some("<$> stands where a value is wanted"),
+        _ if is_key => Some("<$> is where a value is expected"),
         _ => None,
     }
 }
 
 fn open<'a>(making: &mut Making<'a>, inside: Inside) -> Result<(), Wrong<'a>> {
     if making.open.len() >= DEEPEST {
-        return Err(Wrong::Because(
-            "more than 127 dictionaries and arrays stand in one another",
-            "",
-        ));
+        return Err(Wrong::Because("more than 127 <dict> and <array> elements are nested", ""));
     }
     if making.open.push(inside).is_err() {
         return Err(Wrong::NoMemory);
@@ -351,7 +348,7 @@ fn end<'a>(making: &mut Making<'a>, name: &'a str) -> Result<(), Wrong<'a>> {
         (Some(Inside::Value), "dict") => {
             return Err(Wrong::Because("the last <key> of a <dict> has no value", ""));
         }
-        _ => return Err(Wrong::Because("</$> does not end what was begun last", name)),
+        _ => return Err(Wrong::Because("</$> does not close the last open element", name)),
     };
     put?;
     value_ended(making);

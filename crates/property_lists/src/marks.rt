@@ -29,7 +29,7 @@ const ROOT: &str = "plist";
 /// Its versions.
 const VERSIONS: &[&str] = &["version=\"1.0\"", "version='1.0'", "version=\"0.9\""];
 
-const HEAD: &str = "<?xml ..?> does not stand first, or is not version=\"1.0\" encoding=\"UTF-8\"";
+const HEAD: &str = "<?xml ..?> is not first, or is not version=\"1.0\" encoding=\"UTF-8\"";
 
 /// What a first line of XML may have.
 const HEAD_WORDS: &[&str] = &[
@@ -90,7 +90,7 @@ pub(crate) fn next_mark(text: &str) -> Result<(Mark<'_>, &str), Wrong<'_>> {
         };
     }
     let Some((tag, behind)) = inner.split_once('>') else {
-        return Err(Wrong::Because("an element's mark has no >", ""));
+        return Err(Wrong::Because("a tag has no >", ""));
     };
     if tag.starts_with('!') {
         return match declaration(tag) {
@@ -118,7 +118,7 @@ fn passed<'a>(
 // What is wrong with what is between `<` and `>` and begins with `!`: anything but the DOCTYPE line of a list.
 fn declaration(tag: &str) -> Option<&'static str> {
     if !tag.starts_with("!DOCTYPE ") {
-        Some("a declaration <!.. is no part of a property list")
+        Some("a declaration <!.. is not part of a property list")
     } else if tag.contains('[') {
         Some("a DOCTYPE with declarations of its own is not read")
     } else {

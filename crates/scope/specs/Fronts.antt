@@ -22,7 +22,7 @@ front_of_order Gone = codes "  An answer is awaited."
 -- of the child
 abbrev pub front_of_child : StandingChild → List ℕ
 front_of_child child =
-    (codes "  Run " ++ decimal child.run) ++ (codes " lives, process " ++ decimal child.pid)
+    (codes "  Run " ++ decimal child.run) ++ (codes " is running, PID " ++ decimal child.pid)
 
 -- of this many connections
 abbrev pub front_of_connections : ℕ → List ℕ

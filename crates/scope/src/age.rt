@@ -53,7 +53,7 @@ pub(crate) fn add_head(page: &mut Page<'_>, as_of: AsOf, last: Reading) {
 
 fn add_age(page: &mut Page<'_>, now: u64, last: u64) {
     if now < last {
-        page.ink.put("which is behind what the clock shows now.\n");
+        page.ink.put("which is later than the clock shows now.\n");
         return;
     }
     let age = (now - last).saturating_mul(SECOND);
@@ -64,14 +64,14 @@ fn add_age(page: &mut Page<'_>, now: u64, last: u64) {
 fn add_writer(page: &mut Page<'_>, writer: Option<Writer>) {
     match writer {
         Some(Writer::Process(pid)) => page.add(
-            "The launcher that writes this journal lives (process $): spans are up to now.\n",
+            "The launcher that writes this journal is running (PID $): durations are measured to the present.\n",
             &[Number(u64::from(pid))],
         ),
         Some(Writer::Nobody) => page.ink.put(
-            "No launcher writes this journal now: it ended or was killed.\n",
+            "No launcher writes this journal now: it exited or was killed.\n",
         ),
         Some(Writer::Unknown) => page.ink.put(
-            "Whether a launcher writes this journal now is not known: /proc/locks can't be read.\n",
+            "It is not known whether a launcher writes this journal now: /proc/locks can't be read.\n",
         ),
         None => {}
     }

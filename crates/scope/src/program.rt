@@ -97,7 +97,7 @@ fn clash_of_next(of: &ScopeCommand) -> Option<&'static str> {
     match (of.words.as_slice().is_empty(), names_zone, is_of_loaded) {
         (true, true, _) => Some("jobscope: next: --zone and --zone-file need a PATH\n"),
         (false, _, true) => Some(
-            "jobscope: next: --journal, --status-file and --all stand without a PATH\n",
+            "jobscope: next: --journal, --status-file and --all can't be given with a PATH\n",
         ),
         _ => None,
     }

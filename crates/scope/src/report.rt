@@ -312,7 +312,7 @@ fn put_failed(
     put_errors(host, alloc, failed.as_slice(), is_seen)
 }
 
-// Why each job stands as it does, as objects. The exit status is 2 if failing jobs are asked for, and there is one.
+// Why each job runs or not, as objects. The exit status is 2 if failing jobs are asked for, and there is one.
 fn put_objects(
     host: &HostRuntime,
     alloc: Global,
@@ -388,10 +388,10 @@ fn why_sought(record: &Record) -> Option<&'static str> {
         (Some(_), _) => Some("whose last start was refused"),
         (None, Some(run)) => match run.end {
             RunEnd::Code(126) => {
-                Some("whose last run ended with 126, as a program that may not be run")
+                Some("whose last run exited with 126, as if the program can't be executed")
             }
             RunEnd::Code(127) => {
-                Some("whose last run ended with 127, as a program that is not there")
+                Some("whose last run exited with 127, as if the program is missing")
             }
             _ => None,
         },

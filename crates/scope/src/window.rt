@@ -64,7 +64,7 @@ fn moment_of(host: &HostRuntime, option: &str, text: &Option<Text>) -> Result<Op
     let moment = read_moment(text);
     if moment.is_none() {
         let wanted = WANTED;
-        let _written = eprintln!(host; "jobscope: {option} {text:?}: wanted {wanted}");
+        let _written = eprintln!(host; "jobscope: {option} {text:?}: expected {wanted}");
         return Err(USAGE);
     }
     Ok(moment)

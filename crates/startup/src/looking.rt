@@ -188,7 +188,7 @@ fn bytes_at<R: fs::Files<File = File>>(rt: &R, alloc: Global, path: &str) -> io:
     let mut options = OpenOptions::new();
     let file: File = options.read(true).write(true).open(rt, path)?;
     if !file.metadata()?.is_file() {
-        return Err(io::Error::new(ErrorKind::InvalidInput, "it is no plain file"));
+        return Err(io::Error::new(ErrorKind::InvalidInput, "it is not a plain file"));
     }
     let mut bytes = Vec::new(alloc);
     let count = file.take(MOST_BYTES + 1).read_to_end(&mut bytes)?;

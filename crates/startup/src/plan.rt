@@ -87,7 +87,7 @@ fn read_wishes<R: AllocGlobal + Env + Eprint>(rt: &R) -> Result<Wishes, AllocErr
 
 fn is_runs(rt: &impl Eprint, level: Level, word: &str) -> bool {
     if word != "runs" && !word.is_empty() {
-        report(rt, level, "JOBD_LOG", word, &"no such word, only runs");
+        report(rt, level, "JOBD_LOG", word, &"unknown value; expected runs");
     }
     word == "runs"
 }

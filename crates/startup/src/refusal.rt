@@ -118,10 +118,10 @@ pub(crate) fn refuse_store(
             return STORE;
         }
         StoreRefusal::Taken(why) => why,
-        StoreRefusal::Foreign => "a database, but no store of overrides",
+        StoreRefusal::Foreign => "a database, but not a store of settings",
         StoreRefusal::Settings(StoreFault::Refused) => "the database refused",
         StoreRefusal::Settings(StoreFault::Full) => "database or disk is full",
-        StoreRefusal::Settings(StoreFault::Foreign) => "a stored name is no label",
+        StoreRefusal::Settings(StoreFault::Foreign) => "a stored name is not a label",
     };
     report(rt, level, "store", path, &why);
     STORE

@@ -26,7 +26,7 @@ pub fn check_standing<R: System>(rt: &R, alloc: Global, plan: &Plan) -> Result<(
             rt,
             level,
             "children",
-            "their ends can't be seen, since SIGCHLD is ignored; try /bin/sh -c 'exec jobd serve ..'",
+            "their exits can't be seen, since SIGCHLD is ignored; try /bin/sh -c 'exec jobd serve ..'",
         )),
         Err(error) if error.kind() == io::ErrorKind::OutOfMemory => Err(NO_MEMORY),
         Err(error) => {
@@ -46,7 +46,7 @@ fn refuse_serving(rt: &impl Eprint, level: Level, part: &str, why: &str) -> u8 {
 pub fn tell_standing(rt: &impl Eprint, plan: &Plan) {
     let (standing, level) = (&plan.standing, plan.wishes.level);
     if standing.file_size.is_some() && !standing.ignores(Signal::Xfsz) {
-        let why = "SIGXFSZ ends the launcher at a file that would grow past it (ulimit -f)";
+        let why = "SIGXFSZ kills the launcher if a file would grow past it (ulimit -f)";
         tell(rt, level, "the limit on the file size", why);
     }
     let hup = word_if(standing, Signal::Hup, " HUP");

@@ -26,7 +26,7 @@ const CACHE_PAGES: usize = 64;
 /// How many pages the log next to the store has when it is moved into the store: a megabyte.
 const LOG_PAGES: usize = 256;
 
-/// Of so many reasons at most each is logged once, until the store takes a setting.
+/// How many reasons are logged at most, each once, until the store takes a setting.
 const REASONS: usize = 8;
 
 /// What is done with a store that was opened, and with the settings that it holds.
@@ -73,7 +73,8 @@ pub fn with_store<U: StoreUser>(
     if !matches!(found, Found::Store) || !refusal.is_full() {
         return Err((status, user));
     }
-    let why = "it stays shut: its settings hold, and no other is taken until it can be opened";
+    let why =
+        "it stays closed: its settings apply, and no other is accepted until it can be opened";
     report(rt, level, "store", path, &why);
     match used_over(alloc, &place, Source::Copy, user) {
         Ok(status) => Ok(status),
@@ -200,13 +201,13 @@ impl StorePlace<MediaConnection> for StoreFiles<'_> {
 
     fn tell(&self, news: StoreNews) {
         let why = match news {
-            StoreNews::Refused(StoreFault::NoMemory) => "memory was refused",
+            StoreNews::Refused(StoreFault::NoMemory) => "no memory",
             StoreNews::Refused(StoreFault::Refused) => "disk I/O error",
             StoreNews::Refused(StoreFault::Full) => "database or disk is full",
-            StoreNews::Refused(StoreFault::Foreign) => "a database, but no store of overrides",
+            StoreNews::Refused(StoreFault::Foreign) => "a database, but not a store of settings",
             StoreNews::TooMany => "16,384 labels have a setting, and no other may have one",
             StoreNews::Mended =>
-                "its files had not the last settings of all labels: they are written again",
+                "its files lack the last settings of some labels: they are written again",
             StoreNews::Anew => return self.told.set([0; REASONS]),
         };
         let is_told = match news {

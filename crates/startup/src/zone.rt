@@ -39,7 +39,7 @@ fn by_rule(rt: &impl Eprint, level: Level, rule: Text) -> Result<ZoneText, u8> {
     match Zone::posix(rule.as_str()) {
         Ok(_) => Ok(ZoneText::Posix(rule)),
         Err(_) => {
-            report(rt, level, "zone", rule.as_str(), &"no rule of a zone");
+            report(rt, level, "zone", rule.as_str(), &"not a POSIX TZ string");
             Err(ZONE)
         }
     }
@@ -73,7 +73,7 @@ fn by_bytes(
 }
 
 fn bad_file(rt: &impl Eprint, level: Level, path: &str) -> u8 {
-    let why = "no zone file of at most 65536 bytes";
+    let why = "not a zone file of at most 65536 bytes";
     report(rt, level, "zone file", path, &why);
     ZONE
 }

@@ -125,15 +125,15 @@ pub fn add_failing(page: &mut Page<'_>, of: &Failing<'_>) {
             page.add("$: its last start was refused, at $\n", &[label, refused])
         }
         (Fault::Ended(Ended::Code(code)), _) => page.add(
-            "$: its last run ended with code $, at $\n",
+            "$: its last run exited with code $, at $\n",
             &[label, Number(u64::from(code)), ended],
         ),
         (Fault::Ended(Ended::Signal(signal)), _) => page.add(
-            "$: its last run ended by signal $, at $\n",
+            "$: its last run was killed by signal $, at $\n",
             &[label, Number(u64::from(signal)), ended],
         ),
         (Fault::NotRunning, _) => page.add("$: it is wanted, and does not run\n", &[label]),
-        (Fault::LauncherGone, _) => page.add("$: it ran by a launcher that is gone\n", &[label]),
+        (Fault::LauncherGone, _) => page.add("$: its launcher has exited\n", &[label]),
         (Fault::Missed(minute), _) => page.add(
             "$: $ passed while no launcher ran\n",
             &[label, Time(minute)],

@@ -14,18 +14,18 @@ pub fn add_head(page: &mut Page<'_>, standing: &Standing, second: u64) {
     };
     page.add("As of $, ", &[Moment(launcher.at.wall)]);
     if second < launcher.at.wall {
-        page.ink.put("which is behind what the clock shows now. ");
+        page.ink.put("which is later than the clock shows now. ");
     } else {
         let age = (second - launcher.at.wall).saturating_mul(SECOND);
         page.ink.put_span(age, false);
         page.ink.put(" ago. ");
     }
     let form = match standing.life {
-        Life::Lives => "The launcher lives (process $): spans are up to now.\n",
+        Life::Lives => "The launcher is running (PID $): durations are measured to the present.\n",
         Life::Gone =>
-            "The launcher (process $) is gone: it ended or was killed, and no job runs by its word.\n",
+            "The launcher (PID $) exited or was killed, and its jobs are no longer supervised.\n",
         Life::Unknown =>
-            "Whether the launcher (process $) lives is not known: /proc does not show it.\n",
+            "It is not known whether the launcher (PID $) is running: /proc does not show it.\n",
     };
     page.add(form, &[Number(u64::from(launcher.pid))]);
     add_faults(page, &launcher);

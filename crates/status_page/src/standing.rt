@@ -376,8 +376,8 @@ pub fn tell_trouble(host: &HostRuntime, path: &str, trouble: Trouble) -> io::Res
             return Ok(BAD_FILE);
         }
         Trouble::Long => (0, "", "longer than 16777216 bytes"),
-        Trouble::NotWhole => (0, "", "the status file is not whole"),
-        Trouble::Line(line, StatusFault::NotJson) => (line, "", "no line of a status file"),
+        Trouble::NotWhole => (0, "", "the status file is not complete"),
+        Trouble::Line(line, StatusFault::NotJson) => (line, "", "not a line of a status file"),
         Trouble::Line(line, StatusFault::Missing(key)) => (line, key, " is missing"),
         Trouble::Line(line, StatusFault::Wrong(key)) => (line, key, " is of another form"),
     };

@@ -25,7 +25,7 @@ use std::alloc::{AllocError, Global};
 /// The columns after the label, which have this width each: state, process, since when, last exit, starts, failures, and what comes next.
 const WIDTHS: [usize; 7] = [8, 7, 11, 9, 6, 6, 11];
 
-const HEAD: &str = " STATE    PROCESS SINCE       LAST EXIT STARTS FAILED ";
+const HEAD: &str = " STATE    PID     SINCE       LAST EXIT STARTS FAILED ";
 
 /// Where the table has room for them: the memory that a process takes, and its processor time.
 const TAKEN: [usize; 2] = [5, 6];

@@ -35,7 +35,7 @@ pub(crate) fn put_broken(
         Some(offset) => told_at(bytes, offset, begin_at(text, 0), outline.is_whole),
         None if outline.is_whole => (
             number_in(alloc, ink, text, outline.marks.as_slice()),
-            "a number that is too great to be read",
+            "a number that is too large",
         ),
         None => told_at(bytes, text.len(), begin_at(text, 0), false),
     };
@@ -112,7 +112,7 @@ fn told_at_end(bytes: &[u8], end: usize, is_whole: bool) -> (usize, &'static str
     match comma_before(bytes, end) {
         Some(comma) if is_whole => (
             comma,
-            "a comma behind the last bracket; nothing stands behind it in JSON",
+            "a comma after the last bracket; JSON allows nothing after it",
         ),
         _ => (end, "the text ends before its last bracket is closed"),
     }
@@ -121,16 +121,16 @@ fn told_at_end(bytes: &[u8], end: usize, is_whole: bool) -> (usize, &'static str
 fn told_of(found: u8) -> &'static str {
     match found {
         b'/' | b'#' => "a comment; JSON has none",
-        b'\'' => "a single quote; texts stand in double quotes",
+        b'\'' => "a single quote; JSON strings have double quotes",
         b'"' =>
-            "a comma or a colon is missing before this text, or the text has no end or a bad character",
+            "a comma or a colon is missing before this string, or the string is not closed or has a bad character",
         b'=' | b';' => "an old-style property list has this sign; JSON has : and ,",
         b'{' | b'[' => "a comma or a colon is missing before this bracket",
         b'0'..=b'9' | b'+' | b'-' | b'.' =>
-            "no number of JSON (no sign +, no 0 before other digits), or a comma is missing before it",
+            "not a JSON number (no sign +, no 0 before other digits), or a comma is missing before it",
         b'A'..=b'Z' | b'a'..=b'z' =>
-            "no value of JSON: wanted true, false, null, a number or a text in double quotes",
-        _ => "no JSON from here on",
+            "not a JSON value: expected true, false, null, a number or a string in double quotes",
+        _ => "not JSON from here on",
     }
 }
 

@@ -25,9 +25,9 @@ pub(crate) fn add_command(def: &Def, remarks: &mut Remarks<'_>) {
         return add_line(program, remarks);
     }
     let told = if program.starts_with('~') {
-        "the program begins with ~, which nothing expands here; write the whole path"
+        "the program begins with ~, which nothing expands here; write the absolute path"
     } else {
-        "the program is a relative path, which goes from the job's folder (WorkingDirectory); write the whole path"
+        "the program is a relative path, which goes from the job's folder (WorkingDirectory); write the absolute path"
     };
     // (from a folder that is written whole, a path goes to one place)
     let goes_from_folder = def.working_directory().unwrap_or("").starts_with('/');
@@ -72,7 +72,7 @@ fn add_shell_line(def: &Def, line: &Line<'_>, is_grouped: bool, remarks: &mut Re
     remarks.add_if(
         is_cut && (line.behind > 1 || !line.text.trim().contains(' ')),
         KeyName::Program,
-        "the shell takes the one word behind -c for the whole line, and those behind it for its arguments; write the line as one member",
+        "the shell takes the one argument after -c as the whole line, and later ones as its arguments; write the line as one member",
     );
     remarks.add_if(
         line.is_left,
@@ -94,7 +94,7 @@ fn add_shell_line(def: &Def, line: &Line<'_>, is_grouped: bool, remarks: &mut Re
     remarks.add_if(
         is_given,
         KeyName::Program,
-        "root's install -o gives a folder below one that its user owns and may exchange for a link; convert the unit anew with from-systemd, or have the user make it (setpriv)",
+        "root's install -o follows a link that the folder's user may put there; convert the unit again with from-systemd, or have the user make it (setpriv)",
     );
 }
 
@@ -151,9 +151,9 @@ fn is_line(program: &str) -> bool {
 
 fn add_line(program: &str, remarks: &mut Remarks<'_>) {
     let mut ink = Ink::new(remarks.alloc);
-    ink.put("the program is the one word ");
+    ink.put("the program is the single string ");
     ink.put_quoted(program);
-    ink.put(", with its blanks; each word of a command line is a member of ProgramArguments");
+    ink.put(", with its spaces; each argument of a command line is a member of ProgramArguments");
     remarks.add_made(KeyName::Program, ink.into_text());
 }
 

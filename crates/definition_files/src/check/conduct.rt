@@ -81,7 +81,7 @@ fn words_for(mistake: Mistake) -> (Grade, KeyName, &'static str) {
         Mistake::AnyFailure => (
             Grade::Note,
             KeyName::KeepAlive,
-            "KeepAlive: one of its conditions suffices, so the job is started anew after any failure; Crashed adds nothing to \"SuccessfulExit\": false",
+            "KeepAlive: one of its conditions suffices, so the job is started again after any failure; Crashed adds nothing to \"SuccessfulExit\": false",
         ),
         Mistake::ShortInterval => (
             Grade::Warning,
@@ -96,7 +96,7 @@ fn words_for(mistake: Mistake) -> (Grade, KeyName, &'static str) {
         Mistake::NeverWaited => (
             Grade::Warning,
             KeyName::KeepAlive,
-            "KeepAlive is true: the job is started anew whenever it ends, and never waits for StartCalendarInterval or StartInterval; leave KeepAlive out if the clock is to start it",
+            "KeepAlive is true: the job is started again whenever it exits, and never waits for StartCalendarInterval or StartInterval; leave KeepAlive out if the clock is to start it",
         ),
         Mistake::NeverQueued => (
             Grade::Warning,
@@ -111,7 +111,7 @@ fn words_for(mistake: Mistake) -> (Grade, KeyName, &'static str) {
         Mistake::CrashAlone => (
             Grade::Note,
             KeyName::KeepAlive,
-            "KeepAlive: Crashed is of an end by a signal; after an exit with a failing code nothing starts the job: that is \"SuccessfulExit\": false",
+            "KeepAlive: Crashed applies to an exit by a signal; after an exit with a failing code nothing starts the job: that is \"SuccessfulExit\": false",
         ),
         Mistake::OnceKept => (
             Grade::Warning,
@@ -121,7 +121,7 @@ fn words_for(mistake: Mistake) -> (Grade, KeyName, &'static str) {
         Mistake::NeverKilled => (
             Grade::Note,
             KeyName::ExitTimeOut,
-            "ExitTimeOut is 0: a job that stays after TERM is never killed, and holds up whatever waits for its end",
+            "ExitTimeOut is 0: a job that stays after TERM is never killed, and delays whatever waits until it exits",
         ),
         Mistake::LongEnding => (
             Grade::Note,
@@ -131,17 +131,17 @@ fn words_for(mistake: Mistake) -> (Grade, KeyName, &'static str) {
         Mistake::HastyQueue => (
             Grade::Warning,
             KeyName::ThrottleInterval,
-            "ThrottleInterval is 0 beside QueueDirectories: until the next look, a second at most, it starts anew as fast as it ends; 1 is quick enough",
+            "ThrottleInterval is 0 with QueueDirectories: until the next path check, a second at most, it restarts as fast as it exits; 1 is quick enough",
         ),
         Mistake::HastyEnd => (
             Grade::Note,
             KeyName::ThrottleInterval,
-            "ThrottleInterval is 0 beside KeepAlive: a program that ends at once is started anew as fast as it ends; 1 is quick enough",
+            "ThrottleInterval is 0 with KeepAlive: a program that exits at once is restarted as fast as it exits; 1 is quick enough",
         ),
         Mistake::LostOutput => (
             Grade::Note,
             KeyName::KeepAlive,
-            "what the job writes is lost: neither StandardOutPath nor StandardErrorPath stands",
+            "what the job writes is lost: neither StandardOutPath nor StandardErrorPath is set",
         ),
         Mistake::NeverMatches
         | Mistake::EachMinute

@@ -11,11 +11,11 @@ pub(crate) struct Foreign {
 pub(crate) static KEYS: &[Foreign] = &[
     Foreign {
         name: "Restart",
-        hint: "KeepAlive true, or {\"SuccessfulExit\": false} to start it anew after a failure",
+        hint: "KeepAlive true, or {\"SuccessfulExit\": false} to start it again after a failure",
     },
     Foreign {
         name: "restart",
-        hint: "KeepAlive true, or {\"SuccessfulExit\": false} to start it anew after a failure",
+        hint: "KeepAlive true, or {\"SuccessfulExit\": false} to start it again after a failure",
     },
     Foreign {
         name: "RestartSec",
@@ -51,31 +51,31 @@ pub(crate) static KEYS: &[Foreign] = &[
     },
     Foreign {
         name: "Command",
-        hint: "ProgramArguments, each word a member",
+        hint: "ProgramArguments, each argument a member",
     },
     Foreign {
         name: "command",
-        hint: "ProgramArguments, each word a member",
+        hint: "ProgramArguments, each argument a member",
     },
     Foreign {
         name: "Cmd",
-        hint: "ProgramArguments, each word a member",
+        hint: "ProgramArguments, each argument a member",
     },
     Foreign {
         name: "Exec",
-        hint: "ProgramArguments, each word a member",
+        hint: "ProgramArguments, each argument a member",
     },
     Foreign {
         name: "ExecStart",
-        hint: "ProgramArguments, each word a member",
+        hint: "ProgramArguments, each argument a member",
     },
     Foreign {
         name: "Args",
-        hint: "ProgramArguments, each word a member",
+        hint: "ProgramArguments, each argument a member",
     },
     Foreign {
         name: "Arguments",
-        hint: "ProgramArguments, each word a member",
+        hint: "ProgramArguments, each argument a member",
     },
     Foreign {
         name: "Description",
@@ -127,47 +127,47 @@ pub(crate) static KEYS: &[Foreign] = &[
     },
     Foreign {
         name: "Hour",
-        hint: "StartCalendarInterval, in whose object it stands",
+        hint: "StartCalendarInterval, as a key of its object",
     },
     Foreign {
         name: "Minute",
-        hint: "StartCalendarInterval, in whose object it stands",
+        hint: "StartCalendarInterval, as a key of its object",
     },
     Foreign {
         name: "Weekday",
-        hint: "StartCalendarInterval, in whose object it stands",
+        hint: "StartCalendarInterval, as a key of its object",
     },
     Foreign {
         name: "Day",
-        hint: "StartCalendarInterval, in whose object it stands",
+        hint: "StartCalendarInterval, as a key of its object",
     },
     Foreign {
         name: "Month",
-        hint: "StartCalendarInterval, in whose object it stands",
+        hint: "StartCalendarInterval, as a key of its object",
     },
     Foreign {
         name: "SuccessfulExit",
-        hint: "KeepAlive, in whose object it stands",
+        hint: "KeepAlive, as a key of its object",
     },
     Foreign {
         name: "Crashed",
-        hint: "KeepAlive, in whose object it stands",
+        hint: "KeepAlive, as a key of its object",
     },
     Foreign {
         name: "PathState",
-        hint: "KeepAlive, in whose object it stands",
+        hint: "KeepAlive, as a key of its object",
     },
     Foreign {
         name: "Environment",
-        hint: "EnvironmentVariables, an object of texts",
+        hint: "EnvironmentVariables, an object of strings",
     },
     Foreign {
         name: "environment",
-        hint: "EnvironmentVariables, an object of texts",
+        hint: "EnvironmentVariables, an object of strings",
     },
     Foreign {
         name: "Env",
-        hint: "EnvironmentVariables, an object of texts",
+        hint: "EnvironmentVariables, an object of strings",
     },
     Foreign {
         name: "EnvironmentFile",
@@ -363,7 +363,7 @@ pub(crate) static KEYS: &[Foreign] = &[
     },
     Foreign {
         name: "Enabled",
-        hint: "Disabled, which is its contrary",
+        hint: "Disabled, which is its opposite",
     },
     Foreign {
         name: "WantedBy",
@@ -407,7 +407,7 @@ pub(crate) static KEYS: &[Foreign] = &[
     },
     Foreign {
         name: "AfterInitialDemand",
-        hint: "RunAtLoad absent, the first start is that of a demand",
+        hint: "RunAtLoad absent: the job first starts when it is asked to",
     },
     Foreign {
         name: "OtherJobEnabled",
@@ -415,7 +415,7 @@ pub(crate) static KEYS: &[Foreign] = &[
     },
     Foreign {
         name: "NetworkState",
-        hint: "the network is not looked at; have the program wait for it",
+        hint: "the launcher does not check the network; have the program wait for it",
     },
     Foreign {
         name: "StartOnMount",
@@ -435,7 +435,7 @@ pub(crate) static KEYS: &[Foreign] = &[
     },
     Foreign {
         name: "BundleProgram",
-        hint: "Program, the whole path",
+        hint: "Program, the absolute path",
     },
 ];
 

@@ -110,7 +110,7 @@ fn add_lacking(
         KeyName::InetdCompatibility if is_wanted && value.is_object() => remarks.add(
             Grade::Note,
             KeyName::Sockets,
-            "Sockets: no socket is handed to a job; if the program listens by itself, leave Sockets out",
+            "Sockets: the launcher passes no listening socket to a job; if the program listens by itself, leave Sockets out",
             &[],
         ),
         _ => {}

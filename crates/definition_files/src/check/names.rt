@@ -37,7 +37,7 @@ const INNER: &[&str] = &[
 /// of a key of another launcher; for any other key the remark names the nearest one.
 pub(crate) fn add_ignored(remarks: &mut Remarks<'_>, name: &str) {
     let mut ink = Ink::new(remarks.alloc);
-    ink.fill("$: nothing acts on this key", &[Text(name)]);
+    ink.fill("$: key not supported, ignored", &[Text(name)]);
     let hint = hint_for(name);
     if hint.is_empty() {
         let nearest = nearest_to(remarks.alloc, name);

@@ -48,7 +48,7 @@ fn add_if_relative(key: KeyName, path: Option<&str>, remarks: &mut Remarks<'_>) 
     let (grade, behind) = if path.starts_with('~') {
         (
             Grade::Warning,
-            " begins with ~, which nothing expands here; write the whole path",
+            " begins with ~, which nothing expands here; write the absolute path",
         )
     } else {
         (

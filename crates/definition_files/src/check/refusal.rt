@@ -73,11 +73,11 @@ fn put_first(
 pub(crate) fn put_missing(ink: &mut Ink, reason: Reason, key: KeyName) {
     let name = key_name(key);
     let form = match (reason, key) {
-        (Reason::NotObject, _) => "the text is no object: a definition stands between { and }",
+        (Reason::NotObject, _) => "not an object: a job definition is between { and }",
         (_, KeyName::ProgramArguments) =>
             "$ is missing: a definition has Program or ProgramArguments",
         (_, KeyName::InetdCompatibility) =>
-            "$ is missing: beside Sockets it has to be {\"Wait\": false}",
+            "$ is missing: with Sockets it must be {\"Wait\": false}",
         _ => "$ is missing: each definition has one",
     };
     ink.fill(form, &[Text(name)]);
@@ -119,7 +119,7 @@ pub(crate) fn place_of_culprit(
 fn words_of(key: KeyName, is_missing: bool) -> &'static str {
     match key {
         KeyName::UserName =>
-            ": each job runs as the launcher's own user; leave the key out, and put setpriv before the program under root's launcher, or load the job into a jobd that this user runs (jobd-split-users does either)",
+            ": each job runs as the launcher's user; leave the key out. Put setpriv before the program under root's launcher, or load the job into a jobd of that user (jobd-split-users does either)",
         KeyName::GroupName =>
             ": each job runs in the launcher's own group; leave the key out, and load the job into a jobd that runs in this group",
         KeyName::RootDirectory =>
@@ -146,11 +146,11 @@ fn put_culprit(alloc: Global, ink: &mut Ink, culprit: &Culprit<'_>) {
     match culprit.rule.fit {
         Fit::Sockets(_) if culprit.value.is_object() => {
             let count = sockets_in(culprit.value);
-            ink.fill("a dictionary of $ sockets", &[Number(count as u64)]);
+            ink.fill("an object of $ sockets", &[Number(count as u64)]);
         }
         _ => put_shown(alloc, ink, culprit.value),
     }
-    ink.put(", wanted ");
+    ink.put(", expected ");
     match culprit.rule.fit {
         Fit::Number(_, _) if culprit.value.as_i64().is_none() => ink.put("a whole number, "),
         _ => {}
@@ -164,11 +164,11 @@ const SHOWN: usize = 40;
 // Adds what a value is: a number, a literal or a short string itself, of others the kind and the size.
 fn put_shown(alloc: Global, ink: &mut Ink, value: &Value) {
     let (form, count) = match value {
-        Value::String(text) if text.is_empty() => return ink.put("an empty text"),
+        Value::String(text) if text.is_empty() => return ink.put("an empty string"),
         Value::String(text) if text.len() <= SHOWN => return ink.put_quoted(text.as_str()),
-        Value::String(text) => ("a text of $ bytes", text.len()),
+        Value::String(text) => ("a string of $ bytes", text.len()),
         Value::Array(items) => ("an array of $", items.len()),
-        Value::Object(members) => ("a dictionary of $", members.len()),
+        Value::Object(members) => ("an object of $", members.len()),
         _ => return ink.put_made(value.to_string(alloc)),
     };
     ink.fill(form, &[Number(count as u64)]);

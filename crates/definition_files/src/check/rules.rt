@@ -63,26 +63,26 @@ pub(crate) struct Inside {
 const PATH: Rule = Rule {
     name: "",
     fit: Fit::Text(1, 1024),
-    wanted: "a text of 1 to 1024 bytes, none of them 0",
+    wanted: "a string of 1 to 1024 bytes, without NUL",
 };
 
 const PROGRAM: Rule = Rule {
     name: "",
     fit: Fit::Text(1, 4096),
-    wanted: "a text of 1 to 4096 bytes, none of them 0",
+    wanted: "a string of 1 to 4096 bytes, without NUL",
 };
 
 const ARGUMENT: Rule = Rule {
     name: "",
     fit: Fit::Text(0, 4096),
-    wanted: "a text of at most 4096 bytes, none of them 0",
+    wanted: "a string of at most 4096 bytes, without NUL",
 };
 
 /// What a variable of the environment is to be.
 pub(crate) static VARIABLE: Rule = Rule {
     name: "",
     fit: Fit::Text(0, 4096),
-    wanted: "a name of 1 to 255 bytes without = and a text of at most 4096 bytes, no byte of them 0",
+    wanted: "a name of 1 to 255 bytes without =, and a string of at most 4096 bytes, both without NUL",
 };
 
 /// The keys of an entry of a calendar.
@@ -90,7 +90,7 @@ const ENTRY: &[Rule] = &[
     Rule {
         name: "",
         fit: Fit::Dictionary(usize::MAX),
-        wanted: "a dictionary of Minute, Hour, Day, Weekday and Month",
+        wanted: "an object of Minute, Hour, Day, Weekday and Month",
     },
     Rule {
         name: DAY,
@@ -134,7 +134,7 @@ const CONDITIONS: &[Rule] = &[
     Rule {
         name: PATH_STATE,
         fit: Fit::States,
-        wanted: "a dictionary of at most 64 paths of 1 to 1024 bytes, each true or false",
+        wanted: "an object of at most 64 paths of 1 to 1024 bytes, each true or false",
     },
 ];
 
@@ -187,7 +187,7 @@ const SOCKET: &[Rule] = &[
     Rule {
         name: PATH_NAME,
         fit: Fit::Text(1, 107),
-        wanted: "a text of 1 to 107 bytes, none of them 0",
+        wanted: "a string of 1 to 107 bytes, without NUL",
     },
     Rule {
         name: NODE_NAME,
@@ -197,7 +197,7 @@ const SOCKET: &[Rule] = &[
     Rule {
         name: SERVICE_NAME,
         fit: Fit::Port,
-        wanted: "1 to 65535, or a text of the digits of one: no service is looked up",
+        wanted: "1 to 65535, or a string of such a number: service names are not looked up",
     },
     Rule {
         name: "",
@@ -216,34 +216,31 @@ pub(crate) fn rule_of(key: KeyName) -> Rule {
         KeyName::StartInterval => (Fit::Number(1, 31_536_000), "1 to 31536000"),
         KeyName::ThrottleInterval | KeyName::ExitTimeOut => (Fit::Number(0, 86_400), "0 to 86400"),
         KeyName::Program => return PROGRAM,
-        KeyName::ProgramArguments => (Fit::Array(256), "an array of at most 256 texts"),
+        KeyName::ProgramArguments => (Fit::Array(256), "an array of at most 256 strings"),
         KeyName::WatchPaths | KeyName::QueueDirectories => (
             Fit::Array(64),
             "an array of at most 64 paths, those of WatchPaths, QueueDirectories and PathState together",
         ),
-        KeyName::EnvironmentVariables => (
-            Fit::Dictionary(128),
-            "a dictionary of at most 128 texts",
-        ),
+        KeyName::EnvironmentVariables => (Fit::Dictionary(128), "an object of at most 128 strings"),
         KeyName::WorkingDirectory
         | KeyName::StandardInPath
         | KeyName::StandardOutPath
         | KeyName::StandardErrorPath => return PATH,
         KeyName::Label => (
             Fit::Label,
-            "a text of 1 to 255 bytes, no / and no control character",
+            "a string of 1 to 255 bytes, without / and control characters",
         ),
         KeyName::KeepAlive => (
             Fit::Conditions,
-            "true, false, or a dictionary of SuccessfulExit, Crashed (true or false) and PathState (at most 64 paths, each true or false)",
+            "true, false, or an object of SuccessfulExit, Crashed (true or false) and PathState (at most 64 paths, each true or false)",
         ),
         KeyName::StartCalendarInterval => (
             Fit::Any,
-            "a dictionary of Minute, Hour, Day, Weekday and Month, or an array of at most 64",
+            "an object of Minute, Hour, Day, Weekday and Month, or an array of at most 64",
         ),
         KeyName::Sockets => (
             Fit::Sockets(8),
-            "a dictionary of at most 8 sockets, each a dictionary, or of arrays of such",
+            "an object of at most 8 sockets, each an object, or of arrays of such",
         ),
         KeyName::InetdCompatibility => (Fit::Dictionary(usize::MAX), "{\"Wait\": false}"),
         KeyName::UserName | KeyName::GroupName | KeyName::RootDirectory => (

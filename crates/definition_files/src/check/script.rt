@@ -36,7 +36,7 @@ fn why_not(host: &HostRuntime, alloc: Global, path: &str, front: &[u8]) -> &'sta
         return why_no_elf(host, alloc, path, front);
     }
     if is_bare(front) {
-        return " is a text without #! in its first line, which the system can't start; begin it with #!/bin/sh, or with another interpreter";
+        return " is a text file without #! in its first line, which the system can't start; begin it with #!/bin/sh, or with another interpreter";
     }
     let Some(interpreter) = interpreter_in(front) else {
         return "";

@@ -73,7 +73,7 @@ fn add_in_use(host: &HostRuntime, address: &Address, remarks: &mut Remarks<'_>) 
             add_other(host, path.as_str(), remarks);
         }
         Address::Inet { host: own, port } => {
-            let told = "Sockets: this machine has not this address; a load here is refused";
+            let told = "Sockets: this machine does not have this address; a load here is refused";
             let has = has_address(host, remarks.alloc, own);
             remarks.add_if(!has, KeyName::Sockets, told);
             if is_port_barred(host, remarks.alloc, *port) {
@@ -97,7 +97,7 @@ fn add_in_use(host: &HostRuntime, address: &Address, remarks: &mut Remarks<'_>) 
 fn add_other(host: &HostRuntime, path: &str, remarks: &mut Remarks<'_>) {
     let told = match found_at(host, path) {
         Ok(Found::Nothing | Found::Socket) | Err(_) => return,
-        Ok(_) => "Sockets: $ is there and is no socket; a load is refused",
+        Ok(_) => "Sockets: $ exists and is not a socket; a load is refused",
     };
     remarks.add(Grade::Warning, KeyName::Sockets, told, &[Text(path)]);
 }

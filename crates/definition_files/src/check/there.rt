@@ -330,11 +330,11 @@ fn add_name(
         }
     }
     if !is_there {
-        let told = "the program $ is in no folder of the job's PATH; write the whole path";
+        let told = "the program $ is in no folder of the job's PATH; write the absolute path";
         remarks.add(Grade::Warning, KeyName::Program, told, &[Text(name)]);
     } else if is_first {
         let told =
-            "the program is looked for in the job's PATH, since it has no /; write the whole path";
+            "the program is looked for in the job's PATH, since it has no /; write the absolute path";
         remarks.add(Grade::Note, KeyName::Program, told, &[]);
     }
 }
@@ -362,9 +362,9 @@ fn add_found(alloc: Global, path: &str, wanted: Wanted, found: io::Result<Found>
         (Ok(Found::Nothing), _) => " is not there",
         (Ok(Found::File), Wanted::Program) => " is not executable",
         (Ok(Found::Program), Wanted::Program) => return,
-        (Ok(_), Wanted::Program) => " is no plain file",
+        (Ok(_), Wanted::Program) => " is not a plain file",
         (Ok(Found::Folder), Wanted::Folder | Wanted::Socket) => return,
-        (Ok(_), Wanted::Folder | Wanted::Socket) => " is no folder",
+        (Ok(_), Wanted::Folder | Wanted::Socket) => " is not a folder",
         (Ok(Found::Folder), _) => " is a folder",
         (Ok(Found::Fifo), _) =>
             " is a FIFO: the start is refused, since its open may wait for ever",

@@ -48,7 +48,7 @@ fn add_again(key: &Mark, again: Mark, remarks: &mut Remarks<'_>) {
     let last = place_at(remarks.text, again.at);
     let mut ink = Ink::new(remarks.alloc);
     ink.fill(
-        "$ stands again at $:$, and the last one counts",
+        "$ is repeated at $:$, and the last one counts",
         &[
             Text(key_at(remarks.text, key)),
             Number(last.line as u64),

@@ -36,7 +36,7 @@ fn add_from(found: &Value, remarks: &mut Remarks<'_>) {
             let form = match found.as_str() {
                 Some(text) if !is_unexpanded(name.as_str(), text) => continue,
                 Some(_) => "$: nothing expands variables or ~ in the value of $; write it out",
-                None => "$: the value of $ is no text, so it is not set",
+                None => "$: the value of $ is not a string, so it is not set",
             };
             let key = key_name(KeyName::EnvironmentVariables);
             let way = [Step::Key(key), Step::Key(name.as_str())];

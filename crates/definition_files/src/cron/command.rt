@@ -8,7 +8,7 @@ use std::alloc::Global;
 const LONGEST_COMMAND: usize = 4096;
 
 const PERCENT: &str =
-    "% ends a command and begins its input, which no definition has; wanted \\% for the sign";
+    "% ends a command and begins its input, which job definitions do not have; expected \\% for the sign";
 
 const LONG: &str =
     "the command has more than 4096 bytes, which no load takes; write it into a script";

@@ -364,11 +364,11 @@ fn fault_of(alloc: Global, fault: EntriesFault) -> LineFault {
     let (form, count) = match fault {
         EntriesFault::NoMemory => return LineFault::NoMemory,
         EntriesFault::TooMany(count) => (
-            "its fields make $ entries, wanted at most 64; split the line in several",
+            "its fields make $ entries, expected at most 64; split the line in several",
             count,
         ),
         EntriesFault::BothDays => (
-            "day and weekday must both suit, as one begins with *, and of an entry's either suffices; wanted one of them as *",
+            "day and weekday must both suit, as one begins with *, and of an entry's either suffices; expected one of them as *",
             0,
         ),
     };

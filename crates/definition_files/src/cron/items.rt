@@ -101,11 +101,11 @@ fn fault_of(alloc: Global, kind: &Kind, wrong: Wrong<'_>) -> LineFault {
     match wrong {
         Wrong::Value(text) => {
             let shown = if text.is_empty() { "empty" } else { text };
-            ink.fill(" is $, wanted $", &[Text(shown), Text(kind.wanted)]);
+            ink.fill(" is $, expected $", &[Text(shown), Text(kind.wanted)]);
         }
         Wrong::Backwards(span) => ink.fill(" is $, which runs backwards", &[Text(span)]),
         Wrong::NoRange(span, step) => ink.fill(
-            " is $/$, wanted a range before the step, as $-$/$",
+            " is $/$, expected a range before the step, as $-$/$",
             &[
                 Text(span),
                 Text(step),
@@ -117,7 +117,7 @@ fn fault_of(alloc: Global, kind: &Kind, wrong: Wrong<'_>) -> LineFault {
         Wrong::Step(step) => {
             ink.put(" has the step ");
             ink.put_quoted(step);
-            ink.fill(", wanted 1 to $", &[Number(u64::from(most_of(kind)))]);
+            ink.fill(", expected 1 to $", &[Number(u64::from(most_of(kind)))]);
         }
     }
     refused(ink)

@@ -62,7 +62,7 @@ fn by_owner<'a>(alloc: Global, when: When, command: &'a str) -> Result<Line<'a>,
     if command.starts_with('*') {
         drop(when);
         let form =
-            "the command begins with *; wanted five fields before it, with none for the second";
+            "the command begins with *; expected five fields before it, with none for the second";
         return Err(told(alloc, form, &[]));
     }
     Ok(Line::Command {
@@ -75,9 +75,9 @@ fn by_owner<'a>(alloc: Global, when: When, command: &'a str) -> Result<Line<'a>,
 fn by_user<'a>(alloc: Global, when: When, rest: &'a str) -> Result<Line<'a>, LineFault> {
     let (user, command) = word_of(rest);
     let form = if !is_user_name(user) {
-        "$ is no name of a user, wanted one between the fields and the command"
+        "$ is not a user name, expected one between the fields and the command"
     } else if command.is_empty() {
-        "wanted a command behind the user $"
+        "expected a command after the user $"
     } else {
         return Ok(Line::Command {
             when,
@@ -126,7 +126,7 @@ fn timed<'a>(alloc: Global, has_user: bool, text: &'a str) -> Result<(When, &'a 
     let form = if command.is_empty() {
         wanted_words(has_user, text)
     } else if is_none {
-        "$ is no name of a time, wanted @reboot, @yearly, @annually, @monthly, @weekly, @daily, @midnight or @hourly"
+        "$ is not a time name, expected @reboot, @yearly, @annually, @monthly, @weekly, @daily, @midnight or @hourly"
     } else if is_boot {
         return Ok((When::Boot, command));
     } else {
@@ -141,11 +141,11 @@ fn timed<'a>(alloc: Global, has_user: bool, text: &'a str) -> Result<(When, &'a 
 // What is expected in place of a line that ends too soon.
 fn wanted_words(has_user: bool, text: &str) -> &'static str {
     if text.trim_end_matches(is_blank).ends_with('=') {
-        "the variable has no value; wanted \"\" for an empty one"
+        "the variable has no value; expected \"\" for an empty one"
     } else if has_user {
-        "wanted five fields, a user and a command, or a name as @daily in place of the fields"
+        "expected five fields, a user and a command, or a name as @daily in place of the fields"
     } else {
-        "wanted five fields and a command, or a name as @daily and a command"
+        "expected five fields and a command, or a name as @daily and a command"
     }
 }
 

@@ -198,15 +198,15 @@ fn tell_user(
     let is_known = around.user_named(name).is_some();
     let told = match user {
         Some(_) if !is_known =>
-            "is no user of this machine: HOME and WorkingDirectory are left out, and the group has the same name",
-        None if is_known => "is a user of this machine; if it is a user's field, wanted --system",
+            "is not a user of this machine: HOME and WorkingDirectory are left out, and the group has the same name",
+        None if is_known => "is a user of this machine; if it is a user field, --system is missing",
         _ => return,
     };
     tell_note(host, number, name, told);
 }
 
 const GUARDED: &str =
-    "no 64 entries say its minutes; it starts at more, and a test before the command ends those runs, with code 0, by the zone of TZ= in it: write the launcher's";
+    "64 entries can't express its minutes; it starts more often, and a test before the command ends the other runs with code 0. The test uses the zone of TZ= in it: write the launcher's";
 
 const LOST: &str = "what the jobs write is lost, which cron mailed; --logs FOLDER keeps it";
 

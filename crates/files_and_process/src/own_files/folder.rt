@@ -20,7 +20,7 @@ pub(crate) fn check_data(data: &Metadata, user: Option<u32>) -> io::Result<()> {
     let owner = data.uid();
     let is_own = owner == 0 || user.is_none_or(|user| user == owner);
     if !data.is_dir() {
-        Err(refusal("it is no folder"))
+        Err(refusal("it is not a folder"))
     } else if data.mode() & OTHERS_WRITE != 0 {
         Err(refusal("others may write in it; chmod 700 mends it"))
     } else if !is_own {

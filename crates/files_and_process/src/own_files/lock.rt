@@ -60,7 +60,7 @@ fn busy() -> Error {
 
 /// The error at what is not a plain file.
 pub(crate) fn no_plain_file() -> Error {
-    Error::new(ErrorKind::AlreadyExists, "it is no plain file")
+    Error::new(ErrorKind::AlreadyExists, "it is not a plain file")
 }
 
 // Opens the file, or makes it. None: it came or went in between. A link is not followed, and an open for both ways waits at

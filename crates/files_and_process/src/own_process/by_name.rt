@@ -41,7 +41,7 @@ fn refuse<P: Programs>(host: &HostRuntime, programs: &P, fault: &io::Error) -> u
         return NO_MEMORY;
     }
     let _written = match own_program(host) {
-        Ok(Program::Jobd) => eprintln!(host; "jobd: a word is not UTF-8"),
+        Ok(Program::Jobd) => eprintln!(host; "jobd: an argument is not UTF-8"),
         Ok(Program::Jobctl) => match marked_words(host) {
             Ok(words) => return programs.jobctl(host, words.as_slice()),
             Err(_) => return NO_MEMORY,

@@ -34,7 +34,7 @@ pub fn read_file<R: Files>(
 {
     let data = std::fs::metadata(rt, path)?;
     if !data.is_file() {
-        return Err(io::Error::new(ErrorKind::InvalidInput, "no plain file"));
+        return Err(io::Error::new(ErrorKind::InvalidInput, "not a plain file"));
     }
     let mut bytes = Vec::new(alloc);
     if data.len() == 0 {

@@ -76,7 +76,7 @@ fn take<R: Files>(rt: &R, folder: &HeldFolder, path: &str) -> io::Result<()> {
         Ok(there) if folder.is_ours(&there)? => Ok(()),
         Ok(_) => Err(Error::new(
             ErrorKind::PermissionDenied,
-            "what is at its path and `.binding` is no folder of this user's alone",
+            "its path is taken, and `.binding` is not a folder of this user alone",
         )),
         Err(error) if error.kind() == ErrorKind::NotFound => {
             Err(Error::from(ErrorKind::AddrInUse))

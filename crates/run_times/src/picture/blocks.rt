@@ -20,7 +20,7 @@ const NARROWEST: u16 = 32;
 
 /// What the blocks and the marks mean.
 const LEGEND: &str =
-    "█ code 0\t▓ another code\t▒ a signal\t▚ a crash\t▄ stopped\t▀ lives\tv demand\t~ throttle\tx refusal\n";
+    "█ code 0\t▓ another code\t▒ a signal\t▚ a crash\t▄ stopped\t▀ running\tv request\t~ throttle\tx refusal\n";
 
 /// How the chart is laid out: the columns of its labels, and after a space the axis.
 #[derive(Clone, Copy)]

@@ -29,8 +29,8 @@ pub struct Beside<'a> {
 }
 
 /// What is above the chart. In a window that is narrower than the chart, the chart scrolls, and the names of its rows stay at the left. They are a
-/// list over it, by the heights that `svg` gives: to what is above the rows (64), a row (50), one without a run and a mark (20), and the axis between
-/// rows (34). The colours are literal ones, as in the chart.
+/// list over it, by the heights that `svg` gives. These are 64 for what is above the rows, 50 for a row, 20 for one without a run and a mark, and 34
+/// for the axis between rows. The colours are literal ones, as in the chart.
 pub(crate) const HEAD: &str = "<!DOCTYPE html>
 <html lang=\"en\">
 <head>
@@ -106,7 +106,8 @@ pub(crate) fn put_rest(page: &mut Page<'_>, chart: &Chart, beside: &Beside<'_>) 
         "</figure>\n<h2>What the runs came to</h2>\n<p>Times are in seconds.</p>\n<div class=\"wide\"><table>\n",
     );
     put_table(page, beside.table);
-    page.ink.put("</table></div>\n<h2>Why each job stands as it does</h2>\n<pre>");
+    page.ink
+        .put("</table></div>\n<h2>Why each job runs or not</h2>\n<pre>");
     for line in beside.why.split('\n') {
         put_why(page, line);
     }

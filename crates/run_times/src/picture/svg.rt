@@ -112,13 +112,13 @@ struct Look {
 static LOOKS: [Look; 6] = [
     Look {
         class: "lives",
-        words: "lives",
+        words: "is running",
         mark: r#"<path class="lives" d="M$ $v12l6 -6z"/>
 "#,
     },
     Look {
         class: "well",
-        words: "ended with code $",
+        words: "exited with code $",
         mark: r#"<path class="well" d="M$ $m-2 0h2v12h-2z"/>
 "#,
     },
@@ -130,13 +130,13 @@ static LOOKS: [Look; 6] = [
     },
     Look {
         class: "code",
-        words: "ended with code $",
+        words: "exited with code $",
         mark: r#"<path class="code" d="M$ $m-2 -4h4v20h-4z"/>
 "#,
     },
     Look {
         class: "signal",
-        words: "ended by signal $",
+        words: "was killed by signal $",
         mark: r#"<path class="signal" d="M$ $m-2 -4l7 10l-7 10z"/>
 "#,
     },
@@ -150,7 +150,7 @@ static LOOKS: [Look; 6] = [
 
 /// The marks of each kind, from the middle of their upper edge; the holes are for their number, their place, and the time of the first one.
 const DEMAND: &str =
-    r#"<path class="demand" data-count="$" d="M$ $m-5 0h10l-5 9z"><title>a demand: $"#;
+    r#"<path class="demand" data-count="$" d="M$ $m-5 0h10l-5 9z"><title>a start request: $"#;
 
 const THROTTLE: &str =
     r#"<path class="throttle" data-count="$" d="M$ $m0 0l4.5 4.5l-4.5 4.5l-4.5 -4.5z"><title>a throttle: $"#;
@@ -169,8 +169,8 @@ const LEGEND: &str =
 <text class="faint" x="494" y="$1">a crash</text>
 <rect class="run" x="610" y="$0" width="22" height="12"/><path class="stopped" d="M632 $0m-2 0h2v12h-2z"/><text class="faint" x="644" y="$1">stopped</text>
 <rect class="run" x="760" y="$0" width="22" height="12"/><path class="lives" d="M782 $0v12l6 -6z"/>
-<text class="faint" x="794" y="$1">lives</text>
-<path class="demand" d="M25 $2m-5 0h10l-5 9z"/><text class="faint" x="44" y="$3">a demand</text>
+<text class="faint" x="794" y="$1">running</text>
+<path class="demand" d="M25 $2m-5 0h10l-5 9z"/><text class="faint" x="44" y="$3">a request</text>
 <path class="throttle" d="M175 $2m0 0l4.5 4.5l-4.5 4.5l-4.5 -4.5z"/><text class="faint" x="194" y="$3">a throttle</text>
 <path class="refusal" d="M325 $2m-4 0.5l8 8m0 -8l-8 8"/><text class="faint" x="344" y="$3">a refusal</text>
 <rect class="run" x="460" y="$2" width="22" height="12"/><path class="code" d="M460 $2m0 12v-4h22v4z"/>
@@ -358,7 +358,7 @@ fn put_marks(page: &mut Page<'_>, axis: &Axis, form: &str, marks: &[Mark], top: 
         ];
         page.add(form, &holes);
         let end = if count > 1 {
-            ", and $ more beside it</title></path>\n"
+            ", and $ more next to it</title></path>\n"
         } else {
             "</title></path>\n"
         };

@@ -38,7 +38,7 @@ pub enum JournalFault {
 pub(crate) fn tell_long(host: &HostRuntime, name: &str, line: u64) -> u8 {
     let mut told = Ink::new(host.alloc());
     told.fill(
-        "jobscope: $: line $: longer than 262144 bytes; told is what stands before it\n",
+        "jobscope: $: line $: longer than 262144 bytes; the output covers the lines before it\n",
         &[Piece::Text(name), Piece::Number(line)],
     );
     tell_line(host, told);
@@ -57,15 +57,14 @@ pub(crate) fn tell_fault(host: &HostRuntime, name: &str, fault: JournalFault) ->
             return Ok(BAD_FILE);
         }
         JournalFault::LongLine(line) => return Ok(tell_long(host, name, line)),
-        JournalFault::NoHeader => "line 1: no whole line, where a journal has its header",
-        JournalFault::BadHeader => "line 1: no header of a journal",
-        JournalFault::BadZone => "line 1: the header's zone is none",
-        JournalFault::NoDate => "the clock of its zone shows no such date as that of a moment",
-        JournalFault::BeginsLater => "it begins behind the moment that is asked of",
-        JournalFault::NoFile =>
-            "a moment up to which it is told needs its file, which is read more than once",
+        JournalFault::NoHeader => "line 1: not a complete line; a journal begins with its header",
+        JournalFault::BadHeader => "line 1: not the header of a journal",
+        JournalFault::BadZone => "line 1: the header's zone is not valid",
+        JournalFault::NoDate => "the clock of its zone does not show the date that an option names",
+        JournalFault::BeginsLater => "it begins after the time that an option names",
+        JournalFault::NoFile => "--at and --until need its file, which is read more than once",
         JournalFault::BadSettings => {
-            "line 1: a setting's name is no label, or the reading is past its limit"
+            "line 1: a setting's name is not a label, or the clock reading is past its limit"
         }
     };
     tell_of(host, name, &words);

@@ -257,7 +257,7 @@ fn count_kept(host: &HostRuntime, path: &str, most: u64) -> Result<u64, AllocErr
 /// Opens a journal's file. InvalidInput for anything but a plain file, which is not opened, so that nothing waits at a FIFO.
 pub(crate) fn open_journal(host: &HostRuntime, path: &str) -> io::Result<File> {
     if !metadata(host, path)?.is_file() {
-        return Err(io::Error::new(ErrorKind::InvalidInput, "no plain file"));
+        return Err(io::Error::new(ErrorKind::InvalidInput, "not a plain file"));
     }
     File::open(host, path)
 }
@@ -270,9 +270,9 @@ pub(crate) fn tell_bad(host: &HostRuntime, name: &str, lines: &JournalLines) -> 
         return 0;
     }
     let form = if more == 0 {
-        "jobscope: $: line $ is no event\n"
+        "jobscope: $: line $ is not an event\n"
     } else {
-        "jobscope: $: line $ is no event, and $ more\n"
+        "jobscope: $: line $ is not an event, and $ more\n"
     };
     let mut told = Ink::new(host.alloc());
     let holes = [Piece::Text(name), Piece::Number(first), Piece::Number(more)];

@@ -37,11 +37,11 @@ pub(crate) fn sentences_of(told: &ToldJob<'_>, cause: JobCause) -> Sentences<'st
 fn removing_said(asked: Option<(JobRequest, Reading)>) -> Sentences<'static> {
     match asked {
         Some((asked, at)) => alone(
-            " ($ at $): it is gone once its run has ended.",
+            " ($ at $): it is removed once its run has exited.",
             Text(asked_name(asked)),
             Time(at.wall),
         ),
-        None => alone(": it is gone once its run has ended.", NONE, NONE),
+        None => alone(": it is removed once its run has exited.", NONE, NONE),
     }
 }
 
@@ -56,8 +56,8 @@ fn child_said(told: &ToldJob<'_>, child: StandingChild) -> Sentences<'static> {
         None => alone(".", NONE, NONE),
     };
     said[1] = said_if(told.job.is_lost, " The system refused to wait for it.");
-    said[2] = said_if(child.is_struck, " `jobctl kickstart -k` asked for its end.");
-    said[3] = said_if(child.is_stopped, " Its end was asked for.");
+    said[2] = said_if(child.is_struck, " `jobctl kickstart -k` asked to kill it.");
+    said[3] = said_if(child.is_stopped, " A stop was requested.");
     said[4] = signals_said(told);
     said[5] = term_said(told);
     said
@@ -80,7 +80,7 @@ fn signals_said(told: &ToldJob<'_>) -> Sentence<'static> {
             0,
         ),
         (None, Some(at), OrderWhen::At(up)) => (
-            " TERM was ordered at $; KILL follows at $ if it lives then (ExitTimeOut is $).",
+            " TERM was ordered at $; KILL follows at $ if it is still running then (ExitTimeOut is $).",
             at,
             up,
         ),
@@ -143,8 +143,8 @@ fn demand_form(told: &ToldJob<'_>) -> &'static str {
 
 fn exit_words(successful_exit: Option<bool>) -> &'static str {
     match successful_exit {
-        Some(true) => "true, and its last run ended with code 0.",
-        _ => "false, and its last run did not end with code 0.",
+        Some(true) => "true, and its last run exited with code 0.",
+        _ => "false, and its last run did not exit with code 0.",
     }
 }
 

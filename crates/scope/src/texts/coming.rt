@@ -77,11 +77,11 @@ pub(crate) fn conditions_said<'a>(keys: &JobKeys<'a>) -> Sentence<'a> {
     };
     let form = match (exists, keys.path_state.count) {
         (true, 1) => " once $ exists (KeepAlive PathState),",
-        (false, 1) => " once $ is not there (KeepAlive PathState),",
+        (false, 1) => " once $ does not exist (KeepAlive PathState),",
         (true, _) =>
             " once $ exists, or another of the $ paths of KeepAlive PathState is as it says,",
         (false, _) => {
-            " once $ is not there, or another of the $ paths of KeepAlive PathState is as it says,"
+            " once $ does not exist, or another of the $ paths of KeepAlive PathState is as it says,"
         }
     };
     let count = Number(keys.path_state.count);
@@ -107,9 +107,9 @@ fn has_way(told: &ToldJob<'_>) -> bool {
 fn exit_unmet(successful_exit: Option<bool>) -> &'static str {
     match successful_exit {
         Some(true) => {
-            " KeepAlive SuccessfulExit is true, and its last run did not end with code 0."
+            " KeepAlive SuccessfulExit is true, and its last run did not exit with code 0."
         }
-        Some(false) => " KeepAlive SuccessfulExit is false, and its last run ended with code 0.",
+        Some(false) => " KeepAlive SuccessfulExit is false, and its last run exited with code 0.",
         None => "",
     }
 }

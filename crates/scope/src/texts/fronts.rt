@@ -40,7 +40,7 @@ fn put_child(ink: &mut Ink, child: StandingChild)
     ensures { Adds (front_of_child child) ink.old ink.new }
 {
     put_numbered(ink, "  Run ", child.run);
-    put_numbered(ink, " lives, process ", u64::from(child.pid));
+    put_numbered(ink, " is running, PID ", u64::from(child.pid));
 }
 
 fn put_numbered(ink: &mut Ink, words: &str, number: u64)

@@ -150,17 +150,11 @@ fn add_what(page: &mut Page<'_>, what: &What) {
         ),
         What::NotBegun { run, .. } => ("run $ was refused", Number(run), none),
         What::Lost { run } => (
-            "run $: the system refused to wait for it, its end is not seen",
+            "run $: the system refused to wait for it, so its exit is not seen",
             Number(run),
             none,
         ),
-        What::Began { run, pid } => {
-            (
-                "run $ began, process $",
-                Number(run),
-                Number(u64::from(pid)),
-            )
-        }
+        What::Began { run, pid } => { ("run $ began, PID $", Number(run), Number(u64::from(pid))) }
         What::Told { run, signal } => ("$ was ordered for run $", signal_name(signal), Number(run)),
         What::Untold { run, signal } => (
             "$ could not be sent to run $",
@@ -189,7 +183,7 @@ fn add_ended(page: &mut Page<'_>, run: &JobRun) {
         Text(crash),
         Span(run.lived(page.now)),
     ];
-    page.add("run $ ended $$$ after $", &holes);
+    page.add("run $ $$$ after $", &holes);
 }
 
 // The wait that follows, and the line's end.
@@ -241,9 +235,9 @@ fn level_words(wants: &Wants) -> &'static str {
     if wants.keep_alive {
         "KeepAlive is true"
     } else if wants.successful_exit {
-        "its last end is as KeepAlive SuccessfulExit says"
+        "its last exit is as KeepAlive SuccessfulExit says"
     } else if wants.crashed {
-        "its last end is as KeepAlive Crashed says"
+        "its last exit is as KeepAlive Crashed says"
     } else {
         "connections wait"
     }

@@ -71,6 +71,9 @@ fn add_stream(page: &mut Page<'_>, front: &str, path: Option<&str>) {
 // Which keys of its definition are ignored.
 fn add_unheeded(page: &mut Page<'_>, def: &Def) {
     for name in def.not_acted_on() {
-        page.add("  Nothing acts on $.\n", &[Text(name.as_str())]);
+        page.add(
+            "  $ is not supported, so it is ignored.\n",
+            &[Text(name.as_str())],
+        );
     }
 }

@@ -78,7 +78,7 @@ pub(crate) fn add_coming(
     ) {
         StartWhen::Since(at) => {
             page.add(
-                "  By the clocks alone its start has been due since $.\n",
+                "  Its start has been overdue since $.\n",
                 &[Time(second_told(throttle, at))],
             );
         }
@@ -123,9 +123,6 @@ pub(crate) fn start_second(
 fn add_since(page: &mut Page<'_>, what: &'static str, up: Option<u64>, last: Reading) {
     if let Some(up) = up {
         let at = Time(coming_second(last, up));
-        page.add(
-            "  By the clocks alone $ has been due since $.\n",
-            &[Text(what), at],
-        );
+        page.add("  $ has been overdue since $.\n", &[Text(what), at]);
     }
 }

@@ -194,12 +194,12 @@ pub(crate) fn told_of<'a>(
 // That a job's launcher has exited, and the PID of its run.
 fn add_gone(page: &mut Page<'_>, job: &JobStatus<'_>) {
     page.add(
-        "\n$ is run by no launcher: that of this file is gone.\n",
+        "\n$ is not supervised: the launcher that wrote this file has exited.\n",
         &[Text(job.label)],
     );
     if let Some(child) = job.facts.reasons.child {
         let form =
-            "  Run $ lived (process $) when the file was written. Whether that process still does is not told here.\n";
+            "  Run $ was running (PID $) when the file was written. The file does not say whether it still is.\n";
         page.add(form, &[Number(child.run), Number(u64::from(child.pid))]);
     }
 }

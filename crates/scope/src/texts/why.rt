@@ -245,14 +245,14 @@ pub(crate) fn add_last_end(page: &mut Page<'_>, job: &Record, count: u64, word: 
         Number(count),
         Text(word),
     ];
-    let form = "  It ended last $$$, at $, after $; $ $ since its load, $ $.\n";
+    let form = "  Its last run $$$, at $, after $; $ $ since its load, $ $.\n";
     page.add(form, &holes);
 }
 
 /// Adds that the last start was refused, where the system's reason is not kept.
 pub(crate) fn add_refused(page: &mut Page<'_>, run: &JobRun) {
     let form =
-        "  Its last start (run $) was refused, at $. The system's reason stood on the launcher's standard error (journalctl -u jobd).\n";
+        "  Its last start (run $) was refused, at $. The launcher logged the system's reason to its standard error (journalctl -u jobd).\n";
     page.add(form, &[Number(run.run), Time(run.ended.wall)]);
 }
 
@@ -260,7 +260,7 @@ pub(crate) fn add_refused(page: &mut Page<'_>, run: &JobRun) {
 fn add_inert(page: &mut Page<'_>, keys: &[history_model::Text]) {
     for key in keys {
         if let Some(condition) = key.as_str().strip_prefix("KeepAlive.") {
-            let form = "  Nothing acts on its KeepAlive $: that never wants it.\n";
+            let form = "  Its KeepAlive $ is not supported: it never starts the job.\n";
             page.add(form, &[Text(condition)]);
         }
     }

@@ -54,9 +54,9 @@ pub(crate) fn refusal_name(refusal: Refusal) -> &'static str {
 /// How a run ended: the text before the number, and the number.
 pub(crate) fn end_words(end: RunEnd) -> (&'static str, u8) {
     match end {
-        RunEnd::Code(code) => ("with code ", code),
-        RunEnd::Signal(signal) => ("by signal ", signal),
-        RunEnd::Awaited | RunEnd::Lives | RunEnd::Refused => ("with no end ", 0),
+        RunEnd::Code(code) => ("exited with code ", code),
+        RunEnd::Signal(signal) => ("was killed by signal ", signal),
+        RunEnd::Awaited | RunEnd::Lives | RunEnd::Refused => ("has not exited ", 0),
     }
 }
 
@@ -66,9 +66,9 @@ pub(crate) fn demand_words(demand: Option<DemandKind>) -> &'static str {
         Some(DemandKind::Load) => "it starts at its load",
         Some(DemandKind::Start) => "`jobctl start` asked for it",
         Some(DemandKind::Kickstart) => "`jobctl kickstart` asked for it",
-        Some(DemandKind::Interval) => "its StartInterval was over",
+        Some(DemandKind::Interval) => "its StartInterval passed",
         Some(DemandKind::Calendar) => "an entry of StartCalendarInterval matched",
         Some(DemandKind::Path) => "a path of WatchPaths changed",
-        None => "a demand is pending",
+        None => "a start request is pending",
     }
 }

@@ -95,9 +95,9 @@ pub const A_LOST_CHILD: &Refused = &Refused {
         (SECOND, Scripted::Started(7)),
     ],
     told: Some(&[
-        "no look-out can be started from /proc/self/exe: a path that hangs stops the launcher",
+        "no helper process can be started from /proc/self/exe: a path that hangs stops the launcher",
         "a: run 1: cannot wait for its end: permission denied",
-        "a: run 1: cannot TERM: it can't be waited for, so its number may be another's",
+        "a: run 1: cannot TERM: it can't be waited for, so its PID may be another process's",
         "a: run 1: cannot KILL: permission denied",
         "a: run 1: cannot start /bin/x: entity already exists",
     ]),

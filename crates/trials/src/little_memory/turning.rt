@@ -125,7 +125,7 @@ static CALLS: &[(&str, Option<&Turn>)] = &[
         }),
     ),
     (
-        "turn: a reading that crosses minutes",
+        "turn: a clock reading that crosses minutes",
         Some(&Turn {
             before: LOAD_CALENDAR,
             answers: &[STARTED],

@@ -23,11 +23,11 @@ const JOURNAL: &[u8] = b"{\"overrides\":{},\"up\":0,\"wall\":1700000000,\"zone\"
 
 /// The first pass reports each refusal; the second finds the child's end.
 const TOLD: &str =
-    "jobd: no look-out can be started from /proc/self/exe: a path that hangs stops the launcher
+    "jobd: no helper process can be started from /proc/self/exe: a path that hangs stops the launcher
 jobd: a: run 1: cannot wait for its end: permission denied
-jobd: cannot look at /w: permission denied
+jobd: cannot check /w: permission denied
 jobd: a: cannot let a client in: Invalid argument (os error 22)
-jobd: control socket: cannot look at its file: permission denied
+jobd: control socket: cannot check its file: permission denied
 ";
 
 /// A child for which the first two waits are refused.

@@ -9,5 +9,5 @@ returns c =
     let a = c.args.ink.now in
     let b = c.put_numbered.new.ink in
     let d = c.put_numbered-2.new.ink in
-    adds_on (codes "  Run " ++ decimal c.args.child.run) (codes " lives, process " ++ decimal c.args.child.pid) a b d c.put_numbered.ensures
-    (subst (λ n. Adds (codes " lives, process " ++ decimal n) b d) c.from.ensures c.put_numbered-2.ensures)
+    adds_on (codes "  Run " ++ decimal c.args.child.run) (codes " is running, PID " ++ decimal c.args.child.pid) a b d c.put_numbered.ensures
+    (subst (λ n. Adds (codes " is running, PID " ++ decimal n) b d) c.from.ensures c.put_numbered-2.ensures)
