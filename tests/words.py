@@ -4,8 +4,12 @@
     tests/words.py [PAGE..]     the pages that users read (USERS), or those that are named: one line a breach, and the status is 1 if there is one
     tests/words.py --all        counts breaches in all pages, page by page, and apart from them the words of the specification in pages about it (SPECIFIED);
                                 the status is 0
-    tests/words.py --crates     counts breaches in helps and messages (texts of crates/*/src) and in doc comments, crate by crate; the status is 0
+    tests/words.py --crates     lists the breaches in texts of crates/*/src, which are helps and messages, and counts those in doc comments, crate by crate:
+                                the status is 1 if a text has one
     tests/words.py --crates NAME..  lists the breaches in the doc comments of these crates: the status is 1 if there is one
+
+A text is a string of two words or more. Each of its lines is looked at by itself. What code must have as it is, is listed with the reason (FIXED);
+an entry of that list that no text needs is a breach, too.
 
 A sentence has at most 30 words; code in it counts as one. A coined word has the field's word in its place: the table is COINED. Code, commands,
 what programs print, and file names are not looked at.
@@ -71,6 +75,25 @@ COINED = [(re.compile(form), instead) for form, instead in COINED]
 
 # Words of the specification, which docs/GLOSSARY.md defines for its second kind of reader. Pages that users read have none of them either.
 SPECIFIED = re.compile(r"'(?:moments?|rounds?|demands?|struck|lives|(?:is|are|has|have) gone|tells?|told)' ")
+
+# Texts that are not sentences for a user: where they are, what is not looked at there, and why it is as it is.
+FIXED = [
+    ("moment_words/src/reading.rt", r"^HH:MM, .*", "it is mended with the next proof of its crate"),
+    ("job_defs/src/load_text.rt", r"not acted on:", "a reply of the protocol"),
+    ("loaded_jobs/src/texts.rt", r"\\tdemand = ", "a line of the reply to print, which the protocol fixes"),
+    ("trials/src/little_memory/replaying.rt", r"\\tdemand = ", "a line of the reply to print"),
+    ("trials/src/little_memory/turning.rt", r"\\tdemand = ", "a line of the reply to print"),
+    ("child_edge/src/notices.rt", r"ended with code", "contrib/jobd-run reads it back in a line of JOBD_LOG=runs"),
+    ("files_and_process/src/own_process/program.rt", r"jobd-look-out", "the name of a program, which contrib/jobd-run reads in /proc"),
+    ("look_out/src/helper.rt", r"jobd-look-out", "the name of a program, which contrib/jobd-run reads in /proc"),
+    ("run_times/src/picture/svg.rt", r"(?:\.runs \.|@media ).*", "CSS: the classes of shapes"),
+    ("trials/src/rounds/refusals.rt", r"^\{.*", "a line of a journal"),
+    ("override_store/src/open.rt", r"CREATE TABLE.*", "SQL: the tables of the store"),
+    ("startup/src/looking.rt", r"SELECT .* FROM overrides", "SQL: a table of the store"),
+    ("trials/src/stores/calls.rt", r"CREATE TABLE.*", "SQL: the tables of the store"),
+    ("trials/src/stores/files.rt", r"CREATE TABLE.*", "SQL: the tables of the store"),
+    ("trials/src/little_memory/storing.rt", r"DROP TABLE .*", "SQL: the tables of the store"),
+]
 
 PUNCTUATION = {".", ",", ";", ":", "(", ")", "[", "]", "?", "!"}
 # Macros of mdoc(7) whose arguments are code, and those that only mark a text.
@@ -171,8 +194,8 @@ def units_of_mdoc(text):
         yield start, done()
 
 
-def units_of_source(text):
-    """The doc comments of a source, and its texts of three words or more, each with its line."""
+def comments_of_source(text):
+    """The doc comments of a source, each with its first line."""
     comment, start = [], 0
     for number, line in enumerate([*text.split("\n"), ""], 1):
         found = re.match(r"\s*//[/!] ?(.*)", line)
@@ -181,12 +204,30 @@ def units_of_source(text):
             comment.append(found[1])
             continue
         if comment:
-            yield "comments", start, plain_line(" ".join(comment))
+            yield start, plain_line(" ".join(comment))
             comment = []
-        if not re.match(r"\s*//", line):
-            for it in re.findall(r'"((?:[^"\\]|\\.)*)"', line):
-                if len(re.findall(r"[A-Za-z]{2,}", it)) >= 3:
-                    yield "texts", number, it
+
+
+# A comment, a character, a raw string or a string of a source.
+TOKEN = re.compile(r"//[^\n]*|'(?:\\u\{\w*\}|\\x\w\w|\\.|[^'\\\n])'|\br(#*)\"(.*?)\"\1|\"((?:[^\"\\]|\\.)*)\"", re.S)
+
+
+def texts_of_source(text):
+    """The lines of each string of a source that has two words or more, each with the line where the string begins."""
+    for it in TOKEN.finditer(text):
+        string = it[2] if it[2] is not None else it[3]
+        if string is None:
+            continue
+        for row in re.split(r"\n|\\n", string):
+            if len(re.findall(r"[A-Za-z]{2,}", row)) >= 2:
+                yield text.count("\n", 0, it.start()) + 1, row
+
+
+def plain_text(row):
+    """A line of a text with one word for each hole, each quotation and each piece of code."""
+    row = re.sub(r"</?\w[^>]*>", " ", row)
+    row = re.sub(r"\{[^{} ]*\}|\$\d*|`[^`]*`|\\\"[^\"]*\\\"", " CODE ", row.replace("\\t", " "))
+    return re.sub(r"CODE\s+([.,;:)?!])", r"CODE\1", row)
 
 
 def sentences(unit):
@@ -219,7 +260,19 @@ def in_page(path):
 
 
 def in_comments(path):
-    return [f"{path}:{number}: {it}" for kind, number, unit in units_of_source(read(path)) if kind == "comments" for it in breaches(unit)]
+    return [f"{path}:{number}: {it}" for number, unit in comments_of_source(read(path)) for it in breaches(unit)]
+
+
+def in_texts(path, needed):
+    """The breaches in the texts of a source. The entries of FIXED that a text needs are added to `needed`."""
+    faults = []
+    for number, row in texts_of_source(read(path)):
+        for at, form, _ in FIXED:
+            if path == f"crates/{at}" and any(breaches(plain_text(row))):
+                row, count = re.subn(form, "CODE", row)
+                needed.update({(at, form)} if count else ())
+        faults += [f"{path}:{number}: {it}" for it in breaches(plain_text(row))]
+    return faults
 
 
 def main(words):
@@ -229,14 +282,15 @@ def main(words):
         print("\n".join([*faults, f"words: {len(paths)} files, {len(faults)} breaches in doc comments"]))
         return 1 if faults else 0
     if words == ["--crates"]:
-        counts = {}
+        counts, faults, needed = {}, [], set()
         for path in sorted(glob.glob("crates/*/src/**/*.rt", recursive=True)):
-            for kind, _, unit in units_of_source(read(path)):
-                counts.setdefault(path.split("/")[1], {"comments": 0, "texts": 0})[kind] += sum(1 for _ in breaches(unit))
-        for crate, of in sorted(counts.items()):
-            print(f"{crate}: {of['comments']} in doc comments, {of['texts']} in texts")
-        print(f"words: {sum(it['comments'] for it in counts.values())} in doc comments, {sum(it['texts'] for it in counts.values())} in texts")
-        return 0
+            crate = path.split("/")[1]
+            counts[crate] = counts.get(crate, 0) + len(in_comments(path))
+            faults += in_texts(path, needed)
+        faults += [f"tests/words.py: FIXED: no text of crates/{at} needs {form!r}" for at, form, _ in FIXED if (at, form) not in needed]
+        print("\n".join([*faults, *(f"{crate}: {count} in doc comments" for crate, count in counts.items() if count)]))
+        print(f"words: {sum(counts.values())} in doc comments, {len(faults)} in texts")
+        return 1 if faults else 0
     if words == ["--all"]:
         pages = sorted({*USERS, *glob.glob("*.md"), *glob.glob("docs/*.md"), *glob.glob("crates/*/README.md"), "bench/RESULTS.md"})
         counts, specified = {}, 0

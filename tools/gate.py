@@ -1,10 +1,10 @@
 #!/usr/bin/env python3
-"""The gate: `rt ci`, then the sentences of the pages, and then the scenes over the program that it proved.
+"""The gate: `rt ci`, then the sentences of the pages and of the programs' texts, and then the scenes over the program that it proved.
 
     tools/gate.py
 
 All write as they go. The last line is `N passed, M failed` over them: crates and wrong bodies of `rt ci`, one for the sentences of the pages that users read
-(tests/words.py, two seconds), and scenes (tests/scenes/play.py). The scenes are not played if `rt ci` failed. Kit 13b leaves no program of Rattle's own compiler; then no scene is played by that one, and it is said.
+(tests/words.py, two seconds), one for the texts that the programs print (tests/words.py --crates, four seconds), and scenes (tests/scenes/play.py). The scenes are not played if `rt ci` failed. Kit 13b leaves no program of Rattle's own compiler; then no scene is played by that one, and it is said.
 """
 import os
 import re
@@ -35,9 +35,9 @@ def run(words, front):
 
 
 def sentences():
-    """Whether the pages that users read keep to the rules of a sentence: passed and failed."""
-    kept = subprocess.run([sys.executable, "tests/words.py"], cwd=TOP, stdin=subprocess.DEVNULL).returncode == 0
-    return int(kept), int(not kept)
+    """Whether the pages that users read, and the texts that the programs print, keep to the rules of a sentence: passed and failed."""
+    statuses = [subprocess.run([sys.executable, "tests/words.py", *of], cwd=TOP, stdin=subprocess.DEVNULL).returncode for of in ([], ["--crates"])]
+    return statuses.count(0), len(statuses) - statuses.count(0)
 
 
 def main():
