@@ -6,7 +6,7 @@ use crate::fault::ServeFault;
 use mio::{Events, Poll, Registry};
 use std::time::Duration;
 
-/// What the rounds wait on.
+/// What the passes of the event loop wait on.
 #[derive(Drop)]
 pub(crate) struct RoundPoll {
     poll: Poll,
@@ -21,7 +21,7 @@ impl RoundPoll {
         self.poll.registry()
     }
 
-    /// Waits until something is there, for so many milliseconds at most. Poll, if the system refuses.
+    /// Waits until something is there, at most this many milliseconds. Poll, if the system refuses.
     pub(crate) fn wait(&mut self, events: &mut Events, wait: u64) -> Result<(), ServeFault>
         requires { wait ≤ 100 }
     {

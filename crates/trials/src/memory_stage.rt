@@ -1,5 +1,5 @@
-//! A launcher for trials: its edge answers by a script, its store of settings and its journal are in memory. Each of the three
-//! can be told to refuse.
+//! A launcher for trials: its edge answers by a script, its store of settings and its journal are in memory. A case can have
+//! each of the three refuse.
 mod memory_store;
 mod sink;
 mod stage;

@@ -62,8 +62,8 @@ pub const OLD_BESIDE_NEW: &[Listed<'static>] = &[Listed {
     want: &[("a", true, 0)],
 }];
 
-/// The files after this text made their database, or nothing if it is empty, and each of these was set and listed, closed, and listed again by
-/// a store over them, if all of them go as they say.
+/// The files that are left. First this text made their database, unless it is empty. Then a store over the files set and listed each of these,
+/// closed, and listed them again. None, if a result is not as it says.
 pub fn left_by(alloc: Global, made: &'static str, rounds: &[Listed<'_>]) -> Option<Disks> {
     let mut files = so_over(alloc, new_disks(alloc), 3, Task::Execute(made))?;
     for round in rounds {

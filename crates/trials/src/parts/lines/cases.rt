@@ -1,5 +1,5 @@
 //! Lines as other programs write them, one to a line: by the rows of the tables, and not from what `ctl_protocol` writes. Lines of a journal that
-//! are no event lie in `data/` of `try_replay`.
+//! are not events are in `data/` of `try_replay`.
 
 /// Lines of a journal as they are written. Each is read, and written again.
 pub const EVENTS: &str = r#"{"F":false,"bind":true,"def":"..","ev":"load","store":true,"w":false}
