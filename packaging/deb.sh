@@ -43,7 +43,7 @@ rm "$doc/LICENSE-MIT" "$doc/LICENSE-APACHE"
 mkdir -p "$root/usr/share/zsh/vendor-completions"
 mv "$root"/usr/share/zsh/site-functions/* "$root/usr/share/zsh/vendor-completions"
 rmdir "$root/usr/share/zsh/site-functions"
-printf 'jobd (%s) unstable; urgency=medium\n\n  * CHANGELOG.md beside this file says what changed.\n\n -- %s  %s\n' "$version" \
+printf 'jobd (%s) unstable; urgency=medium\n\n  * CHANGELOG.md next to this file says what changed.\n\n -- %s  %s\n' "$version" \
     "$(sed -n 's/^Maintainer: //p' "$debian/control")" "$(date -u -R -d "@$SOURCE_DATE_EPOCH")" >"$doc/changelog"
 awk -v license="LICENSE-MIT" '$0 == "@MIT@" { while ((getline row <license) > 0) print row == "" ? " ." : " " row; next } { print }' \
     "$debian/copyright" >"$doc/copyright"

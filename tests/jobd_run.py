@@ -416,7 +416,7 @@ def killed_launcher(place):
     os.kill(launcher, signal.SIGKILL)
     check(keeper.wait(MOST) == 128 + 9, f"status {keeper.returncode}: {place.told()}")
     check(gone(child), "the job is left")
-    place.check_told(f"left by a launcher that ended: {child} (sleep) gets TERM")
+    place.check_told(f"left by a launcher that exited: {child} (sleep) gets TERM")
     place.check_nothing_left()
     place.start()
     place.running("a")
@@ -443,7 +443,7 @@ def killed_both(place, script_first):
         check(place.running(label) not in children, "a job was not ended")
     for child in children:
         check(gone(child), "a job is left")
-        place.check_told(f"left by a launcher that ended: {child} (sleep) gets TERM")
+        place.check_told(f"left by a launcher that exited: {child} (sleep) gets TERM")
     place.check_once()
 
 
@@ -738,7 +738,7 @@ def beside_a_hung_look_out(place, stop):
         check(second != child and gone(child), "the job was not ended")
         for pid in looks:
             check(not gone(pid), "the look-out ended, so this tries nothing")
-            place.check_told(f"left by a launcher that ended: {pid} (exe) is a look-out, and KILL does not end it")
+            place.check_told(f"left by a launcher that exited: {pid} (exe) is a helper process, and KILL does not end it")
         check("can't be ended" not in place.told(), place.told())
         print(f"jobd_run: beside {len(looks)} look-outs in state D the job runs after {spent:.1f} s")
         # Two seconds on a quiet machine; without it, none.
@@ -919,7 +919,7 @@ def ended_launcher_is_told(place):
     place.define("a")
     keeper = place.start(JOBD_OPTIONS="--zone nonsense")
     check(keeper.wait(MOST) == 7, f"status {keeper.returncode}: {place.told()}")
-    place.check_told("the launcher ended with status 7 before it answered")
+    place.check_told("the launcher exited with status 7 before it answered")
 
 
 @scene

@@ -73,7 +73,7 @@ for row in 'in/redis.plist: out/nobody/redis.json, without UserName nobody' 'in/
     'out/jail.json: its WorkingDirectory is taken out: the job starts in / of its RootDirectory'; do
     grep -qF "$row" told || fail "not said: $row in $(cat told)"
 done
-for row in 'in/broken.plist: no property list' 'in/list.json: no ' "in/up.json: UserName '../up' is no name of a user"; do
+for row in 'in/broken.plist: not a property list' 'in/list.json: not ' "in/up.json: UserName '../up' is not the name of a user"; do
     grep -qF "$row" faults || fail "not told: $row in $(cat faults)"
 done
 [ "$(wc -l <faults)" = 3 ] || fail "other faults: $(cat faults)"

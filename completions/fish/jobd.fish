@@ -6,7 +6,7 @@ complete -c jobd -f
 complete -c jobd -s h -l help -d 'Print help'
 complete -c jobd -n $none -a serve -d 'Run the launcher'
 complete -c jobd -n $none -a replay -d 'Replay a journal from standard input'
-complete -c jobd -n $none -a overrides -d "Print each label's override"
+complete -c jobd -n $none -a overrides -d "Print each label's setting"
 complete -c jobd -n $none -a help -d 'Print help'
 complete -c jobd -n '__fish_seen_subcommand_from serve' -l socket -r -F -d 'The control socket to make'
 complete -c jobd -n '__fish_seen_subcommand_from serve overrides' -l store -r -F -d 'The store of settings'
