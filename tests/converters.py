@@ -36,7 +36,7 @@ SYSTEMD = [
       "vars": "# it\nA=plain words  \nB=\"a \\\"b\\\" $c\"\nC='x'  y\\ z\n"}, "a.service", {"ProgramArguments": ["/bin/x", "plain words", 'a "b" $c', "xy z"]}, [], []),
     ({"a.service": "[Service]\nExecStart=/bin/x\n", "a.timer": "[Timer]\nOnCalendar=Mon-Fri 10:00\n"}, "a.timer",
      {"StartCalendarInterval": [{"Weekday": day, "Hour": 10, "Minute": 0} for day in (1, 2, 3, 4, 5)]}, [], []),
-    ({"a.service": "[Service]\nExecStart=/bin/x\n", "a.timer": "[Timer]\nOnCalendar=Monkey 10:00\n"}, "a.timer", None, ["'monkey' is no weekday"], []),
+    ({"a.service": "[Service]\nExecStart=/bin/x\n", "a.timer": "[Timer]\nOnCalendar=Monkey 10:00\n"}, "a.timer", None, ["'monkey' is not a weekday"], []),
     ({"a.service": "[Service]\nExecStart=/bin/x\nRestart=on-failure\n", "a.timer": "[Timer]\nOnCalendar=daily\n"}, "a.timer", {"KeepAlive": {"SuccessfulExit": False}},
      ["Restart=on-failure: a job that is kept alive starts at its load too"], []),
     ({"a.service": "[Service]\nExecStart=-/bin/x\nLimitFSIZE=1G\nLimitNICE=+5\nLimitCPU=1min\nLimitNOFILE=1K\n"}, "a.service",
