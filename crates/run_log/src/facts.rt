@@ -1,5 +1,9 @@
 //! What happens to the runs of a load of a job, and what is known of them, as plain data.
 
+ghost use Rattle.std.specs.Prelude.{◌≡◌, []};
+ghost use Rattle.run_log.specs.Kept.{kept_of};
+ghost use Rattle.run_log.specs.Shown.{shown};
+
 use history_model::{Ended, Reading, Text};
 
 /// What happens to the runs of a load of a job.
@@ -69,4 +73,29 @@ pub struct RunFacts<'a> {
     pub refused: Option<RefusedStart<'a>>,
     /// Whether that was the last start that was answered.
     pub is_refused: bool,
+}
+
+impl<'a> RunFacts<'a> {
+    /// Of a job that was loaded at this clock reading, and of whose runs nothing was heard.
+    pub fn of_load(loaded: Reading) -> RunFacts<'a>
+        ensures { shown result ≡ kept_of loaded [] }
+    {
+        RunFacts {
+            loaded,
+            since: loaded,
+            run: 0,
+            starts: 0,
+            refusals: 0,
+            ends: 0,
+            failures: 0,
+            started: None,
+            begun: None,
+            term: None,
+            kill: None,
+            last_end: None,
+            succeeded: None,
+            refused: None,
+            is_refused: false,
+        }
+    }
 }
