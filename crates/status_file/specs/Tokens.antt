@@ -26,8 +26,8 @@ use Rattle.status_file.specs.declared.status.DisabledBy.TheVariants.{Definition,
 use Rattle.status_file.specs.declared.status.JobKeys.{JobKeys}
 use Rattle.status_file.specs.declared.status.JobNote.{JobNote}
 use Rattle.status_file.specs.declared.status.JobStatus.{JobStatus}
-use Rattle.status_file.specs.declared.status.RefusedStart.{RefusedStart}
-use Rattle.status_file.specs.declared.status.RunEnd.{RunEnd}
+use Rattle.run_log.specs.declared.facts.RefusedStart.{RefusedStart}
+use Rattle.run_log.specs.declared.facts.RunEnd.{RunEnd}
 
 -- ---- pieces
 
