@@ -2,14 +2,17 @@
 #![tactic(auto)]
 
 mod age;
+mod as_root;
 mod at;
 mod by_file;
 mod charted;
 mod clock;
+mod counted;
 mod drift;
 mod ended;
 mod errors;
 mod journal;
+mod kept_journals;
 mod left;
 mod listener;
 mod log;
@@ -17,6 +20,7 @@ mod objects;
 mod page;
 mod program;
 mod report;
+mod settings;
 mod texts;
 mod window;
 mod writer;

@@ -1,6 +1,7 @@
 //! What is known of the runs of each loaded job: a small record next to the table, which is dropped once its job is removed.
 
 use crate::jobs::{NUMBERS, is_loaded, job_of};
+use crate::settings_made::SettingsMade;
 use crate::status::{JobNote, RefusedStart, RunEnd};
 use history_model::{Ended, JobNo, Reading, Text};
 use job_table::JobTable;
@@ -114,6 +115,7 @@ pub struct RunNotes {
     jobs: Vec<Option<RunNote>>,
     // In their order, since the jobs were seen last.
     loads: Vec<Load>,
+    settings: SettingsMade,
     /// The present clock reading.
     pub at: Reading,
 }
@@ -124,6 +126,7 @@ impl RunNotes {
             alloc,
             jobs: Vec::new(alloc),
             loads: Vec::new(alloc),
+            settings: SettingsMade::new(alloc),
             at,
         }
     }
@@ -165,6 +168,7 @@ impl RunNotes {
         if !self.loads.is_empty() {
             self.define_all(table);
         }
+        self.settings.see_all(table, self.at);
     }
 
     /// A load of this label was accepted. The digest is that of its definition.
@@ -281,6 +285,7 @@ impl RunNotes {
         if let Some(slot) = self.jobs.get_mut(job as usize) {
             drop(slot.take());
         }
+        self.settings.gone(job);
     }
 
     /// What is known of this job since its load.
@@ -306,6 +311,7 @@ impl RunNotes {
             succeeded: counted.succeeded,
             refused,
             definition,
+            disabled_at: self.settings.of(job),
         }
     }
 }

@@ -55,7 +55,7 @@ const OPENING: &str =
 .runs .faint { fill: #5b6875; }
 .runs .label { font-weight: bold; }
 .runs .tick, .runs .base { stroke: #d9dfe5; fill: none; }
-.runs .run { fill: #b9c5d0; }
+.runs .run { fill: #93a3b4; }
 .runs .well { fill: #2e7d5b; }
 .runs .code { fill: #c25e00; }
 .runs .signal { fill: #7b4fb5; }
