@@ -90,7 +90,7 @@ def bars_of(group):
 def faults_of_svg(text, header, events):
     root = ET.fromstring(text)
     rows = {group.find(SVG + "text").text: group for group in root.findall(SVG + "g") if group.find(SVG + "text") is not None
-            and group.find(SVG + "text").get("class") == "label"}
+            and "label" in group.find(SVG + "text").get("class").split()}
     runs, first, last = runs_of(header, events)
     axis = axis_of(first, last)
     for label, told in runs.items():
@@ -159,7 +159,7 @@ def faults_of_page(text, table):
 
 def faults_of_names(page, figure):
     """The names that stay in sight as a narrow window scrolls are the labels of the rows, in order."""
-    labels = [text.find(SVG + "title").text for text in ET.fromstring(figure).iter(SVG + "text") if text.get("class") == "label"]
+    labels = [text.find(SVG + "title").text for text in ET.fromstring(figure).iter(SVG + "text") if "label" in (text.get("class") or "").split()]
     names = [html.unescape(name) for name in re.findall(r'<li(?: class="idle")?><bdi>(.*?)</bdi></li>', page)]
     if names != labels:
         yield f"the names beside the rows are {names}; wanted {labels}"

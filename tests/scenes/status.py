@@ -7,6 +7,7 @@ import json
 import os
 import re
 import resource
+import shutil
 import stat
 import subprocess
 import time
@@ -410,9 +411,9 @@ def status_files_that_are_refused(stage):
 # The families of a job's samples, by name: their kind, what they tell, and the value by the job's part of the file.
 FAMILIES = {
     "jobd_job_running": ("gauge", "Whether a run of the job is running.", lambda job: int(job["pid"] is not None)),
-    "jobd_job_starts_total": ("counter", "Starts that were ordered since the load, including refused ones.", lambda job: job["starts"]),
-    "jobd_job_failures_total": ("counter", "Runs since the load that did not exit with code 0.", lambda job: job["failures"] - job["refusals"]),
-    "jobd_job_refused_total": ("counter", "Starts since the load that the system refused.", lambda job: job["refusals"]),
+    "jobd_job_starts_total": ("counter", "Starts that were ordered, including refused ones.", lambda job: job["starts"]),
+    "jobd_job_failures_total": ("counter", "Runs that did not exit with code 0.", lambda job: job["failures"] - job["refusals"]),
+    "jobd_job_refused_total": ("counter", "Starts that the system refused.", lambda job: job["refusals"]),
     "jobd_job_last_end_timestamp_seconds": (
         "gauge", "When the last run of the job exited.", lambda job: job["last_end"] and job["last_end"]["ended"]["wall"]),
 }
@@ -421,7 +422,7 @@ NEXT_HEAD = f"# HELP {NEXT} When the job is scheduled to start next.\n# TYPE {NE
 # Those behind the next starts.
 LATER = {
     "jobd_job_last_success_timestamp_seconds": (
-        "gauge", "When a run of the job last exited with code 0, since its load.", lambda job: job["succeeded"] and job["succeeded"]["wall"]),
+        "gauge", "When a run of the job last exited with code 0.", lambda job: job["succeeded"] and job["succeeded"]["wall"]),
     "jobd_job_last_exit_code": (
         "gauge", "The exit code of the last run of the job, or 128 plus the signal that killed it.",
         lambda job: job["last_end"] and job["last_end"].get("code", 128 + job["last_end"].get("signal", 0))),
@@ -644,7 +645,7 @@ def why_and_status_of_now(stage):
     comes_to_say(stage, path, "crashed", "Its last run was killed by signal 11 (a crash)", "Nothing wants it.")
     comes_to_say(stage, path, "spent", "LaunchOnlyOnce is true, and a start went well.")
     launcher.ask({"req": "disable", "job": "disabled"})
-    comes_to_say(stage, path, "disabled", "disabled is running.", "It is disabled: `jobctl enable disabled`.")
+    comes_to_say(stage, path, "disabled", "disabled is running.", "It is disabled since ", ": `jobctl enable disabled`.")
     job_where(path, "stopped", lambda job: job["state"] == "running")
     launcher.ask({"req": "stop", "job": "stopped"})
     comes_to_say(stage, path, "stopped", "Its last run was killed by signal 15, ", "Nothing wants it.")
@@ -719,6 +720,37 @@ def what_a_socket_waits_for(stage):
     check(rows["asked"][-2:] == ["a", "request"], f"of a job that is only asked for: {rows['asked']}")
 
 
+# What `why` says of a file that root does not read.
+NOT_READ = "it can't be read: root does not read what another user may have put there"
+
+
+def what_root_reads(stage, path, plain):
+    """Root's `why` reads no file by a link, and of a file or journal of another user's only what is that user's."""
+    def end(*words):
+        return asked(stage, path, "why", "plain", *words)[1].splitlines()[-1].partition("; ")[2]
+
+    secret, theirs, journal = stage.at("secret"), stage.at("theirs.jsonl"), stage.at("theirs.journal")
+    make(secret, "a secret\n")
+    shutil.copyfile(path, theirs)
+    shutil.copyfile(stage.at("journal"), journal)
+    for source in (["--status-file", theirs], ["--journal", journal]):
+        os.chown(source[1], 65534, 65534)
+        check(end(*source) == NOT_READ, f"of {source} of another user, of a file of root's: {end(*source)!r}")
+        os.chown(plain, 65534, 65534)
+        check(end(*source).startswith("the last line is: no "), f"of {source} of another user, of that user's file: {end(*source)!r}")
+        os.chown(plain, 0, 0)
+    os.rename(plain, plain + ".kept")
+    os.symlink(secret, plain)
+    check(end() == "it can't be read: no plain file", f"by a symbolic link: {end()!r}")
+    os.unlink(plain)
+    os.link(secret, plain)
+    check(end() == NOT_READ, f"by a hard link: {end()!r}")
+    os.rename(plain + ".kept", plain)
+    with open(stage.at("journal"), "rb") as given:
+        ran = subprocess.run([*stage.given.jobscope, "why", "plain"], stdin=given, capture_output=True, timeout=patience(), text=True)
+    check(ran.stdout.splitlines()[-1].endswith(NOT_READ), f"by a journal on standard input: {ran.stdout!r}")
+
+
 def where_errors_went(stage):
     """Of a failed run where its errors went, with the last line of that file if it is a plain one, by the status file and by the journal. Of a job that runs, what its
     process takes."""
@@ -752,6 +784,8 @@ def where_errors_went(stage):
         check("errors" not in asked(stage, path, "why", "well", *source)[1], f"of a job that ended well by {source}")
         objects = [json.loads(line) for line in asked(stage, path, "why", "--failing", "--json", *source)[1].splitlines()]
         check([it.get("errors") for it in objects] == [empty, fifo, stage.at("long.err"), None, plain], f"objects by {source}: {objects}")
+    if os.geteuid() == 0:
+        what_root_reads(stage, path, plain)
     text = asked(stage, path, "why", "plain", *by_journal, "--at", "-0s")[1]
     check(text.endswith(f"plain: its errors went to {plain}\n"), f"of a moment before: {text!r}")
 
@@ -765,7 +799,130 @@ def where_errors_went(stage):
     check(cells(stage, path)["lost"][-4:-2] == ["-", "-"] or cells(stage, path)["lost"][-3:-1] == ["-", "-"], f"of a job that does not run: {cells(stage, path)['lost']}")
 
 
+def counted(paths, label):
+    """Starts, failures and refusals of a label, by the lines of journals."""
+    events = [json.loads(line) for path in paths for line in text_at(path).splitlines()[1:]]
+    events = [event for event in events if event.get("job") == label]
+    refusals = sum(event["ev"] == "spawn_refused" for event in events)
+    return (refusals + sum(event["ev"] == "spawned" for event in events),
+            sum(event["ev"] == "ended" and event.get("code") != 0 for event in events), refusals)
+
+
+def counts(stage, path, label, **around):
+    """What `metrics` says of a label: its counts, since when they go on, and when it last succeeded."""
+    kept = {key: value for key, value in os.environ.items() if not key.startswith("JOBD_JOURNAL")}
+    ran = subprocess.run([*stage.given.jobscope, "metrics", "--status-file", path], env={**kept, **around}, capture_output=True, timeout=patience(), text=True)
+    check(ran.returncode == 0 and not ran.stderr, f"metrics: {ran}")
+    values = dict(line.rsplit(" ", 1) for line in ran.stdout.splitlines() if not line.startswith("#"))
+    of_label = [values.get(f'{name}{{label="{label}"}}') for name in (
+        "jobd_job_starts_total", "jobd_job_failures_total", "jobd_job_refused_total", "jobd_job_last_success_timestamp_seconds")]
+    numbers = [None if value is None else int(value) for value in of_label]
+    since = values.get("jobd_counted_since_timestamp_seconds")
+    return tuple(numbers[:3]), None if since is None else int(since), numbers[3]
+
+
+def begun(path):
+    return json.loads(text_at(path).splitlines()[0])["wall"]
+
+
+def with_begin(path, wall):
+    """The journal begins at this second."""
+    first, _, rest = text_at(path).partition("\n")
+    make(path, json.dumps({**json.loads(first), "wall": wall}, separators=(",", ":"), sort_keys=True) + "\n" + rest)
+
+
+def month(wall):
+    return time.strftime("%Y-%m", time.gmtime(wall))
+
+
+def counts_over_restarts(stage):
+    """Three launchers one after the other, whose journals are kept as jobd-run keeps them, and two loads of a job under one of them. The counts of `metrics` go on; they
+    begin again with the launcher if an earlier journal of its month may be gone, and with the load if the journal is another launcher's."""
+    path, last = stage.at("standing/status.jsonl"), stage.at("journal")
+    fails = shell_job("fails", "exit 3", RunAtLoad=True)
+    works = shell_job("works", "exit 0", RunAtLoad=True)
+    refused = {"Label": "refused", "ProgramArguments": ["/nonexistent/prog"], "RunAtLoad": True, "ThrottleInterval": 3600}
+    for number in (2, 1, 0):
+        launcher, _ = serve(stage, journal="journal")
+        for definition in (fails, refused, *([works] if number == 2 else [dict(works, RunAtLoad=False)])):
+            launcher.load(definition)
+        job_where(path, "fails", lambda job: job["last_end"])
+        job_where(path, "refused", lambda job: job["refused"])
+        job_where(path, "works", lambda job: number < 2 or job["succeeded"])
+        if number:
+            launcher.shut_down()
+            os.rename(last, f"{last}.{number}")
+    launcher.ask({"req": "unload", "job": "fails"})
+    launcher.load(fails)
+    job_where(path, "fails", lambda job: job["last_end"] and job["starts"] == 1)
+    all_three = [f"{last}.2", f"{last}.1", last]
+    if len({month(begun(it)) for it in all_three}) > 1:
+        return
+    for label, wanted in (("fails", (4, 4, 0)), ("refused", (3, 0, 3)), ("works", (1, 0, 0))):
+        check(counted(all_three, label) == wanted, f"the journals count {counted(all_three, label)} of {label}")
+        found = counts(stage, path, label, JOBD_JOURNAL=last)
+        check(found[:2] == (wanted, begun(all_three[0])), f"of {label} metrics count {found}, wanted {wanted}")
+    check(counts(stage, path, "works", JOBD_JOURNAL=last)[2], "no last success is told of a launcher before")
+
+    # So many journals are kept as there may be: an earlier one may be gone.
+    found = counts(stage, path, "fails", JOBD_JOURNAL=last, JOBD_JOURNALS="2")
+    check(found[:2] == (counted([last], "fails"), begun(last)), f"with two journals kept: {found}")
+    check(counts(stage, path, "works", JOBD_JOURNAL=last, JOBD_JOURNALS="2")[2] is None, "a last success is told of a journal that does not count")
+    # With one of the month before, it is known that none of this month is gone.
+    with_begin(f"{last}.2", begun(last) - 32 * 86400)
+    found = counts(stage, path, "fails", JOBD_JOURNAL=last, JOBD_JOURNALS="2")
+    check(found[:2] == (counted([f"{last}.1", last], "fails"), begun(f"{last}.1")), f"with one of the month before: {found}")
+    # Another launcher's journal does not count, nor does none, nor one that is a FIFO or torn.
+    os.mkfifo(stage.at("fifo"))
+    make(stage.at("torn"), text_at(last)[:20])
+    since_load = ((1, 1, 0), None)
+    for journal in (f"{last}.1", stage.at("fifo"), stage.at("torn"), stage.at("none"), ""):
+        found = counts(stage, path, "fails", JOBD_JOURNAL=journal)
+        check(found[:2] == since_load, f"by the journal {journal!r}: {found}")
+    launcher.shut_down()
+
+
+def since_when_labels_are_disabled(stage):
+    """A job that is disabled while it is loaded: the file has the second. After a restart, journals say it."""
+    path, last = stage.at("standing/status.jsonl"), stage.at("journal")
+    launcher, _ = serve(stage, journal="journal")
+    job = shell_job("off", "exec sleep 600")
+    launcher.load(job)
+    job_where(path, "off", lambda job: job["disabled"] is None and job["disabled_at"] is None)
+    before = int(time.time())
+    launcher.ask({"req": "disable", "job": "off"})
+    at = job_where(path, "off", lambda job: job["disabled"] == "override")["disabled_at"]["wall"]
+    check(before <= at <= int(time.time()) + 1, f"disabled at {at}, and asked at {before}")
+    launcher.ask({"req": "disable", "job": "off"})
+    launcher.load(shell_job("other", "exit 0"))
+    job_where(path, "other", lambda job: True)
+    check(told(path)[1]["off"]["disabled_at"]["wall"] == at, "a second request changes since when")
+    said = [json.loads(asked(stage, path, word, "--json", "off")[1])["disabled_since_seconds"] for word in ("why", "status")]
+    check(said == [at, at], f"since {said}, wanted {at}")
+    launcher.ask({"req": "enable", "job": "off"})
+    job_where(path, "off", lambda job: job["disabled"] is None and job["disabled_at"] is None)
+    launcher.ask({"req": "disable", "job": "off"})
+    job_where(path, "off", lambda job: job["disabled"] == "override")
+    launcher.shut_down()
+
+    os.rename(last, f"{last}.1")
+    launcher, _ = serve(stage, journal="journal")
+    launcher.ask({"req": "load", "def": json.dumps(job), "F": True})
+    job_where(path, "off", lambda job: job["disabled"] == "override" and job["disabled_at"] is None)
+    kept = {key: value for key, value in os.environ.items() if not key.startswith("JOBD_JOURNAL")}
+    for word, wanted in (("why", True), ("status", True)):
+        for journal in (last, ""):
+            ran = subprocess.run([*stage.given.jobscope, word, "--json", "--status-file", path, "off"], env={**kept, "JOBD_JOURNAL": journal}, capture_output=True,
+                                 timeout=patience(), text=True)
+            found = json.loads(ran.stdout)
+            since = found.get("disabled_since_seconds")
+            check(found["is_disabled"] is True and (before <= since <= int(time.time()) if journal else since is None), f"{word} by {journal!r}: {found}")
+    launcher.shut_down()
+
+
 SCENES = [
+    counts_over_restarts,
+    since_when_labels_are_disabled,
     what_a_status_file_holds,
     which_definition_is_loaded,
     what_tells_a_launchers_places,

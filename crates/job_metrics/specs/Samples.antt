@@ -4,7 +4,7 @@ use Rattle.std.specs.Fmt.{decimal}
 use Rattle.std.specs.List.{flat_map}
 use Rattle.plain_text.specs.Plain.{is_hidden}
 use Rattle.job_metrics.specs.declared.Family.{Family}
-use Rattle.job_metrics.specs.declared.Family.TheVariants.{Up, JournalOpen, Told, LeftOut, Running, Starts, Failures, Refusals, LastEnd, NextStart, LastSuccess, LastExit, Resident, Processor, Disabled}
+use Rattle.job_metrics.specs.declared.Family.TheVariants.{Up, JournalOpen, Told, LeftOut, CountedSince, Running, Starts, Failures, Refusals, LastEnd, NextStart, LastSuccess, LastExit, Resident, Processor, Disabled}
 use Rattle.job_metrics.specs.declared.JobSample.{JobSample}
 use Rattle.job_metrics.specs.declared.LauncherSample.{LauncherSample}
 
@@ -13,6 +13,7 @@ family_name Up = codes "jobd_up"
 family_name JournalOpen = codes "jobd_journal_open"
 family_name Told = codes "jobd_status_timestamp_seconds"
 family_name LeftOut = codes "jobd_definitions_not_loaded"
+family_name CountedSince = codes "jobd_counted_since_timestamp_seconds"
 family_name Running = codes "jobd_job_running"
 family_name Starts = codes "jobd_job_starts_total"
 family_name Failures = codes "jobd_job_failures_total"
@@ -37,13 +38,14 @@ family_help Up = codes "Whether the launcher is running."
 family_help JournalOpen = codes "Whether the journal of the launcher is open."
 family_help Told = codes "When the launcher wrote the status file."
 family_help LeftOut = codes "Job definitions that were not loaded at boot, nor since."
+family_help CountedSince = codes "Since when starts, failures and refused starts are counted. Absent if since each load."
 family_help Running = codes "Whether a run of the job is running."
-family_help Starts = codes "Starts that were ordered since the load, including refused ones."
-family_help Failures = codes "Runs since the load that did not exit with code 0."
-family_help Refusals = codes "Starts since the load that the system refused."
+family_help Starts = codes "Starts that were ordered, including refused ones."
+family_help Failures = codes "Runs that did not exit with code 0."
+family_help Refusals = codes "Starts that the system refused."
 family_help LastEnd = codes "When the last run of the job exited."
 family_help NextStart = codes "When the job is scheduled to start next."
-family_help LastSuccess = codes "When a run of the job last exited with code 0, since its load."
+family_help LastSuccess = codes "When a run of the job last exited with code 0."
 family_help LastExit = codes "The exit code of the last run of the job, or 128 plus the signal that killed it."
 family_help Resident = codes "The resident memory of the process of the job."
 family_help Processor = codes "The processor time that the process of the job has used."
@@ -130,6 +132,7 @@ launcher_samples launcher =
     ++ launcher_text JournalOpen (flag_value launcher.journal_is_open)
     ++ launcher_text Told (Some launcher.told)
     ++ launcher_text LeftOut launcher.left_out
+    ++ launcher_text CountedSince launcher.counted_since
 
 -- all samples: those of the launcher, then those of jobs, a family after the other
 abbrev pub metrics_text : LauncherSample → List JobSample → List ℕ

@@ -21,6 +21,8 @@ pub struct LauncherSample {
     pub told: u64,
     /// How many definitions its boot left out. None if that is not known.
     pub left_out: Option<u64>,
+    /// Since which second of Unix time the counts of jobs go on. None: each since its job's load.
+    pub counted_since: Option<u64>,
 }
 
 /// What a monitor asks of a job.
@@ -29,7 +31,7 @@ pub struct JobSample<'a> {
     pub label: &'a str,
     /// Whether a run of it is running.
     pub is_running: bool,
-    /// How many starts were ordered since its load, refused ones too.
+    /// How many starts were ordered, refused ones too.
     pub starts: u64,
     /// How many of its runs did not exit with code 0.
     pub failures: u64,
@@ -57,6 +59,7 @@ pub enum Family {
     JournalOpen,
     Told,
     LeftOut,
+    CountedSince,
     Running,
     Starts,
     Failures,
@@ -93,6 +96,7 @@ fn family_name(family: Family) -> &'static str
         Family::JournalOpen => "jobd_journal_open",
         Family::Told => "jobd_status_timestamp_seconds",
         Family::LeftOut => "jobd_definitions_not_loaded",
+        Family::CountedSince => "jobd_counted_since_timestamp_seconds",
         Family::Running => "jobd_job_running",
         Family::Starts => "jobd_job_starts_total",
         Family::Failures => "jobd_job_failures_total",
@@ -124,13 +128,15 @@ fn family_help(family: Family) -> &'static str
         Family::JournalOpen => "Whether the journal of the launcher is open.",
         Family::Told => "When the launcher wrote the status file.",
         Family::LeftOut => "Job definitions that were not loaded at boot, nor since.",
+        Family::CountedSince =>
+            "Since when starts, failures and refused starts are counted. Absent if since each load.",
         Family::Running => "Whether a run of the job is running.",
-        Family::Starts => "Starts that were ordered since the load, including refused ones.",
-        Family::Failures => "Runs since the load that did not exit with code 0.",
-        Family::Refusals => "Starts since the load that the system refused.",
+        Family::Starts => "Starts that were ordered, including refused ones.",
+        Family::Failures => "Runs that did not exit with code 0.",
+        Family::Refusals => "Starts that the system refused.",
         Family::LastEnd => "When the last run of the job exited.",
         Family::NextStart => "When the job is scheduled to start next.",
-        Family::LastSuccess => "When a run of the job last exited with code 0, since its load.",
+        Family::LastSuccess => "When a run of the job last exited with code 0.",
         Family::LastExit =>
             "The exit code of the last run of the job, or 128 plus the signal that killed it.",
         Family::Resident => "The resident memory of the process of the job.",
@@ -299,6 +305,7 @@ fn put_launcher(ink: &mut Ink, launcher: &LauncherSample)
     );
     put_single(ink, Family::Told, Some(launcher.told));
     put_single(ink, Family::LeftOut, launcher.left_out);
+    put_single(ink, Family::CountedSince, launcher.counted_since);
 }
 
 fn flag_value(flag: Option<bool>) -> Option<u64>

@@ -1,11 +1,14 @@
 //! What a launcher's status file reports: the table of `status`, why each job runs or not, and when each starts next.
 
+use crate::as_root::read_for;
 use crate::clock::now;
+use crate::counted::counts_of;
 use crate::errors::put_errors;
 use crate::journal::source::{NONE_NAMED, finds_journal, stands_in};
 use crate::left::left_running;
 use crate::objects::status::status_objects;
 use crate::objects::why::standing_objects;
+use crate::settings::settings_of;
 use crate::texts::standing::{failed_in, failing_in, standing_text};
 use crate::texts::standing_next::standing_lines;
 use crate::texts::starts::ComingLines;
@@ -16,8 +19,8 @@ use history_model::Text;
 use launchctl_words::{ScopeCommand, Task};
 use run_times::telling::{put, put_made, tell_of};
 use status_page::{
-    Look, Standing, has_colour, named_path, packages_file, read_standing, samples_text, table_text,
-    tell_trouble, width_of,
+    Look, RunCounts, Standing, has_colour, named_path, packages_file, read_standing, samples_text,
+    table_text, tell_trouble, width_of,
 };
 use std::alloc::Global;
 use std::io;
@@ -134,7 +137,9 @@ fn tell(
     let status = match of.task {
         Task::Why if of.is_json => {
             let left = left_running(host, alloc, standing, labels)?;
-            let made = standing_objects(alloc, standing, of, second, left.as_slice());
+            let settings = settings_of(host, alloc, of, standing)?;
+            let made = standing_objects(alloc, standing, of, second, left.as_slice(), &settings);
+            drop(settings);
             drop(left);
             let (text, count) = made?;
             put_made(host, Ok(text))?;
@@ -147,7 +152,17 @@ fn tell(
         }
         Task::Why => {
             let left = left_running(host, alloc, standing, labels)?;
-            let text = standing_text(alloc, standing, labels, of.is_utc, second, left.as_slice());
+            let settings = settings_of(host, alloc, of, standing)?;
+            let text = standing_text(
+                alloc,
+                standing,
+                labels,
+                of.is_utc,
+                second,
+                left.as_slice(),
+                &settings,
+            );
+            drop(settings);
             drop(left);
             put_made(host, text)?;
             0
@@ -157,11 +172,17 @@ fn tell(
             0
         }
         Task::Metrics => {
-            put_made(host, samples_text(host, alloc, standing, labels, second))?;
+            let counts = counts_of(host, alloc, standing)?;
+            let text = samples_text(host, alloc, standing, labels, second, lent(&counts));
+            drop(counts);
+            put_made(host, text)?;
             0
         }
         _ if of.is_json => {
-            put_made(host, status_objects(host, alloc, standing, of, second))?;
+            let settings = settings_of(host, alloc, of, standing)?;
+            let text = status_objects(host, alloc, standing, of, second, &settings);
+            drop(settings);
+            put_made(host, text)?;
             0
         }
         _ => {
@@ -177,10 +198,17 @@ fn tell(
     };
     let unknown = tell_unknown(host, alloc, path, standing, labels)?;
     match of.task {
-        Task::Why if !of.is_json => put_failed(host, alloc, of, standing)?,
+        Task::Why if !of.is_json => put_failed(host, alloc, of, path, standing)?,
         _ => {}
     }
     Ok(unknown.max(status))
+}
+
+fn lent(counts: &Option<RunCounts>) -> Option<&RunCounts> {
+    match counts {
+        Some(counts) => Some(counts),
+        None => None,
+    }
 }
 
 // Where the errors of the jobs went whose last run failed.
@@ -188,13 +216,15 @@ fn put_failed(
     host: &HostRuntime,
     alloc: Global,
     of: &ScopeCommand,
+    path: &str,
     standing: &Standing,
 ) -> io::Result<()> {
     let failed = failed_in(alloc, standing, of.words.as_slice())?;
     if !of.is_failing && !failed.is_empty() {
         put(host, "\n")?;
     }
-    put_errors(host, alloc, failed.as_slice(), true)
+    let whom = read_for(host, Some(path));
+    put_errors(host, alloc, failed.as_slice(), true, whom)
 }
 
 // The next starts, and how many jobs have none.

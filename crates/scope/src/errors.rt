@@ -1,6 +1,6 @@
 //! Where the errors of a job went whose last run failed, and the last line that is there.
 
-use crate::journal::source::open_journal;
+use crate::as_root::{ReadFor, open_for};
 use run_times::Ink;
 use run_times::Piece::Text;
 use run_times::picture::{columns_of, columns_of_char};
@@ -25,19 +25,20 @@ pub(crate) struct FailedRun<'a> {
     pub(crate) is_served: bool,
 }
 
-/// Writes a line for each of these jobs, with the last line of its file if that is to be looked at. This comes after all else that is
+/// Writes a line for each of these jobs, with the last line of its file if that is to be looked at, for whom it is. This comes after all else that is
 /// printed: a path on a file system that hangs silences nothing.
 pub(crate) fn put_errors(
     host: &HostRuntime,
     alloc: Global,
     failed: &[FailedRun<'_>],
     is_seen: bool,
+    whom: ReadFor,
 ) -> io::Result<()> {
     for run in failed {
         let mut ink = Ink::new(alloc);
         add_errors(&mut ink, run);
         if let (Some(path), true) = (run.errors, is_seen) {
-            add_last(host, alloc, &mut ink, path);
+            add_last(host, alloc, &mut ink, path, whom);
         }
         ink.put("\n");
         put_made(host, ink.into_text())?;
@@ -60,12 +61,12 @@ pub(crate) fn add_errors(ink: &mut Ink, run: &FailedRun<'_>) {
 }
 
 // The last line of the file, if it is a plain one.
-fn add_last(host: &HostRuntime, alloc: Global, ink: &mut Ink, path: &str) {
+fn add_last(host: &HostRuntime, alloc: Global, ink: &mut Ink, path: &str, whom: ReadFor) {
     if !path.starts_with('/') {
         return;
     }
     let mut bytes = Vec::new(alloc);
-    match end_of(host, path, &mut bytes) {
+    match end_of(host, alloc, path, whom, &mut bytes) {
         Ok(()) => match last_line(bytes.as_slice()) {
             Some(line) => {
                 ink.put("; the last line is: ");
@@ -85,8 +86,14 @@ fn add_last(host: &HostRuntime, alloc: Global, ink: &mut Ink, path: &str) {
 }
 
 // Adds the last bytes of the file. InvalidInput for what is no plain file: it is not opened. A file of the kernel that says it is empty is empty.
-fn end_of(host: &HostRuntime, path: &str, bytes: &mut Vec<u8>) -> io::Result<()> {
-    let mut file = open_journal(host, path)?;
+fn end_of(
+    host: &HostRuntime,
+    alloc: Global,
+    path: &str,
+    whom: ReadFor,
+    bytes: &mut Vec<u8>,
+) -> io::Result<()> {
+    let mut file = open_for(host, alloc, path, whom)?;
     let length = file.metadata()?.len();
     let from = length.saturating_sub(END);
     file.seek(SeekFrom::Start(from))?;

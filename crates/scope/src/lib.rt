@@ -2,14 +2,17 @@
 #![tactic(auto)]
 
 mod age;
+mod as_root;
 mod at;
 mod by_file;
 mod charted;
 mod clock;
+mod counted;
 mod drift;
 mod ended;
 mod errors;
 mod journal;
+mod kept_journals;
 mod known_runs;
 mod left;
 mod listener;
@@ -18,6 +21,7 @@ mod objects;
 mod page;
 mod program;
 mod report;
+mod settings;
 mod texts;
 mod window;
 mod writer;

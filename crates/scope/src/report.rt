@@ -3,6 +3,7 @@
 //! them.
 
 use crate::age::{AsOf, clock_as_of, reading_as_of};
+use crate::as_root::read_for;
 use crate::at::{begun_by, read_up_to};
 use crate::by_file::FAILS;
 use crate::charted::{HeardMarks, chart_of};
@@ -250,7 +251,7 @@ fn write_report(
         }
         Task::Why if of.is_failing => {
             let status = put_failing(host, alloc, name, journal, zone, labels, as_of)?;
-            put_failed(host, alloc, journal, of, as_of)?;
+            put_failed(host, alloc, name, journal, of, as_of)?;
             return Ok(status);
         }
         Task::Why => put_made(host, why_text(alloc, journal, zone, labels, as_of)),
@@ -266,7 +267,7 @@ fn write_report(
     match (written, of.task) {
         (Ok(()), Task::Why) => {
             let status = tell_unknown(host, alloc, name, journal, labels)?;
-            put_failed(host, alloc, journal, of, as_of)?;
+            put_failed(host, alloc, name, journal, of, as_of)?;
             put_now(host, alloc, journal, labels)?;
             Ok(status)
         }
@@ -296,6 +297,7 @@ fn put_failing(
 fn put_failed(
     host: &HostRuntime,
     alloc: Global,
+    name: &str,
     journal: &OpenJournal,
     of: &ScopeCommand,
     as_of: AsOf,
@@ -308,7 +310,9 @@ fn put_failed(
         AsOf::Moment { .. } => false,
         AsOf::End | AsOf::Seen(_, _) => true,
     };
-    put_errors(host, alloc, failed.as_slice(), is_seen)
+    let path = if name == INPUT { None } else { Some(name) };
+    let whom = read_for(host, path);
+    put_errors(host, alloc, failed.as_slice(), is_seen, whom)
 }
 
 // Why each job runs or not, as objects. The exit status is 2 if failing jobs are asked for, and there is one.

@@ -1,4 +1,5 @@
 pub mod Facts
+pub mod Settings
 pub mod States
 pub mod Tokens
 pub mod Fronts

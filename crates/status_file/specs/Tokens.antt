@@ -261,7 +261,8 @@ note_tokens n =
     ++ (moment_tokens (codes "term") n.term
     ++ (moment_tokens (codes "kill") n.kill
     ++ (end_tokens n.last_end
-    ++ (refused_tokens n.refused ++ moment_tokens (codes "succeeded") n.succeeded)))))
+    ++ (refused_tokens n.refused
+    ++ (moment_tokens (codes "succeeded") n.succeeded ++ moment_tokens (codes "disabled_at") n.disabled_at))))))
 
 -- ---- what the definition says
 

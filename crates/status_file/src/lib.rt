@@ -14,6 +14,7 @@ mod line;
 mod names;
 mod read;
 mod run_notes;
+mod settings_made;
 mod status;
 mod write;
 

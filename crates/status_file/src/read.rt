@@ -198,6 +198,7 @@ fn note_in<'a>(fields: &mut Fields<'a>) -> JobNote<'a> {
         succeeded: succeeded_in(fields),
         refused: refused_in(fields),
         definition: definition_in(fields),
+        disabled_at: disabled_at_in(fields),
     }
 }
 
@@ -214,6 +215,15 @@ fn definition_in<'a>(fields: &mut Fields<'a>) -> Option<&'a str> {
 fn succeeded_in(fields: &mut Fields<'_>) -> Option<Reading> {
     if fields.has("succeeded") {
         reading_if(fields, "succeeded")
+    } else {
+        None
+    }
+}
+
+// Nor since when a label is disabled.
+fn disabled_at_in(fields: &mut Fields<'_>) -> Option<Reading> {
+    if fields.has("disabled_at") {
+        reading_if(fields, "disabled_at")
     } else {
         None
     }

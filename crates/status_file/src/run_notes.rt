@@ -1,6 +1,7 @@
 //! What is known of the runs of each loaded job: a recorder next to the table, which is dropped once its job is removed.
 
 use crate::jobs::{NUMBERS, is_loaded, job_of};
+use crate::settings_made::SettingsMade;
 use crate::status::JobNote;
 use history_model::{Ended, JobNo, Reading, Text};
 use job_table::JobTable;
@@ -68,6 +69,7 @@ pub struct RunNotes {
     loads: Vec<Load>,
     // Whether a load was accepted since then.
     has_loaded: bool,
+    settings: SettingsMade,
     /// The present clock reading.
     pub at: Reading,
 }
@@ -80,6 +82,7 @@ impl RunNotes {
             jobs: Vec::new(alloc),
             loads: Vec::new(alloc),
             has_loaded: false,
+            settings: SettingsMade::new(alloc),
             at,
         }
     }
@@ -128,6 +131,7 @@ impl RunNotes {
             self.define_all(table);
         }
         self.has_loaded = false;
+        self.settings.see_all(table, self.at);
     }
 
     /// A load of this label was accepted. The digest is that of its definition.
@@ -232,19 +236,25 @@ impl RunNotes {
         if let Some(slot) = self.jobs.get_mut(job as usize) {
             drop(slot.take());
         }
+        self.settings.gone(job);
     }
 
     /// What is known of this job since its load.
     pub(crate) fn of(&self, job: JobNo) -> JobNote<'_> {
+        let disabled_at = self.settings.of(job);
         match self.jobs.get(job as usize) {
-            Some(Some(note)) => note_of(note.log.facts(), lent(&note.definition)),
-            _ => note_of(RunFacts::of_load(self.at), None),
+            Some(Some(note)) => note_of(note.log.facts(), lent(&note.definition), disabled_at),
+            _ => note_of(RunFacts::of_load(self.at), None, disabled_at),
         }
     }
 }
 
 // The part of a line that says it.
-fn note_of<'a>(facts: RunFacts<'a>, definition: Option<&'a str>) -> JobNote<'a> {
+fn note_of<'a>(
+    facts: RunFacts<'a>,
+    definition: Option<&'a str>,
+    disabled_at: Option<Reading>,
+) -> JobNote<'a> {
     JobNote {
         since: facts.since,
         run: facts.run,
@@ -258,5 +268,6 @@ fn note_of<'a>(facts: RunFacts<'a>, definition: Option<&'a str>) -> JobNote<'a> 
         succeeded: facts.succeeded,
         refused: facts.refused,
         definition,
+        disabled_at,
     }
 }

@@ -73,6 +73,9 @@ pub struct JobNote<'a> {
     pub refused: Option<RefusedStart<'a>>,
     /// The SHA-256 of its definition as it was loaded, in 64 hexadecimal digits. None if there was no memory for it, or just after the load.
     pub definition: Option<&'a str>,
+    /// When its label was disabled, if it is: the clock reading at which that was written first, at most a second after the setting. None if it was
+    /// disabled before its launcher began, or before it was loaded, or if a launcher of version 0.3.0 wrote the file.
+    pub disabled_at: Option<Reading>,
 }
 
 /// Paths that a definition has under a key: how many, and the first one.

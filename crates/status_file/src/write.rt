@@ -258,6 +258,7 @@ fn put_note(line: &mut Line, note: &JobNote<'_>)
     put_end(line, note.last_end);
     put_refused(line, note.refused);
     put_moment(line, "succeeded", note.succeeded);
+    put_moment(line, "disabled_at", note.disabled_at);
 }
 
 fn put_reasons(line: &mut Line, reasons: &Reasons)

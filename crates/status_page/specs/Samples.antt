@@ -1,12 +1,14 @@
 -- What a monitor is told of a job.
 use Rattle.std.specs.Prelude.{ℕ, Bool, true, false, Option, Some, None, ◌+◌}
 use Rattle.std.specs.Option.{option_map}
+use Rattle.job_metrics.specs.declared.JobSample.{JobSample}
 use Rattle.history_model.specs.declared.Ended.{Ended}
 use Rattle.history_model.specs.declared.Ended.TheVariants as ends
 use Rattle.history_model.specs.declared.Reading.{Reading}
 use Rattle.status_file.specs.declared.status.JournalStatus.{JournalStatus}
 use Rattle.status_file.specs.declared.status.JournalStatus.TheVariants as journals
 use Rattle.run_log.specs.declared.facts.RunEnd.{RunEnd}
+use Rattle.status_page.specs.declared.counts.RunCount.{RunCount}
 use Rattle.status_page.specs.declared.clocks.StartWhen.TheVariants.{Never, Since, At}
 use Rattle.status_page.specs.declared.rows.Next.{Next}
 use Rattle.status_page.specs.declared.rows.Next.TheVariants.{Nothing, Clock, Event}
@@ -43,3 +45,19 @@ next_told throttle (Clock Never) = None
 next_told throttle (Clock (Since at)) = Some (second_told throttle at)
 next_told throttle (Clock (At at)) = Some (second_told throttle at)
 next_told throttle (Event words) = None
+
+-- the first of two seconds that is known
+abbrev pub known_second : Option ℕ → Option ℕ → Option ℕ
+known_second (Some second) other = Some second
+known_second None other = other
+
+-- a sample with what is counted over all loads of its label
+abbrev pub with_count : JobSample → Option RunCount → JobSample
+with_count sample None = sample
+with_count sample (Some count) =
+    record sample {
+      starts = count.starts;
+      failures = count.failures;
+      refusals = count.refusals;
+      last_success = known_second sample.last_success count.succeeded;
+    }

@@ -6,6 +6,7 @@
 mod boot;
 mod cells;
 mod clocks;
+mod counts;
 mod failing;
 mod head;
 mod left_out;
@@ -24,13 +25,14 @@ pub use boot::{Boot, LeftOut};
 pub use clocks::{
     FARTHEST, StartWhen, can_start_again, gone_on, is_wanted, start_when, within_limits,
 };
+pub use counts::{RunCount, RunCounts};
 pub use failing::{Failing, Fault, LastEnd, add_failing, fault_of, is_crash, last_end_of};
 pub use head::add_head;
 pub use left_out::{add_left_out, is_told};
 pub use life::Life;
 pub use passed::{Down, passed_minute};
 pub use rows::{Next, Row, ShownState, last_refused, row_of};
-pub use samples::{journal_flag, sample_of, samples_text};
+pub use samples::{journal_flag, sample_of, samples_text, with_count};
 pub use standing::{Standing, Trouble, named_path, packages_file, read_standing, tell_trouble};
 pub use starts::{ToldStart, start_told};
 pub use table::{Look, is_asked, reading_of, table_text, told_as_of};

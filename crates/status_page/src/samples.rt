@@ -2,9 +2,10 @@
 
 ghost use Rattle.std.specs.Prelude.{◌≡◌, ◌≤◌, is_some};
 ghost use Rattle.history_model.specs.declared.TheConstants.{MAX_UP, MAX_WALL};
-ghost use Rattle.status_page.specs.Samples.{end_second, exit_told, journal_flag, next_told, success_second};
+ghost use Rattle.status_page.specs.Samples.{end_second, exit_told, journal_flag, next_told, success_second, with_count};
 
 use crate::clocks::StartWhen;
+use crate::counts::{RunCount, RunCounts};
 use crate::rows::{Next, Row};
 use crate::standing::Standing;
 use crate::table::{reading_of, row_in};
@@ -16,18 +17,20 @@ use job_metrics::{JobSample, LauncherSample, metrics};
 use status_file::{JobNote, JournalStatus, RunEnd, StatusLine};
 use std::alloc::{AllocError, Global};
 
-/// The samples of a status file as of a second: of the named jobs, or of all if none is named.
+/// The samples of a status file as of a second: of the named jobs, or of all if none is named. With `counts` their counts are these.
 pub fn samples_text(
     host: &HostRuntime,
     alloc: Global,
     standing: &Standing,
     labels: &[Text],
     second: u64,
+    counts: Option<&RunCounts>,
 ) -> Result<String, AllocError> {
     let zone = standing.zone(alloc, false)?;
     let samples = samples_of(host, alloc, standing, labels, &zone, second);
     drop(zone);
-    let samples = samples?;
+    let mut samples = samples?;
+    count_all(samples.as_mut_slice(), counts);
     let text = match standing.launcher() {
         Some(launcher) => {
             let sample = LauncherSample {
@@ -35,6 +38,10 @@ pub fn samples_text(
                 journal_is_open: journal_flag(launcher.journal),
                 told: launcher.at.wall,
                 left_out: standing.count_left_out(),
+                counted_since: match counts {
+                    Some(counts) => Some(counts.since),
+                    None => None,
+                },
             };
             metrics(alloc, &sample, samples.as_slice())
         }
@@ -82,6 +89,34 @@ pub fn sample_of<'a>(row: &Row<'a>, note: &JobNote<'_>, is_disabled: bool) -> Jo
         resident,
         processor,
         is_disabled,
+    }
+}
+
+// Each sample of a label that is counted gets its count.
+fn count_all(samples: &mut [JobSample<'_>], counts: Option<&RunCounts>) {
+    let Some(counts) = counts else {
+        return;
+    };
+    for sample in samples {
+        *sample = with_count(*sample, counts.of(sample.label));
+    }
+}
+
+/// The sample with this count in place of that of the job's load, and with the last success before the load, if there was none since. None: it
+/// stays.
+pub fn with_count<'a>(sample: JobSample<'a>, count: Option<RunCount>) -> JobSample<'a>
+    ensures { result ≡ with_count sample count }
+{
+    match count {
+        Some(count) => {
+            let mut counted = sample;
+            counted.starts = count.starts;
+            counted.failures = count.failures;
+            counted.refusals = count.refusals;
+            counted.last_success = sample.last_success.or(count.succeeded);
+            counted
+        }
+        None => sample,
     }
 }
 

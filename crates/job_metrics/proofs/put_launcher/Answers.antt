@@ -1,7 +1,7 @@
 use Rattle.std.proofs.Common.{◌++◌, Some, sym, subst}
 use Rattle.run_times.specs.Written.{Adds}
 use Rattle.run_times.proofs.GrowingLemmas.{adds_on}
-use Rattle.job_metrics.specs.declared.Family.TheVariants.{Up, JournalOpen, Told, LeftOut}
+use Rattle.job_metrics.specs.declared.Family.TheVariants.{Up, JournalOpen, Told, LeftOut, CountedSince}
 use Rattle.job_metrics.specs.Samples.{flag_value, launcher_text}
 use Rattle.job_metrics.proofs.put_launcher.Goals as goal
 
@@ -13,6 +13,7 @@ returns c =
     let d = c.put_single-2.new.ink in
     let e = c.put_single-3.new.ink in
     let g = c.put_single-4.new.ink in
+    let h = c.put_single-5.new.ink in
     let up = launcher_text Up (flag_value (Some of.is_up)) in
     let journal = launcher_text JournalOpen (flag_value of.journal_is_open) in
     let told = launcher_text Told (Some of.told) in
@@ -21,4 +22,7 @@ returns c =
     let left = launcher_text LeftOut of.left_out in
     let third : Adds ((up ++ journal) ++ told) a e =
     adds_on (up ++ journal) told a d e (adds_on up journal a b d first second) c.put_single-3.ensures in
-    adds_on ((up ++ journal) ++ told) left a e g third c.put_single-4.ensures
+    let fourth : Adds (((up ++ journal) ++ told) ++ left) a g =
+    adds_on ((up ++ journal) ++ told) left a e g third c.put_single-4.ensures in
+    adds_on (((up ++ journal) ++ told) ++ left) (launcher_text CountedSince of.counted_since) a g h fourth
+    c.put_single-5.ensures

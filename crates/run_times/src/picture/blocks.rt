@@ -7,6 +7,7 @@ use crate::page::Page;
 use crate::picture::axis::Axis;
 use crate::picture::chart::{Bar, Chart, Mark, Row, grade};
 use crate::picture::piece::NO_READING;
+use crate::picture::svg::has_band;
 use crate::picture::ticks::{Tick, ticks};
 use crate::picture::words::{columns_of, cut, missing};
 use calendar_due::Zone;
@@ -110,7 +111,10 @@ fn put_lines(alloc: Global, ink: &mut Ink, layout: &Layout, chart: &Chart, ticks
     if cells.resize(usize::from(layout.axis.places), ' ').is_err() {
         ink.refuse();
     }
-    for row in &chart.rows {
+    for (at, row) in chart.rows.iter().enumerate() {
+        if has_band(at) {
+            put_axis(ink, layout, cells.as_mut_slice(), ticks);
+        }
         put_row(ink, layout, cells.as_mut_slice(), row);
     }
     put_axis(ink, layout, cells.as_mut_slice(), ticks);
@@ -176,7 +180,7 @@ fn set_marks(cells: &mut [char], axis: &Axis, marks: &[Mark], sign: char) {
     }
 }
 
-// The ticks: a line with their texts, and one with the texts below them.
+// The ticks: a line with their texts, and one with the texts below them. They come below the rows, and again above each 25th.
 fn put_axis(ink: &mut Ink, layout: &Layout, cells: &mut [char], ticks: &[Tick]) {
     set_ticks(cells, &layout.axis, ticks, false);
     put_line(ink, layout.column, cells, "");

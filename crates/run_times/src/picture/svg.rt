@@ -27,6 +27,9 @@ const AGAIN: usize = 25;
 
 const BAND: u64 = 34;
 
+/// So much lower than at the head they are written there, since a row is above them.
+const LOWER: u64 = 4;
+
 /// In a bar that is narrower, an end that is not a failure is not marked: the mark would hide the bar.
 const NARROW: u64 = 4;
 
@@ -44,7 +47,7 @@ const MOST_TICKS: u64 = 9;
 
 /// The head: how large it is, its title, its colours, and the span. The colours are literal ones, since viewers other than browsers don't know
 /// variables. Its holes are for the height, and the span. If the image is a document of its own and has fewer than 700 pixels, it is scaled to fit.
-/// Its labels are then of twice the size, so that they can be read.
+/// Its labels are then of twice the size, so that they can be read; those of rows without a bar are as large as there is room.
 const OPENING: &str =
     r#"<svg xmlns="http://www.w3.org/2000/svg" class="runs" viewBox="0 0 1000 $0" width="1000" height="$0" role="img">
 <title>Runs from $1 to $2</title>
@@ -55,7 +58,7 @@ const OPENING: &str =
 .runs .faint { fill: #5b6875; }
 .runs .label { font-weight: bold; }
 .runs .tick, .runs .base { stroke: #d9dfe5; fill: none; }
-.runs .run { fill: #b9c5d0; }
+.runs .run { fill: #93a3b4; }
 .runs .well { fill: #2e7d5b; }
 .runs .code { fill: #c25e00; }
 .runs .signal { fill: #7b4fb5; }
@@ -66,7 +69,7 @@ const OPENING: &str =
 .runs .throttle { fill: #ffffff; stroke: #b86200; stroke-width: 1.5; }
 .runs .refusal { fill: none; stroke: #c62828; stroke-width: 2; }
 @media (prefers-color-scheme: dark) { .runs text { fill: #e6ebf0; } .runs .ground { fill: #11171d; } .runs .faint { fill: #9aa7b4; } .runs .tick, .runs .base { stroke: #2c3742; } .runs .run { fill: #445464; } .runs .well { fill: #56b88c; } .runs .code { fill: #f0a040; } .runs .signal { fill: #b794f0; } .runs .crash { fill: #ff6b6b; } .runs .stopped { fill: #8fb0d0; } .runs .lives { fill: #5fb0f5; } .runs .demand { fill: #5fb0f5; } .runs .throttle { fill: #11171d; stroke: #f0a040; } .runs .refusal { stroke: #ff6b6b; } }
-@media (max-width: 700px) { svg:root { width: 100%; height: auto; } svg:root .label { font-size: 24px; } }
+@media (max-width: 700px) { svg:root { width: 100%; height: auto; } svg:root .label { font-size: 24px; } svg:root .thin { font-size: 18px; } }
 </style>
 <rect class="ground" width="1000" height="$0"/>
 <text x="10" y="18">$1 to $2</text>
@@ -81,9 +84,9 @@ const TICK_TEXT: &str =
     r#"<text class="faint" x="$0" y="$2" text-anchor="$1">$3</text><text class="faint" x="$0" y="$4" text-anchor="$1">$5</text>
 "#;
 
-/// A label, cut if it is too wide and whole in its title, and the line on which the bars are.
+/// What a label is, how high it stands, and itself, cut if it is too wide and whole in its title, and the line on which the bars are.
 const TOP: &str =
-    r#"<g><text class="label" x="10" y="$">$$<title>$</title></text><path class="base" d="M10 $h980"/>
+    r#"<g><text class="$" x="10" y="$">$$<title>$</title></text><path class="base" d="M10 $h980"/>
 "#;
 
 /// The beginning of a bar that stands for one run, and of one that stands for several, up to how they ended. The holes are for the number of runs,
@@ -189,7 +192,7 @@ pub(crate) fn put_figure(page: &mut Page<'_>, chart: &Chart, index: usize) {
     } else if let Some(row) = chart.rows.get(above) {
         let mut top = below_rows(chart, above);
         if has_band(above) {
-            put_texts(page, &chart.axis, top);
+            put_texts(page, &chart.axis, top.saturating_add(LOWER));
             top = top.saturating_add(BAND);
         }
         put_row(page, &chart.axis, row, top);
@@ -272,6 +275,7 @@ fn put_row(page: &mut Page<'_>, axis: &Axis, row: &Row, top: u64) {
     let (front, rest) = cut(label, LABEL);
     let base = if row.is_idle() { IDLE } else { ROW };
     let holes = [
+        Text(if row.is_idle() { "label thin" } else { "label" }),
         Number(top.saturating_add(14)),
         Escaped(front),
         Text(rest),

@@ -24,10 +24,28 @@ pub(crate) struct KnownLabel {
     pub(crate) refused: Option<(Refusal, Reading)>,
 }
 
+impl KnownLabel {
+    /// When a client disabled it, if that is known.
+    pub(crate) fn since(&self) -> Option<Reading> {
+        match self.disabled {
+            Some(DisabledBy::Client(_, at)) => Some(at),
+            Some(DisabledBy::Header) | None => None,
+        }
+    }
+}
+
 const NOTHING: KnownLabel = KnownLabel {
     disabled: None,
     refused: None,
 };
+
+// By what a label is disabled, if it was disabled by `before` at the end of an earlier launcher.
+fn disabled_by(now: Option<DisabledBy>, before: Option<DisabledBy>) -> Option<DisabledBy> {
+    match now {
+        Some(DisabledBy::Header) => before.or(now),
+        now => now,
+    }
+}
 
 /// The labels of which something is known, at most `MOST_LABELS`. Beyond that, each new one takes the place of the first.
 #[derive(Drop)]
@@ -72,6 +90,13 @@ impl KnownLabels {
         let mut known = self.of(label);
         known.refused = refused;
         self.keep(alloc, label, known)
+    }
+
+    /// Goes on from what was known of an earlier launcher: by what a label was disabled that this one found disabled.
+    pub(crate) fn follow(&mut self, before: &KnownLabels) {
+        for (label, known) in &mut self.items {
+            known.disabled = disabled_by(known.disabled, before.of(label.as_str()).disabled);
+        }
     }
 
     fn keep(&mut self, alloc: Global, label: &str, known: KnownLabel) -> Result<(), AllocError> {

@@ -75,7 +75,7 @@ impl Past {
     }
 
     /// Continues the history of an earlier launcher, which exited: its counts stay, and its loaded jobs count as removed at its last clock reading. A
-    /// launcher that was asked for a shutdown started nothing from then on.
+    /// launcher that was asked for a shutdown started nothing from then on. By what a label was disabled stays known, if it still is.
     pub(crate) fn follow(&mut self, before: &mut Past, last: Reading, now: Reading) {
         let since = match before.shut_down {
             Some((_, at)) => at.wall,
@@ -90,6 +90,7 @@ impl Past {
         mem::swap(&mut self.runs, &mut before.runs);
         self.dropped = before.dropped;
         self.serial = before.serial;
+        self.labels.follow(&before.labels);
         self.counts = before.counts;
         for (_, job) in &mut self.jobs {
             job.lose(last);

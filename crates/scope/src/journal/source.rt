@@ -149,7 +149,7 @@ pub(crate) const NONE_NAMED: &str = "read, since no journal is named";
 const MOST_KEPT: u64 = 99;
 
 /// The journal of the package.
-const PACKAGED: &str = "/var/lib/jobd/journal.jsonl";
+pub(crate) const PACKAGED: &str = "/var/lib/jobd/journal.jsonl";
 
 /// The paths of the journals, the oldest first: those of the arguments, else that of `JOBD_JOURNAL`. If neither names one and standard input is a
 /// terminal, it takes the package's journal and prints a note. None: the journal comes on standard input.

@@ -36,6 +36,8 @@ pub(crate) struct Beside<'a> {
     /// When it starts by time alone.
     pub(crate) next: Value<'static>,
     pub(crate) is_disabled: bool,
+    /// Since when, if that is known.
+    pub(crate) disabled_since: Value<'static>,
     pub(crate) known: KnownLabel,
 }
 
@@ -106,6 +108,7 @@ pub(crate) fn put_job(
         Field("errors", beside.errors),
         Field("next_start", beside.next),
         Field("is_disabled", Flag(beside.is_disabled)),
+        Field("disabled_since", beside.disabled_since),
         load,
         refusal,
         Field("as_of", Moment(around.as_of)),
@@ -127,12 +130,18 @@ pub(crate) fn put_unloaded(
         Field("state", Text("unloaded")),
         Field("removed", moment_of(gone)),
         Field("is_disabled", Flag(known.disabled.is_some())),
+        Field("disabled_since", disabled_since(known)),
         load,
         refusal,
         Field("as_of", Moment(around.as_of)),
         Field("launcher", around.launcher),
     ];
     put_line(page, "label", label, &fields);
+}
+
+/// Since when the label is disabled, if that is known.
+pub(crate) fn disabled_since(known: KnownLabel) -> Value<'static> {
+    moment_of(known.since())
 }
 
 // When its last load was refused, and why.

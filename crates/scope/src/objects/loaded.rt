@@ -1,20 +1,30 @@
 //! A definition that is loaded, as an object.
 
+use crate::journal::labels::KnownLabel;
+use crate::objects::job::disabled_since;
 use crate::objects::lines::text_of;
 use definition_files::laid_out;
 use history_model::Reading;
 use job_defs::Def;
-use json_lines::Value::{Json, Moment};
+use json_lines::Value::{Flag, Json, Moment};
 use json_lines::{Field, put_json, put_line, put_texts};
 use run_times::{Ink, Page};
 use std::alloc::{AllocError, Global};
 use std::str::from_utf8;
 
 /// Adds the line of a job: when it was loaded, where its output goes, which keys of its definition are ignored, and the definition.
-pub(crate) fn put_loaded(page: &mut Page<'_>, label: &str, def: &Def, text: &str, at: Reading) {
+pub(crate) fn put_loaded(
+    page: &mut Page<'_>,
+    label: &str,
+    def: &Def,
+    text: &str,
+    at: Reading,
+    known: KnownLabel,
+) {
     match (unheeded(page.alloc, def), on_one_line(page.alloc, text)) {
         (Ok(unheeded), Ok(definition)) => {
-            put_lists(page, label, def, unheeded.as_str(), definition.as_str(), at);
+            let lists = (unheeded.as_str(), definition.as_str());
+            put_lists(page, label, def, lists, at, known);
             drop(unheeded);
             drop(definition);
         }
@@ -31,12 +41,14 @@ fn put_lists<'x>(
     page: &mut Page<'_>,
     label: &str,
     def: &'x Def,
-    unheeded: &'x str,
-    definition: &'x str,
+    (unheeded, definition): (&'x str, &'x str),
     at: Reading,
+    known: KnownLabel,
 ) {
     let fields = [
         Field("loaded", Moment(at.wall)),
+        Field("is_disabled", Flag(known.disabled.is_some())),
+        Field("disabled_since", disabled_since(known)),
         Field("output", text_of(def.standard_out_path())),
         Field("errors", text_of(def.standard_error_path())),
         Field("not_acted_on", Json(unheeded)),

@@ -3,10 +3,13 @@
 ghost use Rattle.std.specs.Prelude.{◌≡◌};
 ghost use Rattle.status_page.specs.Rows.{state_word};
 
+use crate::journal::labels::KnownLabels;
 use crate::objects::job::{Around, around_file};
 use crate::objects::left_out::put_left_out;
-use crate::objects::lines::{end_of, number_of};
+use crate::objects::lines::{end_of, moment_of, number_of};
+use crate::texts::standing::disabled_at;
 use calendar_due::Zone;
+use history_model::Reading;
 use json_lines::Value::{Absent, Flag, Moment, Number, Text};
 use json_lines::{Field, Value, put_line};
 use launchctl_words::ScopeCommand;
@@ -25,9 +28,10 @@ pub(crate) fn status_objects(
     standing: &Standing,
     of: &ScopeCommand,
     second: u64,
+    settings: &KnownLabels,
 ) -> Result<String, AllocError> {
     let zone = standing.zone(alloc, false)?;
-    let text = objects_in(host, alloc, standing, of, second, &zone);
+    let text = objects_in(host, alloc, standing, of, second, &zone, settings);
     drop(zone);
     text
 }
@@ -40,6 +44,7 @@ fn objects_in(
     of: &ScopeCommand,
     second: u64,
     zone: &Zone,
+    settings: &KnownLabels,
 ) -> Result<String, AllocError> {
     let shown = standing.zone(alloc, of.is_utc)?;
     let at = reading_of(standing);
@@ -53,7 +58,8 @@ fn objects_in(
                         let may_live = around.may_live;
                         let mut row = row_of(&job, entries.as_slice(), zone, may_live, at, second);
                         row.usage = usage_in(host, alloc, standing, &job, row.process);
-                        put_row(&mut page, &row, around);
+                        let since = disabled_at(&job, settings);
+                        put_row(&mut page, &row, job.disabled.is_some(), since, around);
                         drop(entries);
                     }
                     Err(_) => page.ink.refuse(),
@@ -81,7 +87,13 @@ fn usage_in(
 }
 
 // Adds the line of a row.
-fn put_row(page: &mut Page<'_>, row: &Row<'_>, around: Around) {
+fn put_row(
+    page: &mut Page<'_>,
+    row: &Row<'_>,
+    is_disabled: bool,
+    disabled_at: Option<Reading>,
+    around: Around,
+) {
     let process = match row.process {
         Some(process) => Some(u64::from(process)),
         None => None,
@@ -109,6 +121,8 @@ fn put_row(page: &mut Page<'_>, row: &Row<'_>, around: Around) {
         Field("cpu_ms", processor),
         Field("next_start", next),
         Field("waits_for", waits),
+        Field("is_disabled", Flag(is_disabled)),
+        Field("disabled_since", moment_of(disabled_at)),
         Field("as_of", Moment(around.as_of)),
         Field("launcher", around.launcher),
     ];

@@ -1,17 +1,19 @@
 //! Why each job of a journal or of a status file is in its state, an object a job.
 
 use crate::age::{AsOf, clock_as_of, reading_as_of};
-use crate::journal::labels::KnownLabel;
+use crate::journal::labels::{KnownLabel, KnownLabels};
 use crate::journal::reader::OpenJournal;
 use crate::known_runs::KnownRuns;
 use crate::objects::causes::causes_list;
-use crate::objects::job::{Around, Beside, around_file, around_journal, put_job, put_unloaded};
+use crate::objects::job::{
+    Around, Beside, around_file, around_journal, disabled_since, put_job, put_unloaded,
+};
 use crate::objects::left::put_left;
 use crate::objects::left_out::put_left_out;
-use crate::objects::lines::text_of;
+use crate::objects::lines::{moment_of, text_of};
 use crate::texts::failing::job_fault;
 use crate::texts::since::start_second;
-use crate::texts::standing::{is_failed_run, line_fault, told_of};
+use crate::texts::standing::{disabled_at, is_failed_run, line_fault, told_of};
 use crate::texts::told::ToldJob;
 use crate::texts::why::{asked_labels, throttle_shown, told_job};
 use calendar_due::Zone;
@@ -83,6 +85,7 @@ fn put_known(
             errors: errors_of(fault, def.standard_error_path()),
             next: Absent,
             is_disabled: known.disabled.is_some(),
+            disabled_since: disabled_since(known),
             known,
         };
         let at = Clocks {
@@ -146,6 +149,7 @@ fn put_whole<'x>(
         errors: beside.errors,
         next: beside.next,
         is_disabled: beside.is_disabled,
+        disabled_since: beside.disabled_since,
         known: beside.known,
     };
     put_job(page, label, &told.runs, &whole, around);
@@ -158,9 +162,10 @@ pub(crate) fn standing_objects(
     of: &ScopeCommand,
     second: u64,
     left: &[RunProcess],
+    settings: &KnownLabels,
 ) -> Result<(String, u64), AllocError> {
     let zone = standing.zone(alloc, false)?;
-    let objects = objects_in(alloc, standing, of, second, &zone, left);
+    let objects = objects_in(alloc, standing, of, second, &zone, left, settings);
     drop(zone);
     objects
 }
@@ -173,6 +178,7 @@ fn objects_in(
     second: u64,
     zone: &Zone,
     left: &[RunProcess],
+    settings: &KnownLabels,
 ) -> Result<(String, u64), AllocError> {
     let shown = standing.zone(alloc, of.is_utc)?;
     let last = reading_of(standing);
@@ -193,6 +199,7 @@ fn objects_in(
                         errors: errors_of(fault, job.keys.errors),
                         next: Absent,
                         is_disabled: job.disabled.is_some(),
+                        disabled_since: moment_of(disabled_at(&job, settings)),
                         known: NOTHING,
                     };
                     let of_file = ByFile { zone, last, clock };

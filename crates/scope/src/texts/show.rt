@@ -1,8 +1,10 @@
 //! The definitions that are loaded, as they were read.
 
 use crate::journal::job::KeptJob;
+use crate::journal::labels::KnownLabel;
 use crate::journal::reader::OpenJournal;
 use crate::objects::loaded::put_loaded;
+use crate::texts::why::add_disabled;
 use calendar_due::Zone;
 use definition_files::laid_out;
 use job_defs::Def;
@@ -24,29 +26,32 @@ pub(crate) fn show_text(
     let mut page = Page::new(alloc, zone, journal.table.reading());
     if labels.is_empty() {
         for (label, job) in &journal.past.jobs {
-            add_job(&mut page, label.as_str(), job, is_json);
+            let known = journal.past.labels.of(label.as_str());
+            add_job(&mut page, label.as_str(), job, known, is_json);
         }
     }
     for label in labels {
         let label = label.as_str();
         if let Some(job) = journal.past.jobs.get(label) {
-            add_job(&mut page, label, job, is_json);
+            let known = journal.past.labels.of(label);
+            add_job(&mut page, label, job, known, is_json);
         }
     }
     page.into_text()
 }
 
-fn add_job(page: &mut Page<'_>, label: &str, job: &KeptJob, is_json: bool) {
+fn add_job(page: &mut Page<'_>, label: &str, job: &KeptJob, known: KnownLabel, is_json: bool) {
     let (Some(def), Some(text)) = (&job.def, &job.text) else {
         return;
     };
     if is_json {
-        return put_loaded(page, label, def, text.as_str(), job.record.loaded());
+        return put_loaded(page, label, def, text.as_str(), job.record.loaded(), known);
     }
     page.add(
         "$ was loaded at $.\n",
         &[Text(label), Moment(job.record.loaded().wall)],
     );
+    add_disabled(page, label, known);
     add_stream(page, "Its output goes", def.standard_out_path());
     add_stream(page, "Its errors go", def.standard_error_path());
     add_unheeded(page, def);

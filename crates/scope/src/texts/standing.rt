@@ -1,6 +1,7 @@
 //! Why each job is in its state, by its launcher's file, and which of them fail.
 
 use crate::errors::FailedRun;
+use crate::journal::labels::{KnownLabel, KnownLabels};
 use crate::known_runs::KnownRuns;
 use crate::texts::coming::calendar_next;
 use crate::texts::since::add_coming;
@@ -30,9 +31,12 @@ pub(crate) fn standing_text(
     is_utc: bool,
     second: u64,
     left: &[RunProcess],
+    settings: &KnownLabels,
 ) -> Result<String, AllocError> {
     let zone = standing.zone(alloc, false)?;
-    let text = text_in(alloc, standing, labels, is_utc, second, &zone, left);
+    let text = text_in(
+        alloc, standing, labels, is_utc, second, &zone, left, settings,
+    );
     drop(zone);
     text
 }
@@ -46,6 +50,7 @@ fn text_in(
     second: u64,
     zone: &Zone,
     left: &[RunProcess],
+    settings: &KnownLabels,
 ) -> Result<String, AllocError> {
     let shown = standing.zone(alloc, is_utc)?;
     let last = reading_of(standing);
@@ -58,7 +63,8 @@ fn text_in(
     for line in standing.jobs() {
         if let Ok(job) = line.job() {
             if is_asked(labels, job.label) {
-                add_job(&mut page, zone, standing, line, &job, clock);
+                let known = settings.of(job.label);
+                add_job(&mut page, zone, standing, line, &job, clock, known);
                 add_left(&mut page, job.label, left);
             }
         }
@@ -127,6 +133,7 @@ fn add_job(
     line: &StatusLine,
     job: &JobStatus<'_>,
     clock: Reading,
+    known: KnownLabel,
 ) {
     let runs = KnownRuns::noted(&job.note, job.facts.reasons.child);
     if standing.life.may_live() {
@@ -141,6 +148,7 @@ fn add_job(
                     entries.as_slice(),
                     reading_of(standing),
                     clock,
+                    known,
                 );
                 add_missed(page, missed);
                 drop(entries);
@@ -161,12 +169,13 @@ fn add_living(
     entries: &[Entry],
     at: Reading,
     clock: Reading,
+    known: KnownLabel,
 ) {
     let facts = &job.facts;
     let told = told_of(page, zone, job, runs, entries);
     let is_idle = add_stand(page, job.label, facts, &told);
     add_past(page, &job.note, &runs);
-    add_disabled(page, job);
+    add_disabled(page, job, known);
     let last = within_limits(at);
     let end = throttle_shown(&told, facts, last);
     add_coming(page, facts, entries, zone, last, clock, is_idle, end);
@@ -218,7 +227,24 @@ fn add_past(page: &mut Page<'_>, note: &JobNote<'_>, runs: &KnownRuns<'_>) {
     }
 }
 
-fn add_disabled(page: &mut Page<'_>, job: &JobStatus<'_>) {
+/// When a setting disabled its label, by the file, or else by what journals say of settings. None: no setting does, or it is not known.
+pub(crate) fn disabled_at(job: &JobStatus<'_>, settings: &KnownLabels) -> Option<Reading> {
+    disabled_by(job, settings.of(job.label))
+}
+
+fn disabled_by(job: &JobStatus<'_>, known: KnownLabel) -> Option<Reading> {
+    match job.disabled {
+        Some(DisabledBy::Override) => job.note.disabled_at.or(known.since()),
+        Some(DisabledBy::Definition) | None => None,
+    }
+}
+
+// That its label is disabled, and since when.
+fn add_disabled(page: &mut Page<'_>, job: &JobStatus<'_>, known: KnownLabel) {
+    if let Some(at) = disabled_by(job, known) {
+        let holes = [Time(at.wall), Text(job.label)];
+        return page.add("  It is disabled since $: `jobctl enable $`.\n", &holes);
+    }
     let form = match job.disabled {
         Some(DisabledBy::Override) => "  It is disabled: `jobctl enable $`.\n",
         Some(DisabledBy::Definition) => {

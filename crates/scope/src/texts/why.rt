@@ -94,8 +94,8 @@ fn add_unloaded(page: &mut Page<'_>, journal: &OpenJournal, label: &str) {
     add_label(page, label, journal.past.labels.of(label));
 }
 
-// What is known of the label besides its job: since when it is disabled, and why its last load was refused.
-fn add_label(page: &mut Page<'_>, label: &str, known: KnownLabel) {
+/// Adds since when the label is disabled, and by which subcommand, if it is.
+pub(crate) fn add_disabled(page: &mut Page<'_>, label: &str, known: KnownLabel) {
     match known.disabled {
         Some(DisabledBy::Client(asked, at)) => page.add(
             "  It is disabled since $ (jobctl $): `jobctl enable $`.\n",
@@ -107,6 +107,11 @@ fn add_label(page: &mut Page<'_>, label: &str, known: KnownLabel) {
         ),
         None => {}
     }
+}
+
+// What is known of the label besides its job: since when it is disabled, and why its last load was refused.
+fn add_label(page: &mut Page<'_>, label: &str, known: KnownLabel) {
+    add_disabled(page, label, known);
     let Some((refusal, at)) = known.refused else {
         return;
     };

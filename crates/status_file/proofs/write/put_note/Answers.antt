@@ -13,7 +13,8 @@ returns c =
     let f = c.put_moment-4.new.line in
     let g = c.put_end.new.line in
     let h = c.put_refused.new.line in
-    let k = c.put_moment-5.new.line in
+    let i = c.put_moment-5.new.line in
+    let k = c.put_moment-6.new.line in
     let since = moment_tokens (codes "since") (Some note.since) in
     let started = moment_tokens (codes "started") note.started in
     let term = moment_tokens (codes "term") note.term in
@@ -21,9 +22,11 @@ returns c =
     let end = end_tokens note.last_end in
     let refused = refused_tokens note.refused in
     let succeeded = moment_tokens (codes "succeeded") note.succeeded in
-    followed since (started ++ (term ++ (kill ++ (end ++ (refused ++ succeeded))))) a b k c.put_moment.ensures
-    (followed started (term ++ (kill ++ (end ++ (refused ++ succeeded)))) b d k c.put_moment-2.ensures
-    (followed term (kill ++ (end ++ (refused ++ succeeded))) d e k c.put_moment-3.ensures
-    (followed kill (end ++ (refused ++ succeeded)) e f k c.put_moment-4.ensures
-    (followed end (refused ++ succeeded) f g k c.put_end.ensures
-    (followed refused succeeded g h k c.put_refused.ensures c.put_moment-5.ensures)))))
+    let disabled = moment_tokens (codes "disabled_at") note.disabled_at in
+    followed since (started ++ (term ++ (kill ++ (end ++ (refused ++ (succeeded ++ disabled)))))) a b k c.put_moment.ensures
+    (followed started (term ++ (kill ++ (end ++ (refused ++ (succeeded ++ disabled))))) b d k c.put_moment-2.ensures
+    (followed term (kill ++ (end ++ (refused ++ (succeeded ++ disabled)))) d e k c.put_moment-3.ensures
+    (followed kill (end ++ (refused ++ (succeeded ++ disabled))) e f k c.put_moment-4.ensures
+    (followed end (refused ++ (succeeded ++ disabled)) f g k c.put_end.ensures
+    (followed refused (succeeded ++ disabled) g h k c.put_refused.ensures
+    (followed succeeded disabled h i k c.put_moment-5.ensures c.put_moment-6.ensures))))))
