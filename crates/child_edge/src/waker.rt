@@ -12,7 +12,7 @@ use crate::waking::{Heard, Line, asks_all, is_sweep_due};
 use mio::unix::SourceFd;
 use mio::{Interest, Registry, Token};
 use std::alloc::{AllocError, Global};
-use std::io::{Read, Write};
+use std::io::{ErrorKind, Read, Write};
 use std::net::Net;
 use std::os::fd::{AsRawFd, OwnedFd};
 use std::os::unix::net::UnixStream;
@@ -28,6 +28,9 @@ const REPORT: Token = Token(usize::MAX);
 /// How many milliseconds an answer may take.
 const PATIENCE: u64 = 2;
 
+/// How many milliseconds a helper that was started may take for its first answer. Nobody waits for that one.
+const FIRST: u64 = 1_000;
+
 /// After how many milliseconds a helper is started again.
 const PEACE: u64 = 10_000;
 
@@ -40,12 +43,26 @@ const ROOM: usize = 4_096;
 /// more is no helper of this kind: it would keep the loop awake.
 const STRAYS: u32 = 1_024;
 
-/// A helper, the launcher's end of its socket, and whether that is registered with the loop's poll.
+/// A helper, the launcher's end of its socket, and whether that is registered with the loop's poll; whether it has
+/// answered, and the `up` at which it was started.
 #[derive(Drop)]
 struct Helper<P: OpenProcess + Drop> {
     child: Child<P>,
     socket: UnixStream,
     is_known: bool,
+    is_ready: bool,
+    since: u64,
+}
+
+/// What became of a question.
+#[derive(Clone, Copy, PartialEq, Eq)]
+enum Asked {
+    /// All that had exited were reported.
+    Answered,
+    /// The helper was just started, and nobody waits for its first answer.
+    Awaited,
+    /// No answer came in time.
+    Silent,
 }
 
 #[derive(Drop)]
@@ -90,8 +107,8 @@ impl<P: OpenProcess + Drop> Waker<P> {
         drop(mem::replace(&mut self.program, Some(program)));
     }
 
-    /// A round begins, or also a pass over all children. It asks the helper which children have exited. If all were asked ten seconds ago, or
-    /// if the helper gives no answer, this round asks about each.
+    /// A round begins, or also a pass over all children. It asks the helper which children have exited. If all were asked
+    /// ten seconds ago, or if the helper gives no answer, this round asks about each.
     pub(crate) fn begin_round<R: Clock>(
         &mut self,
         rt: &R,
@@ -111,42 +128,75 @@ impl<P: OpenProcess + Drop> Waker<P> {
             self.swept = up;
             self.strays = 0;
         }
-        let is_answered = self.ask(rt, made, up, children);
-        self.asks_all = asks_all(self.is_sweep, is_answered);
-        if !is_answered {
+        let asked = self.ask(rt, made, up, children);
+        self.asks_all = asks_all(self.is_sweep, asked == Asked::Answered);
+        if asked == Asked::Silent {
             self.give_up(up, children);
         }
     }
 
-    // Whether the helper answers.
+    // Asks the helper. A first answer is one to an earlier question: by it the helper is known to be ready.
     fn ask<R: Clock>(
         &mut self,
         rt: &R,
         made: Instant,
         up: u64,
         children: &mut Children<P>,
-    ) -> bool {
+    ) -> Asked {
         let Some(helper) = &mut self.helper else {
-            return false;
+            return Asked::Silent;
         };
-        if !is_sent(&mut helper.socket, b"\n".as_slice()) {
-            return false;
+        let (is_ready, since) = (helper.is_ready, helper.since);
+        if is_ready && !is_sent(&mut helper.socket, b"\n".as_slice()) {
+            return Asked::Silent;
         }
+        match self.answer(rt, made, up, children) {
+            Some(true) if is_ready => Asked::Answered,
+            Some(true) if self.is_made_ready() => Asked::Awaited,
+            None if !is_ready && up.saturating_sub(since) < FIRST => Asked::Awaited,
+            _ => Asked::Silent,
+        }
+    }
+
+    // From the first answer on the launcher waits for each, 2 milliseconds at most.
+    fn is_made_ready(&mut self) -> bool {
+        match &mut self.helper {
+            Some(helper) => {
+                helper.is_ready = true;
+                helper.socket.set_nonblocking(false).is_ok()
+            }
+            None => false,
+        }
+    }
+
+    // Whether what comes is an answer. None: it did not come in time.
+    fn answer<R: Clock>(
+        &mut self,
+        rt: &R,
+        made: Instant,
+        up: u64,
+        children: &mut Children<P>,
+    ) -> Option<bool> {
+        let Some(helper) = &mut self.helper else {
+            return None;
+        };
         for _ in 0..READS {
             let mut room = [0u8; ROOM];
-            let Ok(count) = helper.socket.read(&mut room) else {
-                return false;
+            let count = match helper.socket.read(&mut room) {
+                Ok(count) => count,
+                Err(error) if error.kind() == ErrorKind::WouldBlock => return None,
+                Err(_) => return Some(false),
             };
             let strays = &mut self.strays;
-            match take_in(&mut self.line, &room[..count], strays, children) {
-                Some(is_answered) => return is_answered,
-                None => {}
+            let answer = take_in(&mut self.line, &room[..count], strays, children);
+            if answer.is_some() {
+                return answer;
             }
             if clock::up(rt, made).saturating_sub(up) >= PATIENCE {
-                return false;
+                return None;
             }
         }
-        false
+        None
     }
 
     /// Tells the helper of the children of which it was not told. If there is none, it is started first: not before ten
@@ -196,7 +246,7 @@ impl<P: OpenProcess + Drop> Waker<P> {
         self.again = up.saturating_add(PEACE);
         self.line = Line::new();
         self.strays = 0;
-        match start(rt, self.alloc, program.path()) {
+        match start(rt, self.alloc, program.path(), up) {
             Ok(helper) => {
                 drop(mem::replace(&mut self.helper, Some(helper)));
                 Ok(())
@@ -298,16 +348,25 @@ fn is_gone<P: OpenProcess + Drop>(given_up: &mut Option<Child<P>>) -> bool {
 }
 
 // A helper with nothing of the launcher but its own end of a socket. No other child gets the launcher's end.
-fn start<R: Net + Processes>(rt: &R, alloc: Global, path: &str) -> io::Result<Helper<R::Started>> {
-    let (socket, far) = match UnixStream::pair(rt) {
+fn start<R: Net + Processes>(
+    rt: &R,
+    alloc: Global,
+    path: &str,
+    since: u64,
+) -> io::Result<Helper<R::Started>> {
+    let (mut socket, far) = match UnixStream::pair(rt) {
         Ok(pair) => pair,
         Err(error) => return Err(error),
     };
     let patience = Some(Duration::from_millis(PATIENCE));
     let reads = socket.set_read_timeout(patience);
     let writes = socket.set_write_timeout(patience);
-    let answer = match reads.and(writes) {
-        Ok(()) => start_at(rt, alloc, path, far),
+    let answer = match reads.and(writes).and(socket.set_nonblocking(true)) {
+        Ok(()) if is_sent(&mut socket, b"\n".as_slice()) => start_at(rt, alloc, path, far),
+        Ok(()) => {
+            drop(far);
+            Err(io::Error::from(ErrorKind::BrokenPipe))
+        }
         Err(error) => {
             drop(far);
             Err(error)
@@ -318,6 +377,8 @@ fn start<R: Net + Processes>(rt: &R, alloc: Global, path: &str) -> io::Result<He
             child,
             socket,
             is_known: false,
+            is_ready: false,
+            since,
         }),
         Err(error) => {
             drop(socket);
