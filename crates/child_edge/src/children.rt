@@ -110,7 +110,7 @@ impl<P: OpenProcess + Drop> Run<P> {
 #[derive(Drop)]
 pub(crate) struct Children<P: OpenProcess + Drop> {
     runs: BTreeMap<RunKey, Run<P>>,
-    /// The helper that reports exits was perhaps not told of each child.
+    /// The helper that reports exits may not know each child.
     pub(crate) has_unsent: bool,
 }
 
@@ -289,7 +289,7 @@ impl<P: OpenProcess + Drop> Children<P> {
         false
     }
 
-    /// The lines that tell the helper of each child of which it was not told: its job and its PID.
+    /// The lines that name to the helper each child that it does not know: its job and its PID.
     pub(crate) fn unsent_lines(&self, alloc: Global) -> Result<String, AllocError> {
         let mut lines = String::new(alloc);
         for (key, run) in self.runs.iter() {
@@ -301,7 +301,7 @@ impl<P: OpenProcess + Drop> Children<P> {
         Ok(lines)
     }
 
-    /// The helper was told of each of those.
+    /// The helper knows each of those from now on.
     pub(crate) fn all_sent(&mut self) {
         for run in self.runs.values_mut() {
             run.watch = sent(run.watch);
@@ -309,7 +309,7 @@ impl<P: OpenProcess + Drop> Children<P> {
         self.has_unsent = false;
     }
 
-    /// The helper that was told of children is gone: no helper was told of any.
+    /// The helper that knew children was given up: the next one knows none.
     pub(crate) fn none_sent(&mut self) {
         for run in self.runs.values_mut() {
             run.watch = unsent(run.watch);

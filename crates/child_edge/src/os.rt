@@ -212,9 +212,9 @@ impl<R: Processes> OsEdge<R> {
     /// nothing; and the child's run. It asks the system once about each child up to that one, and counts no failure.
     /// The child stays: `poll` says how it exited, or is refused. Takes no memory.
     ///
-    /// Beside the helper that reports exits (see [`use_waker`](OsEdge::use_waker)) it asks the helper first, once after each
-    /// reading of the clock. If the helper answers in time, it leaves out the children of which the helper was told and
-    /// whose exit it did not report. Once in ten seconds it asks about each.
+    /// With a helper that reports exits (see [`use_waker`](OsEdge::use_waker)) it asks the helper first, once after each
+    /// clock reading. If the helper answers in time, it leaves out the children that the helper knows and whose exit it did
+    /// not report. Once in ten seconds it asks about each.
     pub fn over_from(&mut self, job: JobNo) -> Option<(JobNo, u64)>
     where
         R: Clock,
@@ -345,7 +345,7 @@ impl<R: Clock + Files<File = File> + Processes> OsEdge<R> {
     /// Sends the client of each connection what its run has written since, up to what it takes at once. It closes a
     /// connection whose run has exited and whose client has all that it wrote. It also disconnects a client that has
     /// left or has taken nothing of its reply for a minute, and logs that. It says whether one may go on at once. While
-    /// none is held it makes no call of the system for them. In the end it tells the helper that reports exits of the
+    /// none is held it makes no call of the system for them. In the end it names to the helper that reports exits the
     /// children that were started since.
     pub fn forward(&mut self) -> bool
     where
@@ -372,9 +372,9 @@ impl<R: Clock + Files<File = File> + Processes> OsEdge<R> {
         }
     }
 
-    /// From now on a helper reports exits, by the program `jobd-wake`, if it lies beside the program of this process or in
-    /// `../libexec` of that, and nobody but root and this user may change it. What it reports can only make the edge ask
-    /// earlier. Otherwise, or if the user is not known, a notice says why, and each child is asked about in each round.
+    /// From now on a helper reports exits: the program `jobd-wake`, next to the program of this process or in `../libexec`
+    /// of that. Nobody but root and this user may be able to change it. What it reports can only make the edge ask earlier. If
+    /// there is none, or the user is not known, a notice says why.
     pub fn use_waker(&mut self, user: Option<u32>)
     where
         R: AllocGlobal,

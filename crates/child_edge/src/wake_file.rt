@@ -1,4 +1,4 @@
-//! The program of the helper that reports exits, `jobd-wake`: beside the launcher's own, or in `../libexec` of that.
+//! The program of the helper that reports exits, `jobd-wake`: next to the launcher's own, or in `../libexec` of that.
 //! It is opened once and held, so that an upgrade changes nothing.
 
 use files_and_process::own_files::check_folder;

@@ -1,4 +1,4 @@
-//! The helper that reports exits, `jobd-wake`: it is told of each child, waits for the exits of all, and reports each.
+//! The helper that reports exits, `jobd-wake`: it gets the PID of each child, waits for the exits of all, and reports each.
 //! The launcher asks it in each pass of the loop which have exited. What it reports can only make the launcher ask the
 //! system earlier: whether a child exited is what the system then answers. Where it gives no answer, the launcher asks
 //! about each child, ends the helper, and starts another ten seconds later.
@@ -39,8 +39,8 @@ const READS: usize = 64;
 
 const ROOM: usize = 4_096;
 
-/// How many reports that are no news a helper may give between two passes that ask about all children. One that gives
-/// more is no helper of this kind: it would keep the loop awake.
+/// How many reports that say nothing new a helper may give between two passes that ask about all children. One that gives
+/// more is given up: it would keep the loop awake.
 const STRAYS: u32 = 1_024;
 
 /// A helper, the launcher's end of its socket, and whether that is registered with the loop's poll; whether it has
@@ -84,7 +84,7 @@ pub(crate) struct Waker<P: OpenProcess + Drop> {
 }
 
 impl<P: OpenProcess + Drop> Waker<P> {
-    /// There is none, and each round asks about each child.
+    /// There is none, and each pass of the loop asks about each child.
     pub(crate) fn new(alloc: Global) -> Waker<P>
         ensures { result.asks_all ≡ true }
     {
@@ -107,8 +107,8 @@ impl<P: OpenProcess + Drop> Waker<P> {
         drop(mem::replace(&mut self.program, Some(program)));
     }
 
-    /// A round begins, or also a pass over all children. It asks the helper which children have exited. If all were asked
-    /// ten seconds ago, or if the helper gives no answer, this round asks about each.
+    /// A pass of the loop begins, or a pass over all children. It asks the helper which children have exited. If all were
+    /// asked ten seconds ago, or if the helper gives no answer, this pass asks about each.
     pub(crate) fn begin_round<R: Clock>(
         &mut self,
         rt: &R,
@@ -199,7 +199,7 @@ impl<P: OpenProcess + Drop> Waker<P> {
         None
     }
 
-    /// Tells the helper of the children of which it was not told. If there is none, it is started first: not before ten
+    /// Names to the helper the children that it does not know. If there is none, it is started first: not before ten
     /// seconds have passed since the last one was given up. An `Err` is the system's reason why none was started.
     pub(crate) fn tell<R: Clock + Net + Processes<Started = P>>(
         &mut self,
@@ -255,7 +255,7 @@ impl<P: OpenProcess + Drop> Waker<P> {
         }
     }
 
-    /// Has reports wake this poll. Where the poll refuses, it is asked again in the next round.
+    /// Has reports wake this poll. Where the poll refuses, it is asked again in the next pass.
     pub(crate) fn register(&mut self, registry: &Registry) {
         let Some(helper) = &mut self.helper else {
             return;

@@ -1,5 +1,5 @@
-//! Which children a pass of the loop asks the system about, beside a helper that reports their exits; and what the
-//! helper writes.
+//! Which children a pass of the loop asks the system about, with a helper that reports their exits; and what the helper
+//! writes.
 
 ghost use Rattle.std.specs.Prelude.{◌≡◌, ◌+◌, ◌≤◌, ◌↔◌, true, false, IsTrue};
 ghost use Rattle.child_edge.specs.Waking.{is_asked_in, asks_all_in, sent_in, unsent_in};
@@ -10,16 +10,16 @@ const SWEEP: u64 = 10_000;
 /// What the helper knows of a child.
 #[derive(Clone, Copy, PartialEq, Eq)]
 pub(crate) enum Watch {
-    /// It was not told of the child.
+    /// The child is not known to it.
     Unsent,
-    /// It was told of the child, and reported no exit.
+    /// The child is known to it, and it reported no exit.
     Sent,
     /// It reported the exit; or the child has exited, or the system refused to wait for it.
     Due,
 }
 
-/// Whether a pass asks the system about a child. All are asked if `asks_all` says so. Only a child of which the helper
-/// was told, and whose exit it did not report, is ever left out.
+/// Whether a pass asks the system about a child. All are asked if `asks_all` says so. Only a child that the helper
+/// knows, and whose exit it did not report, is ever left out.
 pub(crate) fn is_asked(watch: Watch, asks_all: bool) -> bool
     ensures exact { result ≡ is_asked_in asks_all watch }
     ensures left_out { result ≡ false → (asks_all ≡ false) × (watch ≡ Watch.Sent) }
@@ -30,7 +30,7 @@ pub(crate) fn is_asked(watch: Watch, asks_all: bool) -> bool
     }
 }
 
-/// What the helper knows of a child, once it was told of those of which it was not told.
+/// What the helper knows of a child, once it knows all children.
 pub(crate) fn sent(watch: Watch) -> Watch
     ensures { result ≡ sent_in watch }
 {
@@ -67,7 +67,7 @@ pub(crate) fn is_sweep_due(up: u64, swept: u64) -> bool
     up.saturating_sub(swept) >= SWEEP
 }
 
-/// Where a line stands that comes from the helper.
+/// What part of a line comes next from the helper.
 #[derive(Clone, Copy, PartialEq, Eq)]
 enum Field {
     Start,
