@@ -118,7 +118,7 @@ impl Line {
                 self.field = Field::Pid;
                 Heard::Part
             }
-            (b'0'..=b'9', _) => self.digit(u32::from(byte - b'0')),
+            (b'0'..=b'9', _) => self.digit(u32::from(byte.wrapping_sub(b'0'))),
             _ => Heard::Wrong,
         }
     }
