@@ -253,9 +253,9 @@ def a_helper_that_others_may_change(stage):
         launcher = stage.serve()
         launcher.load(kept_alive("one"))
         comes_back(launcher, "one")
-        wait_for(lambda: "jobd-wake" in launcher.said(), f"that there is no helper is not told, but should be: {why}")
-        line = f"jobd: exits are seen within 0.1 s, as no jobd-wake reports them: {why}"
-        check([it for it in launcher.said().splitlines() if "jobd-wake" in it] == [line], f"of {why!r} it says {launcher.said()!r}")
+        said = lambda: [it for it in text_at(launcher.said_at).splitlines() if "jobd-wake" in it]
+        wait_for(said, f"that there is no helper is not told, but should be: {why}")
+        check(said() == [f"jobd: exits are seen within 0.1 s, as no jobd-wake reports them: {why}"], f"of {why!r} it says {said()!r}")
         check(not helpers(launcher), f"there is a helper, although {why}")
         launcher.shut_down()
     beside(stage, "honest", "libexec")
@@ -263,7 +263,7 @@ def a_helper_that_others_may_change(stage):
     launcher.load(kept_alive("one"))
     is_used(launcher)
     comes_back(launcher, "one")
-    check("jobd-wake" not in launcher.said(), f"it says {launcher.said()!r}")
+    check("jobd-wake" not in text_at(launcher.said_at), f"it says {text_at(launcher.said_at)!r}")
     launcher.shut_down()
 
 
