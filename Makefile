@@ -6,7 +6,8 @@
 #             everything is. It leaves the program in build/ too
 # make scenes plays the scenes alone, with the program of build/
 # make times  the build and then the gate, with nothing kept from earlier runs: how long the build took, and what each crate cost in processor seconds
-# make build  proves, and leaves the program as build/jobd, with build/jobctl and build/jobscope as links to it
+# make build  proves, and leaves the program as build/jobd, with build/jobctl and build/jobscope as links to it; and build/jobd-wake by the system's
+#             C compiler, if there is one
 # make install  puts the program of build/ under its three names below PREFIX; make uninstall removes it
 # make dist   the archive of the program in build/, with what belongs to it; make deb, the Debian package of it
 # make bench  times build/jobd, the calendar and the live launcher, and counts the instructions of a line; BASELINE=PROGRAM takes turns
@@ -22,6 +23,7 @@ run: need_rt
 
 quick: need_rt
 	@python3 tools/quick.py
+	@sh packaging/wake.sh build/quick
 
 # The lines that a case writes are those of crates/trials/stdout; another one is a fault.
 try: need_rt
@@ -57,11 +59,11 @@ need_rt:
 	@command -v rt > /dev/null 2>&1 || { echo "rt is not on the PATH: install the Rattle kit (README, From source)" >&2; exit 127; }
 
 # make build: proves the program and all that it stands on (tools/build_all.py: as many crates side by side as there are processors), and
-# leaves it as build/jobd, with build/jobctl and build/jobscope as links to it. What an earlier build on this machine passed
+# leaves it as build/jobd, with build/jobctl and build/jobscope as links to it, and beside it jobd-wake (packaging/wake.sh), which is not proved. What an earlier build on this machine passed
 # over the same files is not proved again; with kit 13f, what a gate passed neither.
 PROGRAM := jobd_program
 # The program acts by the name that it is started under. The links are hard ones: the gate of kit 13b stops at a symbolic link in any folder here.
-put_program = install -m 755 crates/$(PROGRAM)/out/$(PROGRAM) build/jobd && ln -f build/jobd build/jobctl && ln -f build/jobd build/jobscope
+put_program = install -m 755 crates/$(PROGRAM)/out/$(PROGRAM) build/jobd && ln -f build/jobd build/jobctl && ln -f build/jobd build/jobscope && sh packaging/wake.sh build
 # Which commit and which kit stand behind the program of build/.
 say_proved = { echo "Commit: $$(git rev-parse HEAD)"; echo "Kit: $$(rt version)"; \
     echo "Program: $$(cd build && sha256sum jobd)"; } > build/proved.txt

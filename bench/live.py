@@ -5,7 +5,7 @@
 
 The programs are build/jobd and build/jobctl if none are given. A second pair is timed after the first in each part, and has a
 column of its own. A launcher is started in a folder of its own; JOBS (1000) jobs of the one program /bin/sleep, kept alive with
-ThrottleInterval 0, are loaded by one `jobctl load` of their folder. Then: all started, restarts of one job after an exit, CPU and
+ThrottleInterval 0, are loaded by one `jobctl load` of their folder. Then: all started, restarts of one job after a kill (KILLS, 50, from rest, 0.25 to 0.65 s apart, and four times as many back to back), CPU and
 wake-ups while nothing happens for IDLE seconds (10), memory, `list` of all and `print` of one (over an open connection, and as a
 program), and all stopped by `shutdown`. A second launcher loads JOBS jobs that don't start and unloads them, and does the same
 with FEW (300) that start. A third serves a Unix socket by /bin/cat: CALLS connections (200) one after another, then eight at a
@@ -17,6 +17,7 @@ of build/ are added to history.csv, but not those of programs that were named.
 """
 import json
 import os
+import random
 import shutil
 import signal
 import socket
@@ -39,6 +40,7 @@ JOBS = int(os.environ.get("JOBS", "1000"))
 IDLE = float(os.environ.get("IDLE", "10"))
 CALLS = int(os.environ.get("CALLS", "200"))
 FEW = int(os.environ.get("FEW", "300"))
+KILLS = int(os.environ.get("KILLS", "50"))
 REPLIES = int(os.environ.get("REPLIES", "10"))
 # The most milliseconds for JOBS loads of jobs that don't start, and the fewest megabytes a second of a reply.
 LOAD_AIM = JOBS
@@ -48,7 +50,7 @@ STANDING_AIM = 5
 WHY_AIM = 10
 REPLY = 20_000_000
 # The names of its own children.
-OF_THE_LAUNCHER = ("sh", "exe")
+OF_THE_LAUNCHER = ("sh", "exe", "jobd-wake")
 
 
 def now():
@@ -78,6 +80,11 @@ class Figure:
 
 def spread(what, times):
     return Figure(what, f"{statistics.median(times):.2f}", "ms", f" ({min(times):.2f} to {max(times):.2f}, {len(times)} times)")
+
+
+def tail(what, times):
+    at = statistics.quantiles(times, n=100, method="inclusive")[98]
+    return Figure(what, f"{statistics.median(times):.2f}", "ms", f" (99 in 100 within {at:.2f}, {len(times)} times)")
 
 
 def timed(call, times):
@@ -158,9 +165,9 @@ class Launcher:
             self.process.kill()
 
 
-def restarts(launcher, times):
-    """From the end of a job's child to the first line of the next one, which a shell writes to a pipe. It opens the pipe itself: the
-    launcher opens plain files alone."""
+def restarts(launcher, times, least=0.0, most=0.0):
+    """From the kill of a job's child to the first line of the next one, which a shell writes to a pipe. It opens the pipe itself: the
+    launcher opens plain files alone. Before each kill it waits, from the least to the most seconds; without them the kills are back to back."""
     os.mkfifo(launcher.path("told"))
     pipe = os.open(launcher.path("told"), os.O_RDWR)
     lines = os.fdopen(pipe)
@@ -169,12 +176,13 @@ def restarts(launcher, times):
         ThrottleInterval=0))
     pid, took = int(lines.readline()), []
     for _ in range(times):
-        time.sleep(0.3)
+        time.sleep(random.uniform(least, most))
         begun = now()
         os.kill(pid, signal.SIGKILL)
         pid = int(lines.readline())
         took.append(now() - begun)
     lines.close()
+    os.remove(launcher.path("told"))
     launcher.ask("unload", launcher.path("jobs/restarted.json"))
     return took
 
@@ -223,7 +231,8 @@ def many(launcher):
     yield spread("`print` of one, over a connection", requests(launcher, {"req": "print", "job": "job0000"}))
     yield spread("`jobctl list`", timed(lambda: launcher.ask("list"), 20))
     yield spread("`jobctl print` of one", timed(lambda: launcher.ask("print", "job0000"), 20))
-    yield spread("a restart after an exit", restarts(launcher, 20))
+    yield tail("a restart after a kill, from rest", restarts(launcher, KILLS, 0.25, 0.65))
+    yield tail("a restart after a kill, back to back", restarts(launcher, 4 * KILLS))
     yield Figure("all stopped by `shutdown`", f"{launcher.stop():.0f}", "ms")
 
 

@@ -24,6 +24,7 @@ rm -rf "$stage" "dist/$name.tar.gz"
 mkdir -p "$stage/bin" "$stage/man" "$stage/contrib" "$stage/docs" "$stage/examples/jobs" "$stage/examples/night" "$stage/examples/alerts"
 install -m 755 build/jobd "$stage/bin"
 strip "$stage/bin/jobd"
+if [ -x build/jobd-wake ]; then install -m 755 build/jobd-wake "$stage/bin"; fi
 ln -s jobd "$stage/bin/jobctl"
 ln -s jobd "$stage/bin/jobscope"
 install -m 644 man/*.[158] "$stage/man"
@@ -47,8 +48,8 @@ echo "$version" >"$stage/VERSION"
 chmod 644 "$stage/VERSION"
 install -m 755 packaging/install.sh "$stage"
 
-# The newest version of the C library that the program asks for.
-libc=$(objdump -T build/jobd | grep -o 'GLIBC_[0-9.]*' | sort -V | tail -n 1)
+# The newest version of the C library that the programs ask for.
+libc=$(for program in "$stage"/bin/jobd "$stage"/bin/jobd-wake; do [ ! -x "$program" ] || objdump -T "$program"; done | grep -o 'GLIBC_[0-9.]*' | sort -V | tail -n 1)
 [ -n "$libc" ] || fail "the program asks for no version of the C library"
 packaging/proved.sh "$libc" "$stage/bin" >"$stage/PROVED.txt"
 

@@ -1,6 +1,6 @@
 #!/bin/sh
 # Puts the program, manual pages, completions and documents below PREFIX (/usr/local), each path behind DESTDIR; with the word
-# `uninstall` removes them. The program is one file, jobd; jobctl and jobscope are links to it in the same folder. `make install` runs this
+# `uninstall` removes them. The program is one file, jobd; jobctl and jobscope are links to it in the same folder. jobd-wake goes to libexec, if it was made. `make install` runs this
 # in the repository, where it is in build/; in an unpacked archive it is in bin/. Nothing is compiled or fetched.
 set -eu
 
@@ -63,6 +63,9 @@ put() {
     install -m 644 examples/alerts/*.yml "$doc/examples/alerts"
     install -m 644 contrib/ansible/jobd/tasks/main.yml "$doc/contrib/ansible/jobd/tasks"
     filled contrib/jobd-run "$root/libexec/jobd-run" 755
+    # Where it was not made, one of a version before would be started.
+    rm -f "$root/libexec/jobd-wake"
+    if [ -x "$programs/jobd-wake" ]; then install -m 755 "$programs/jobd-wake" "$root/libexec"; fi
     for file in jobd.service jobd@.service jobd-user.service jobd.logrotate Containerfile moving.py; do
         filled "contrib/$file" "$doc/contrib/$file" 644
     done
@@ -74,6 +77,7 @@ put() {
 # The folder of documents is this project's own; of the others only those that it left empty go.
 remove() {
     rm -f "$root/bin/jobd" "$root/bin/jobctl" "$root/bin/jobscope" "$root/bin/jobctl-reload" "$root/bin/jobd-group" "$root/bin/jobd-split-users" "$root/libexec/jobd-run" \
+        "$root/libexec/jobd-wake" \
         "$root/share/man/man1/jobctl.1" "$root/share/man/man1/jobd-group.1" "$root/share/man/man1/jobctl-reload.1" "$root/share/man/man1/jobscope.1" \
         "$root/share/man/man5/jobd.json.5" "$root/share/man/man5/jobd.journal.5" "$root/share/bash-completion/completions/jobscope" \
         "$root/share/fish/vendor_completions.d/jobscope.fish" "$root/share/zsh/site-functions/_jobscope" \

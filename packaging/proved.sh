@@ -32,5 +32,9 @@ echo "The program as built, which is jobctl and jobscope too, by links to it:"
 echo "    $sum"
 echo "The same without its symbols, as shipped:"
 (cd "$2" && sha256sum jobd) | sed 's/^/    /'
+if [ -x "$2/jobd-wake" ]; then
+    echo "Beside it, in C and not proved, made by the C compiler of the system:"
+    (cd "$2" && sha256sum jobd-wake) | sed 's/^/    /'
+fi
 echo
 sed -n '/^## The theorems$/,/^## What has to be believed$/p' docs/PROVED.md | sed -e '/^## /d' -e '1{/^$/d}' -e 's/\*\*//g'

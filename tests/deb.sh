@@ -61,7 +61,7 @@ files >"$root/root/before"
 
 inside apt-get -qq install -y --no-install-recommends /root/jobd.deb >"$root/root/log" 2>&1 || fail "$(cat "$root/root/log")"
 inside dpkg --verify jobd
-for path in usr/bin/jobd usr/bin/jobctl usr/bin/jobscope usr/bin/jobctl-reload usr/bin/jobd-split-users usr/libexec/jobd-run; do
+for path in usr/bin/jobd usr/bin/jobctl usr/bin/jobscope usr/bin/jobctl-reload usr/bin/jobd-split-users usr/libexec/jobd-run usr/libexec/jobd-wake; do
     [ -x "$root/$path" ] || fail "no program /$path"
 done
 for name in jobctl jobscope; do

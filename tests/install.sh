@@ -25,6 +25,18 @@ else
     chmod +x "$scratch/tree/build/jobd"
     stand_ins=1
 fi
+# jobd-wake is there or not, as packaging/wake.sh made it; it gives the same bytes twice.
+sh packaging/wake.sh "$scratch/tree/build"
+mkdir "$scratch/wake"
+cp packaging/wake.sh packaging/jobd-wake.c "$scratch/wake"
+sh "$scratch/wake/wake.sh" "$scratch/wake"
+has_wake=0
+if [ -x "$scratch/tree/build/jobd-wake" ]; then
+    has_wake=1
+    cmp "$scratch/tree/build/jobd-wake" "$scratch/wake/jobd-wake" || fail "jobd-wake is another one each time"
+fi
+CC=/no/compiler sh "$scratch/wake/wake.sh" "$scratch/wake" | grep -q 'jobd-wake is not made' || fail "that there is no compiler is not said"
+[ ! -e "$scratch/wake/jobd-wake" ] || fail "without a compiler an old jobd-wake is left"
 
 # by_make and by_archive WORD PREFIX: install or uninstall.
 by_make() {
@@ -87,6 +99,7 @@ tries() {
     for path in bin/jobd bin/jobctl bin/jobscope bin/jobctl-reload bin/jobd-group bin/jobd-split-users libexec/jobd-run share/doc/jobd/contrib/jobd.openrc share/doc/jobd/contrib/jobd.runit; do
         [ -x "$root/$path" ] || fail "$1: no program $path"
     done
+    if [ "$has_wake" = 1 ]; then [ -x "$root/libexec/jobd-wake" ] || fail "$1: no program libexec/jobd-wake"; else [ ! -e "$root/libexec/jobd-wake" ] || fail "$1: a jobd-wake that was not made"; fi
     if "$root/bin/jobctl-reload" --all /etc/jobd 2>"$scratch/told"; then fail "$1: jobctl-reload does something"; else [ $? = 64 ] || fail "$1: the status of jobctl-reload"; fi
     grep -q 'jobctl apply' "$scratch/told" || fail "$1: jobctl-reload does not say what took its place: $(cat "$scratch/told")"
     for path in bin/jobctl bin/jobscope; do

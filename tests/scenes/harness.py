@@ -152,7 +152,8 @@ class Launcher:
         self.pid, self.out = process.pid, b""
 
     def said(self):
-        return text_at(self.said_at)
+        """What it has logged, but for the line that it has no jobd-wake, where there is none."""
+        return "".join(line for line in text_at(self.said_at).splitlines(True) if "as no jobd-wake reports them: No such file" not in line)
 
     def lines(self, part):
         return [line for line in self.said().splitlines() if part in line]

@@ -1,11 +1,11 @@
 #!/usr/bin/env python3
 """Plays scenes with the programs as their users run them: real children, files, sockets, clients and other launchers.
 
-    tests/scenes/play.py [--by PROGRAM] [--second PROGRAM] [--at-once N] [--as-me] [--once] [SCENE..]
+    tests/scenes/play.py [--by PROGRAM] [--second PROGRAM] [--at-once N] [--as-me] [--once] [--no-wake] [SCENE..]
     tests/scenes/play.py --jobd WORDS [--jobctl WORDS] [--jobscope WORDS] [--once] [SCENE..]
 
 PROGRAM is the file of the three programs, build/jobd if none is given; with --second a few scenes (SECOND) are played by that one too, which the gate
-made by Rattle's own compiler. It plays as nobody, if it is started as root, over copies below TMPDIR, outside the repository; --as-me plays as root
+made by Rattle's own compiler. A jobd-wake that lies beside PROGRAM is used, but with --no-wake. It plays as nobody, if it is started as root, over copies below TMPDIR, outside the repository; --as-me plays as root
 there. WORDS start a program, with blanks between; then it plays as it was started. Without a SCENE all are played, N (a process each, as many as there are
 processors) at a time. Each has a folder, a process and a limit of its own, and each process that it started is ended.
 
@@ -39,11 +39,12 @@ import status
 import stores
 import telling
 import users
+import waking
 import words
 from harness import HERE, Stage, adopt_orphans, children_of, chosen, end_children, end_process, heed_signals, program_words
 from pace import Deadline, Fault, Late, Pace, Probe
 
-FILES = (clients, places, limits, replies, stores, telling, hung, jobs, jobctl, users, words, jobscope, status, apply)
+FILES = (clients, places, limits, replies, stores, telling, hung, jobs, jobctl, users, words, jobscope, status, apply, waking)
 # The longest is begun first.
 SCENES = [scene for file in FILES for scene in file.SCENES]
 SCENES.sort(key=lambda scene: scene is not clients.a_client_still_for_a_minute)
@@ -202,7 +203,7 @@ def play(tasks, folder, at_once, is_once):
 
 # ---- where they are played
 
-def lay_out(room, by, second):
+def lay_out(room, by, second, has_wake):
     """Puts copies of the scenes, of the examples and of the programs, each under three names, into the folder."""
     shutil.copytree(HERE, f"{room}/tests/scenes", ignore=shutil.ignore_patterns("__pycache__"))
     shutil.copytree(f"{HERE}/../mistakes", f"{room}/tests/mistakes")
@@ -210,11 +211,15 @@ def lay_out(room, by, second):
     shutil.copytree(f"{HERE}/../../examples", f"{room}/examples")
     os.mkdir(f"{room}/contrib")
     shutil.copy(f"{HERE}/../../contrib/jobd-group", f"{room}/contrib/jobd-group")
+    wake = f"{os.path.dirname(by)}/jobd-wake"
     for name, program in (("bin", by), ("second", second)):
         if program:
             os.mkdir(f"{room}/{name}")
             shutil.copyfile(program, f"{room}/{name}/program")
             os.chmod(f"{room}/{name}/program", 0o755)
+            if has_wake and os.access(wake, os.X_OK):
+                shutil.copyfile(wake, f"{room}/{name}/jobd-wake")
+                os.chmod(f"{room}/{name}/jobd-wake", 0o755)
             for link in NAMES:
                 os.symlink("program", f"{room}/{name}/{link}")
     os.mkdir(f"{room}/d", 0o700)
@@ -230,7 +235,7 @@ def play_apart(given, words_of_it):
     room = tempfile.mkdtemp(prefix="scenes-")
     try:
         os.chmod(room, 0o711)
-        lay_out(room, given.by or f"{os.path.dirname(given.jobd[0])}/jobd", given.second)
+        lay_out(room, given.by or f"{os.path.dirname(given.jobd[0])}/jobd", given.second, not given.no_wake)
         front = []
         if os.geteuid() == 0 and not given.as_me:
             front = ["setpriv", f"--reuid={NOBODY}", f"--regid={NOBODY}", "--clear-groups", "--no-new-privs"]
@@ -255,6 +260,7 @@ def read_words():
     reader.add_argument("--at-once", type=int, default=len(os.sched_getaffinity(0)))
     reader.add_argument("--as-me", action="store_true")
     reader.add_argument("--once", action="store_true")
+    reader.add_argument("--no-wake", action="store_true", help="the launchers have no jobd-wake")
     reader.add_argument("--within", metavar="FOLDER", help="where all is laid out")
     return reader, reader.parse_args()
 

@@ -7,3 +7,4 @@ pub mod Rooms
 pub mod Sights
 pub mod Replies
 pub mod Spool
+pub mod Waking

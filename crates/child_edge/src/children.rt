@@ -1,14 +1,15 @@
 //! The children that were started and not yet waited for, by job and run.
 
-ghost use Rattle.std.specs.Prelude.{◌<◌, IfOk};
+ghost use Rattle.std.specs.Prelude.{◌≡◌, ◌<◌, true, false, IfOk, OnErr, IfSome};
 
 use crate::failure::{Failure, culprit};
 use crate::held::Held;
 use crate::maps::key_from;
 use crate::shell::KeptShell;
 use crate::start::Start;
+use crate::waking::{Watch, is_asked, sent, unsent};
 use history_model::{Ended, JobNo, Text};
-use std::alloc::Global;
+use std::alloc::{AllocError, Global};
 use std::collections::BTreeMap;
 use std::fs::Files;
 use std::io::ErrorKind;
@@ -51,6 +52,7 @@ impl Kept {
 struct Run<P: OpenProcess + Drop> {
     child: Option<Child<P>>,
     kept: Kept,
+    watch: Watch,
 }
 
 impl<P: OpenProcess + Drop> Run<P> {
@@ -69,18 +71,54 @@ impl<P: OpenProcess + Drop> Run<P> {
         }
         Ok(pid)
     }
+
+    // How the child exited, if it did. From then on, and after a refusal, each pass asks about it.
+    fn ask(&mut self) -> io::Result<Option<ExitStatus>>
+        ensures exit { IfOk result (λ answer. IfSome answer (λ _. self.new.watch ≡ Watch.Due)) }
+        ensures refusal { OnErr result (self.new.watch ≡ Watch.Due) }
+    {
+        let Some(child) = &mut self.child else {
+            self.watch = Watch::Due;
+            return Err(io::Error::from(ErrorKind::NotFound));
+        };
+        let answer = child.try_wait();
+        if !matches!(answer, Ok(None)) {
+            self.watch = Watch::Due;
+        }
+        answer
+    }
+
+    // The PID of the child, if it has one.
+    fn pid(&self) -> Option<u32> {
+        match &self.child {
+            Some(child) => Some(child.id()),
+            None => None,
+        }
+    }
+
+    // The helper reported the exit of this PID. It says whether that is news of the child.
+    fn report(&mut self, pid: u32) -> bool {
+        let is_news = self.watch == Watch::Sent && self.pid() == Some(pid);
+        if is_news {
+            self.watch = Watch::Due;
+        }
+        is_news
+    }
 }
 
 /// The runs that have a child. A child that was not waited for keeps its PID, so no signal can reach another process.
 #[derive(Drop)]
 pub(crate) struct Children<P: OpenProcess + Drop> {
     runs: BTreeMap<RunKey, Run<P>>,
+    /// The helper that reports exits may not know each child.
+    pub(crate) has_unsent: bool,
 }
 
 impl<P: OpenProcess + Drop> Children<P> {
     pub(crate) fn new(alloc: Global) -> Children<P> {
         Children {
             runs: BTreeMap::new(alloc),
+            has_unsent: false,
         }
     }
 
@@ -120,7 +158,14 @@ impl<P: OpenProcess + Drop> Children<P> {
             drop(kept);
             return Err(io::Error::from(ErrorKind::AlreadyExists));
         }
-        let room = self.runs.insert(key, Run { child: None, kept });
+        let watch = Watch::Unsent;
+        let run = Run {
+            child: None,
+            kept,
+            watch,
+        };
+        let room = self.runs.insert(key, run);
+        self.has_unsent = true;
         let has_room = room.is_ok();
         drop(room);
         if !has_room {
@@ -174,12 +219,12 @@ impl<P: OpenProcess + Drop> Children<P> {
         shell: &mut KeptShell<P>,
         key: RunKey,
     ) -> io::Result<()> {
-        let child = match self.child(key) {
-            Ok(child) => child,
-            Err(error) => return Err(error),
+        let Some(run) = self.runs.get_mut(&key) else {
+            return Err(io::Error::from(ErrorKind::NotFound));
         };
-        match child.try_wait() {
-            Ok(None) => shell.term(rt, child.id()),
+        let pid = run.pid().unwrap_or(0);
+        match run.ask() {
+            Ok(None) => shell.term(rt, pid),
             Ok(Some(_)) => Ok(()),
             Err(_) => Err(io::Error::other(
                 "it can't be waited for, so its PID may be another process's",
@@ -196,11 +241,12 @@ impl<P: OpenProcess + Drop> Children<P> {
     }
 
     /// The first child, from the job of this number on, that has exited or whose wait the system refuses: its job and
-    /// run. It stays until it is polled.
-    pub(crate) fn over_from(&mut self, job: JobNo) -> Option<RunKey> {
+    /// run. It stays until it is polled. If the helper that reports exits has answered, only those are asked about whose exit
+    /// it reported, and those that it does not know: then `asks_all` is false.
+    pub(crate) fn over_from(&mut self, job: JobNo, asks_all: bool) -> Option<RunKey> {
         let mut next = (job, 0);
         for _ in 0..self.runs.len() {
-            let Some(key) = key_from(&self.runs, next) else {
+            let Some(key) = self.asked_from(next, asks_all) else {
                 return None;
             };
             if !matches!(self.poll(key), Ok(None)) {
@@ -211,13 +257,77 @@ impl<P: OpenProcess + Drop> Children<P> {
         None
     }
 
+    // The first run, from this one on, of which the system is asked.
+    fn asked_from(&self, from: RunKey, asks_all: bool) -> Option<RunKey> {
+        for (key, run) in self.runs.range(from..) {
+            if is_asked(run.watch, asks_all) {
+                return Some(*key);
+            }
+        }
+        None
+    }
+
+    /// The helper reported that the job's child of this PID has exited. It says whether that is news of a child.
+    pub(crate) fn reported(&mut self, job: JobNo, pid: u32) -> bool {
+        let mut next = (job, 0);
+        for _ in 0..self.runs.len() {
+            let Some(key) = key_from(&self.runs, next) else {
+                return false;
+            };
+            if key.0 != job {
+                return false;
+            }
+            let is_news = match self.runs.get_mut(&key) {
+                Some(run) => run.report(pid),
+                None => false,
+            };
+            if is_news {
+                return true;
+            }
+            next = (job, key.1.saturating_add(1));
+        }
+        false
+    }
+
+    /// The lines that name to the helper each child that it does not know: its job and its PID.
+    pub(crate) fn unsent_lines(&self, alloc: Global) -> Result<String, AllocError> {
+        let mut lines = String::new(alloc);
+        for (key, run) in self.runs.iter() {
+            match run.pid() {
+                Some(pid) if run.watch == Watch::Unsent => put_line(&mut lines, key.0, pid)?,
+                _ => {}
+            }
+        }
+        Ok(lines)
+    }
+
+    /// The helper knows each of those from now on.
+    pub(crate) fn all_sent(&mut self) {
+        for run in self.runs.values_mut() {
+            run.watch = sent(run.watch);
+        }
+        self.has_unsent = false;
+    }
+
+    /// The helper that knew children was given up: the next one knows none.
+    pub(crate) fn none_sent(&mut self) {
+        for run in self.runs.values_mut() {
+            run.watch = unsent(run.watch);
+        }
+        self.has_unsent = true;
+    }
+
+    /// Whether no run has a child.
+    pub(crate) fn is_empty(&self) -> bool {
+        self.runs.is_empty()
+    }
+
     /// How the run's child exited, if it did. It stays until it is removed.
     pub(crate) fn poll(&mut self, key: RunKey) -> io::Result<Option<Ended>> {
-        let child = match self.child(key) {
-            Ok(child) => child,
-            Err(error) => return Err(error),
+        let Some(run) = self.runs.get_mut(&key) else {
+            return Err(io::Error::from(ErrorKind::NotFound));
         };
-        match child.try_wait() {
+        match run.ask() {
             Ok(None) => Ok(None),
             Ok(Some(status)) => Ok(Some(end_of(status))),
             Err(error) => Err(error),
@@ -228,12 +338,19 @@ impl<P: OpenProcess + Drop> Children<P> {
     pub(crate) fn remove(&mut self, key: RunKey) -> Option<Kept> {
         match self.runs.remove(&key) {
             Some(gone) => {
-                let Run { child, kept } = gone;
+                let Run { child, kept, .. } = gone;
                 drop(child);
                 Some(kept)
             }
             None => None,
         }
+    }
+}
+
+fn put_line(lines: &mut String, job: JobNo, pid: u32) -> Result<(), AllocError> {
+    match writeln!(lines, "{job} {pid}") {
+        Ok(()) => Ok(()),
+        Err(_) => Err(AllocError),
     }
 }
 

@@ -31,6 +31,9 @@ mod spool;
 mod start;
 mod streams;
 mod system;
+mod wake_file;
+mod waker;
+mod waking;
 mod words;
 
 pub use clearing::clear_spool;

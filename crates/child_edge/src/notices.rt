@@ -19,7 +19,7 @@ use std::{io, mem};
 pub enum NoticeKind {
     /// The system refused something, or a client was disconnected.
     Refusal,
-    /// A run started or exited, or was given a signal.
+    /// A run started or exited, or was given a signal; or something is as it may well be.
     Run,
 }
 
@@ -427,6 +427,15 @@ impl Notices {
                 "no helper process can be started from /proc/self/exe: a path that hangs stops the launcher";
             let line = filled(self.alloc, form, &[]);
             self.add(NoticeKind::Refusal, line);
+        }
+    }
+
+    /// No helper reports exits, for this reason. Nothing was refused that somebody asked for.
+    pub(crate) fn no_waker(&mut self, error: io::Error) {
+        if self.has_place() {
+            let form = "exits are seen within 0.1 s, as no jobd-wake reports them: $";
+            let line = filled(self.alloc, form, &[Error(error)]);
+            self.add(NoticeKind::Run, line);
         }
     }
 

@@ -15,6 +15,8 @@ use crate::reserve::{Reserve, lacks_descriptor};
 use crate::shell::KeptShell;
 use crate::sockets::Sockets;
 use crate::start::Start;
+use crate::wake_file::WakeFile;
+use crate::waker::Waker;
 use crate::{
     ChildEdge, Client, ClockEdge, Edge, EdgeFault, Notice, PathEdge, SocketEdge, clock, paths,
 };
@@ -39,6 +41,11 @@ pub struct OsEdge<R: Processes> {
     alloc: Global,
     made: Instant,
     children: Children<R::Started>,
+    // The clock was read since the helper that reports exits was asked: a round has begun.
+    is_new_round: bool,
+    waker: Waker<R::Started>,
+    // It was logged that the system starts none.
+    is_unstarted_told: bool,
     shell: KeptShell<R::Started>,
     // One is asked what is at paths and not waited for; the other is asked what starts and binds need. What hung is remembered for both.
     looks: Looks,
@@ -65,6 +72,9 @@ impl<R: Drop + Processes> Drop for OsEdge<R> {
             alloc: _,
             made: _,
             children: _,
+            is_new_round: _,
+            waker: _,
+            is_unstarted_told: _,
             shell: _,
             looks: _,
             openings: _,
@@ -102,6 +112,9 @@ impl<R: Clock + Drop + Processes> OsEdge<R> {
             alloc,
             made,
             children: Children::new(alloc),
+            is_new_round: true,
+            waker: Waker::new(alloc),
+            is_unstarted_told: false,
             shell: KeptShell::new(alloc),
             looks: Looks::new(alloc),
             openings: Openings::new(alloc),
@@ -198,20 +211,34 @@ impl<R: Processes> OsEdge<R> {
     /// The least number, this one or above it, of a job whose child has exited, or of whose child the system says
     /// nothing; and the child's run. It asks the system once about each child up to that one, and counts no failure.
     /// The child stays: `poll` says how it exited, or is refused. Takes no memory.
+    ///
+    /// With a helper that reports exits (see [`use_waker`](OsEdge::use_waker)) it asks the helper first, once after each
+    /// clock reading. If the helper answers in time, it leaves out the children that the helper knows and whose exit it did
+    /// not report. Once in ten seconds it asks about each.
     pub fn over_from(&mut self, job: JobNo) -> Option<(JobNo, u64)>
+    where
+        R: Clock,
         ensures { self.new ≡ self.old }
     {
-        if job == 0 {
+        let is_pass = job == 0;
+        if is_pass {
             self.hung.reap();
         }
-        self.children.over_from(job)
+        if is_pass | self.is_new_round {
+            self.is_new_round = false;
+            self.waker
+                .begin_round(&self.rt, self.made, &mut self.children, is_pass);
+        }
+        self.children.over_from(job, self.waker.asks_all)
     }
 
     /// Has clients that come to a job's socket wake the poll of this registry, under the token; asked again, it does so for
-    /// the sockets that were bound since. An `Err` if the poll refuses: it may be asked again.
+    /// the sockets that were bound since. An `Err` if the poll refuses: it may be asked again. The helper that reports
+    /// exits wakes the poll too, under the greatest token.
     pub fn register(&mut self, registry: &Registry, token: Token) -> io::Result<()>
         ensures { self.new ≡ self.old }
     {
+        self.waker.register(registry);
         self.sockets.register(&mut self.notices, registry, token)
     }
 
@@ -318,21 +345,60 @@ impl<R: Clock + Files<File = File> + Processes> OsEdge<R> {
     /// Sends the client of each connection what its run has written since, up to what it takes at once. It closes a
     /// connection whose run has exited and whose client has all that it wrote. It also disconnects a client that has
     /// left or has taken nothing of its reply for a minute, and logs that. It says whether one may go on at once. While
-    /// none is held it makes no call of the system.
+    /// none is held it makes no call of the system for them. In the end it names to the helper that reports exits the
+    /// children that were started since.
     pub fn forward(&mut self) -> bool
+    where
+        R: Net,
         ensures { self.new ≡ self.old }
     {
-        self.connections.forward(&self.rt, &mut self.notices)
+        let may_go_on = self.connections.forward(&self.rt, &mut self.notices);
+        self.tell_waker();
+        may_go_on
+    }
+
+    // Tells the helper of new children. The first refusal to start one is logged.
+    fn tell_waker(&mut self)
+    where
+        R: Net,
+        ensures { self.new ≡ self.old }
+    {
+        let told = self.waker.tell(&self.rt, self.made, &mut self.children);
+        if let Err(error) = told {
+            if !self.is_unstarted_told {
+                self.is_unstarted_told = true;
+                self.notices.no_waker(error);
+            }
+        }
+    }
+
+    /// From now on a helper reports exits: the program `jobd-wake`, next to the program of this process or in `../libexec`
+    /// of that. Nobody but root and this user may be able to change it. What it reports can only make the edge ask earlier. If
+    /// there is none, or the user is not known, a notice says why.
+    pub fn use_waker(&mut self, user: Option<u32>)
+    where
+        R: AllocGlobal,
+        ensures { self.new ≡ self.old }
+    {
+        let answer = match user {
+            Some(user) => WakeFile::open(&self.rt, self.alloc, user),
+            None => Err(io::Error::other("the user of this process is not known")),
+        };
+        match answer {
+            Ok(program) => self.waker.set_program(program),
+            Err(error) => self.notices.no_waker(error),
+        }
     }
 
     /// Closes each connection that is held, and removes its files from the spool. It is for the end, so that nothing is
-    /// left there of clients that took no reply. Ends the shell that is kept for TERM and the helper processes, even if
+    /// left there of clients that took no reply. Ends the shell that is kept for TERM and all helper processes, even if
     /// they were stopped. Takes no memory.
     pub fn let_all_go(&mut self)
         ensures { self.new ≡ self.old }
     {
         self.connections.close_all(&self.rt, &mut self.notices);
         self.shell.end();
+        self.waker.end();
         let up = clock::up(&self.rt, self.made);
         self.looks.let_go(&mut self.hung, up);
         self.openings.let_go(&mut self.hung, up);
@@ -537,6 +603,7 @@ impl<R: AllocGlobal + Clock + Clone + Drop + Files<File = File> + Net + Processe
 
 impl<R: Clock + Processes> ClockEdge for OsEdge<R> {
     fn read(&mut self) -> Result<Reading, EdgeFault> {
+        self.is_new_round = true;
         match clock::read(&self.rt, self.made) {
             Ok(reading) => Ok(reading),
             Err(error) => Err(self.fail(error)),

@@ -49,6 +49,7 @@ fn first_reading<R: System>(plan: &Plan, edge: &mut OsEdge<R>) -> Result<Reading
         edge.log_runs();
     }
     edge.set_limit(plan.standing.descriptors);
+    edge.use_waker(plan.standing.user);
     edge.read()
 }
 

@@ -1,0 +1,423 @@
+//! The helper that reports exits, `jobd-wake`: it gets the PID of each child, waits for the exits of all, and reports each.
+//! The launcher asks it in each pass of the loop which have exited. What it reports can only make the launcher ask the
+//! system earlier: whether a child exited is what the system then answers. Where it gives no answer, the launcher asks
+//! about each child, ends the helper, and starts another ten seconds later.
+
+ghost use Rattle.std.specs.Prelude.{◌≡◌, true, false};
+
+use crate::children::Children;
+use crate::clock;
+use crate::wake_file::{NAME, WakeFile};
+use crate::waking::{Heard, Line, asks_all, is_sweep_due};
+use mio::unix::SourceFd;
+use mio::{Interest, Registry, Token};
+use std::alloc::{AllocError, Global};
+use std::io::{ErrorKind, Read, Write};
+use std::net::Net;
+use std::os::fd::{AsRawFd, OwnedFd};
+use std::os::unix::net::UnixStream;
+use std::os::unix::process::CommandExt;
+use std::process::{Child, Command, OpenProcess, Processes, Stdio};
+use std::rt::Clock;
+use std::time::{Duration, Instant};
+use std::{io, mem};
+
+/// Under this token a report wakes the poll of the loop. No client and no socket has it.
+const REPORT: Token = Token(usize::MAX);
+
+/// How many milliseconds an answer may take.
+const PATIENCE: u64 = 2;
+
+/// How many milliseconds a helper that was started may take for its first answer. Nobody waits for that one.
+const FIRST: u64 = 1_000;
+
+/// After how many milliseconds a helper is started again.
+const PEACE: u64 = 10_000;
+
+/// How many reads an answer may take, and how many bytes each takes at most: more than a helper has to report.
+const READS: usize = 64;
+
+const ROOM: usize = 4_096;
+
+/// How many reports that say nothing new a helper may give between two passes that ask about all children. One that gives
+/// more is given up: it would keep the loop awake.
+const STRAYS: u32 = 1_024;
+
+/// A helper, the launcher's end of its socket, and whether that is registered with the loop's poll; whether it has
+/// answered, and the `up` at which it was started.
+#[derive(Drop)]
+struct Helper<P: OpenProcess + Drop> {
+    child: Child<P>,
+    socket: UnixStream,
+    is_known: bool,
+    is_ready: bool,
+    since: u64,
+}
+
+/// What became of a question.
+#[derive(Clone, Copy, PartialEq, Eq)]
+enum Asked {
+    /// All that had exited were reported.
+    Answered,
+    /// The helper was just started, and nobody waits for its first answer.
+    Awaited,
+    /// No answer came in time.
+    Silent,
+}
+
+#[derive(Drop)]
+pub(crate) struct Waker<P: OpenProcess + Drop> {
+    alloc: Global,
+    program: Option<WakeFile>,
+    helper: Option<Helper<P>>,
+    // It was given up and killed, and not yet waited for. There is no other meanwhile.
+    given_up: Option<Child<P>>,
+    // The `up` from which on one may be started.
+    again: u64,
+    line: Line,
+    strays: u32,
+    // The `up` at which the last pass began that asks about all, and whether this is one.
+    swept: u64,
+    is_sweep: bool,
+    // Whether this round asks about each child.
+    pub(crate) asks_all: bool,
+}
+
+impl<P: OpenProcess + Drop> Waker<P> {
+    /// There is none, and each pass of the loop asks about each child.
+    pub(crate) fn new(alloc: Global) -> Waker<P>
+        ensures { result.asks_all ≡ true }
+    {
+        Waker {
+            alloc,
+            program: None,
+            helper: None,
+            given_up: None,
+            again: 0,
+            line: Line::new(),
+            strays: 0,
+            swept: 0,
+            is_sweep: true,
+            asks_all: true,
+        }
+    }
+
+    /// From now on helpers are started by this program.
+    pub(crate) fn set_program(&mut self, program: WakeFile) {
+        drop(mem::replace(&mut self.program, Some(program)));
+    }
+
+    /// A pass of the loop begins, or a pass over all children. It asks the helper which children have exited. If all were
+    /// asked ten seconds ago, or if the helper gives no answer, this pass asks about each.
+    pub(crate) fn begin_round<R: Clock>(
+        &mut self,
+        rt: &R,
+        made: Instant,
+        children: &mut Children<P>,
+        is_pass: bool,
+    ) {
+        if self.helper.is_none() || children.is_empty() {
+            self.asks_all = true;
+            return;
+        }
+        let up = clock::up(rt, made);
+        if is_pass {
+            self.is_sweep = is_sweep_due(up, self.swept);
+        }
+        if is_pass && self.is_sweep {
+            self.swept = up;
+            self.strays = 0;
+        }
+        let asked = self.ask(rt, made, up, children);
+        self.asks_all = asks_all(self.is_sweep, asked == Asked::Answered);
+        if asked == Asked::Silent {
+            self.give_up(up, children);
+        }
+    }
+
+    // Asks the helper. A first answer is one to an earlier question: by it the helper is known to be ready.
+    fn ask<R: Clock>(
+        &mut self,
+        rt: &R,
+        made: Instant,
+        up: u64,
+        children: &mut Children<P>,
+    ) -> Asked {
+        let Some(helper) = &mut self.helper else {
+            return Asked::Silent;
+        };
+        let (is_ready, since) = (helper.is_ready, helper.since);
+        if is_ready && !is_sent(&mut helper.socket, b"\n".as_slice()) {
+            return Asked::Silent;
+        }
+        match self.answer(rt, made, up, children) {
+            Some(true) if is_ready => Asked::Answered,
+            Some(true) if self.is_made_ready() => Asked::Awaited,
+            None if !is_ready && up.saturating_sub(since) < FIRST => Asked::Awaited,
+            _ => Asked::Silent,
+        }
+    }
+
+    // From the first answer on the launcher waits for each, 2 milliseconds at most.
+    fn is_made_ready(&mut self) -> bool {
+        match &mut self.helper {
+            Some(helper) => {
+                helper.is_ready = true;
+                helper.socket.set_nonblocking(false).is_ok()
+            }
+            None => false,
+        }
+    }
+
+    // Whether what comes is an answer. None: it did not come in time.
+    fn answer<R: Clock>(
+        &mut self,
+        rt: &R,
+        made: Instant,
+        up: u64,
+        children: &mut Children<P>,
+    ) -> Option<bool> {
+        let Some(helper) = &mut self.helper else {
+            return None;
+        };
+        for _ in 0..READS {
+            let mut room = [0u8; ROOM];
+            let count = match helper.socket.read(&mut room) {
+                Ok(count) => count,
+                Err(error) if error.kind() == ErrorKind::WouldBlock => return None,
+                Err(_) => return Some(false),
+            };
+            let strays = &mut self.strays;
+            let answer = take_in(&mut self.line, &room[..count], strays, children);
+            if answer.is_some() {
+                return answer;
+            }
+            if clock::up(rt, made).saturating_sub(up) >= PATIENCE {
+                return None;
+            }
+        }
+        None
+    }
+
+    /// Names to the helper the children that it does not know. If there is none, it is started first: not before ten
+    /// seconds have passed since the last one was given up. An `Err` is the system's reason why none was started.
+    pub(crate) fn tell<R: Clock + Net + Processes<Started = P>>(
+        &mut self,
+        rt: &R,
+        made: Instant,
+        children: &mut Children<P>,
+    ) -> io::Result<()> {
+        if !children.has_unsent {
+            return Ok(());
+        }
+        let begun = self.begin(rt, made);
+        let Some(helper) = &mut self.helper else {
+            return begun;
+        };
+        let Ok(lines) = children.unsent_lines(self.alloc) else {
+            return Ok(());
+        };
+        let is_told = is_sent(&mut helper.socket, lines.as_bytes());
+        drop(lines);
+        if is_told {
+            children.all_sent();
+        } else {
+            self.give_up(clock::up(rt, made), children);
+        }
+        Ok(())
+    }
+
+    // Starts a helper, if there is none, there may be one, and it is time.
+    fn begin<R: Clock + Net + Processes<Started = P>>(
+        &mut self,
+        rt: &R,
+        made: Instant,
+    ) -> io::Result<()> {
+        let Some(program) = &self.program else {
+            return Ok(());
+        };
+        if self.helper.is_some() {
+            return Ok(());
+        }
+        let up = clock::up(rt, made);
+        if up < self.again || !is_gone(&mut self.given_up) {
+            return Ok(());
+        }
+        self.again = up.saturating_add(PEACE);
+        self.line = Line::new();
+        self.strays = 0;
+        match start(rt, self.alloc, program.path(), up) {
+            Ok(helper) => {
+                drop(mem::replace(&mut self.helper, Some(helper)));
+                Ok(())
+            }
+            Err(error) => Err(error),
+        }
+    }
+
+    /// Has reports wake this poll. Where the poll refuses, it is asked again in the next pass.
+    pub(crate) fn register(&mut self, registry: &Registry) {
+        let Some(helper) = &mut self.helper else {
+            return;
+        };
+        if helper.is_known {
+            return;
+        }
+        let number = helper.socket.as_raw_fd();
+        let mut source = SourceFd(&number);
+        helper.is_known = registry
+            .register(&mut source, REPORT, Interest::READABLE)
+            .is_ok();
+    }
+
+    // Ends the helper, also one that was stopped. The next one is told of all children.
+    fn give_up(&mut self, up: u64, children: &mut Children<P>) {
+        self.end();
+        self.again = up.saturating_add(PEACE);
+        children.none_sent();
+    }
+
+    /// Ends the helper, if there is one, and does not wait for that.
+    pub(crate) fn end(&mut self) {
+        if let Some(helper) = self.helper.take() {
+            let Helper {
+                mut child,
+                socket,
+                ..
+            } = helper;
+            let _ = child.kill();
+            drop(socket);
+            drop(mem::replace(&mut self.given_up, Some(child)));
+        }
+    }
+}
+
+// Takes in what came: true if the answer did, false if no helper writes it or nothing came, none if more is to come.
+fn take_in<P: OpenProcess + Drop>(
+    line: &mut Line,
+    bytes: &[u8],
+    strays: &mut u32,
+    children: &mut Children<P>,
+) -> Option<bool> {
+    let mut answer = if bytes.is_empty() { Some(false) } else { None };
+    for byte in bytes {
+        let is_right = match line.take(*byte) {
+            Heard::Part => true,
+            Heard::Exit { job, pid } => is_news(children, strays, job, pid),
+            Heard::Answer => answer.replace(true).is_none(),
+            Heard::Wrong => false,
+        };
+        if !is_right {
+            return Some(false);
+        }
+    }
+    answer
+}
+
+// Whether a report is news, or not yet one of too many that are none.
+fn is_news<P: OpenProcess + Drop>(
+    children: &mut Children<P>,
+    strays: &mut u32,
+    job: u32,
+    pid: u32,
+) -> bool {
+    if !children.reported(job, pid) {
+        *strays = strays.saturating_add(1);
+    }
+    *strays <= STRAYS
+}
+
+// Whether all of it was taken in time.
+fn is_sent(socket: &mut UnixStream, bytes: &[u8]) -> bool {
+    match socket.write(bytes) {
+        Ok(count) => count == bytes.len(),
+        Err(_) => false,
+    }
+}
+
+// Whether no helper is left that was given up. It does not wait for that.
+fn is_gone<P: OpenProcess + Drop>(given_up: &mut Option<Child<P>>) -> bool {
+    let is_gone = match given_up {
+        Some(child) => !matches!(child.try_wait(), Ok(None)),
+        None => true,
+    };
+    if is_gone {
+        drop(given_up.take());
+    }
+    is_gone
+}
+
+// A helper with nothing of the launcher but its own end of a socket. No other child gets the launcher's end.
+fn start<R: Net + Processes>(
+    rt: &R,
+    alloc: Global,
+    path: &str,
+    since: u64,
+) -> io::Result<Helper<R::Started>> {
+    let (mut socket, far) = match UnixStream::pair(rt) {
+        Ok(pair) => pair,
+        Err(error) => return Err(error),
+    };
+    let patience = Some(Duration::from_millis(PATIENCE));
+    let reads = socket.set_read_timeout(patience);
+    let writes = socket.set_write_timeout(patience);
+    let answer = match reads.and(writes).and(socket.set_nonblocking(true)) {
+        Ok(()) if is_sent(&mut socket, b"\n".as_slice()) => start_at(rt, alloc, path, far),
+        Ok(()) => {
+            drop(far);
+            Err(io::Error::from(ErrorKind::BrokenPipe))
+        }
+        Err(error) => {
+            drop(far);
+            Err(error)
+        }
+    };
+    match answer {
+        Ok(child) => Ok(Helper {
+            child,
+            socket,
+            is_known: false,
+            is_ready: false,
+            since,
+        }),
+        Err(error) => {
+            drop(socket);
+            Err(error)
+        }
+    }
+}
+
+// The far end is its input.
+fn start_at<R: Processes>(
+    rt: &R,
+    alloc: Global,
+    path: &str,
+    far: UnixStream,
+) -> io::Result<Child<R::Started>> {
+    let input = Stdio::from(OwnedFd::from(far));
+    match command_of(alloc, path, input) {
+        Ok(command) => {
+            let mut command = command;
+            let child = command.spawn(rt);
+            drop(command);
+            child
+        }
+        Err(error) => Err(io::Error::from(error)),
+    }
+}
+
+fn command_of(alloc: Global, path: &str, input: Stdio) -> Result<Command, AllocError> {
+    let mut command = Command::new(alloc, path)?;
+    command.env_clear();
+    command.stdin(input);
+    command.stdout(Stdio::null());
+    command.stderr(Stdio::null());
+    let is_named = command.arg0(NAME).is_ok();
+    let is_placed = command.current_dir("/").is_ok();
+    if is_named && is_placed {
+        Ok(command)
+    } else {
+        drop(command);
+        Err(AllocError)
+    }
+}

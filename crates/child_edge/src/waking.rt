@@ -1,0 +1,148 @@
+//! Which children a pass of the loop asks the system about, with a helper that reports their exits; and what the helper
+//! writes.
+
+ghost use Rattle.std.specs.Prelude.{◌≡◌, ◌+◌, ◌≤◌, ◌↔◌, true, false, IsTrue};
+ghost use Rattle.child_edge.specs.Waking.{is_asked_in, asks_all_in, sent_in, unsent_in};
+
+/// After how many milliseconds all children are asked again, whatever the helper reports.
+const SWEEP: u64 = 10_000;
+
+/// What the helper knows of a child.
+#[derive(Clone, Copy, PartialEq, Eq)]
+pub(crate) enum Watch {
+    /// The child is not known to it.
+    Unsent,
+    /// The child is known to it, and it reported no exit.
+    Sent,
+    /// It reported the exit; or the child has exited, or the system refused to wait for it.
+    Due,
+}
+
+/// Whether a pass asks the system about a child. All are asked if `asks_all` says so. Only a child that the helper
+/// knows, and whose exit it did not report, is ever left out.
+pub(crate) fn is_asked(watch: Watch, asks_all: bool) -> bool
+    ensures exact { result ≡ is_asked_in asks_all watch }
+    ensures left_out { result ≡ false → (asks_all ≡ false) × (watch ≡ Watch.Sent) }
+{
+    match watch {
+        Watch::Sent => asks_all,
+        Watch::Unsent | Watch::Due => true,
+    }
+}
+
+/// What the helper knows of a child, once it knows all children.
+pub(crate) fn sent(watch: Watch) -> Watch
+    ensures { result ≡ sent_in watch }
+{
+    match watch {
+        Watch::Unsent => Watch::Sent,
+        other => other,
+    }
+}
+
+/// What the next helper knows of a child. No child is left out for what the last one knew.
+pub(crate) fn unsent(watch: Watch) -> Watch
+    ensures exact { result ≡ unsent_in watch }
+    ensures asked { is_asked_in false result ≡ true }
+{
+    match watch {
+        Watch::Sent => Watch::Unsent,
+        other => other,
+    }
+}
+
+/// Whether a pass that begins now asks about all children: the helper gave no answer, or this pass is one of those that
+/// ask about all.
+pub(crate) fn asks_all(is_sweep: bool, is_answered: bool) -> bool
+    ensures exact { result ≡ asks_all_in is_sweep is_answered }
+    ensures helped { result ≡ false → is_answered ≡ true }
+{
+    is_sweep || !is_answered
+}
+
+/// Whether it is time to ask about all children again, who were all asked at `swept`.
+pub(crate) fn is_sweep_due(up: u64, swept: u64) -> bool
+    ensures { IsTrue result ↔ (swept + 10_000 ≤ up) }
+{
+    up.saturating_sub(swept) >= SWEEP
+}
+
+/// What part of a line comes next from the helper.
+#[derive(Clone, Copy, PartialEq, Eq)]
+enum Field {
+    Start,
+    Job,
+    Pid,
+}
+
+/// What a byte of the helper's ends.
+#[derive(Clone, Copy, PartialEq, Eq)]
+pub(crate) enum Heard {
+    /// The line goes on.
+    Part,
+    /// The child of the job that has this PID has exited.
+    Exit { job: u32, pid: u32 },
+    /// The answer: all that have exited were reported.
+    Answer,
+    /// No helper writes this.
+    Wrong,
+}
+
+/// The line that comes in part.
+#[derive(Clone, Copy)]
+pub(crate) struct Line {
+    field: Field,
+    job: u32,
+    pid: u32,
+}
+
+impl Line {
+    pub(crate) fn new() -> Line {
+        Line {
+            field: Field::Start,
+            job: 0,
+            pid: 0,
+        }
+    }
+
+    /// Takes one byte more. A line is a job's number, a blank and a PID; an empty one is the answer.
+    pub(crate) fn take(&mut self, byte: u8) -> Heard {
+        match (byte, self.field) {
+            (b'\n', Field::Start) => Heard::Answer,
+            (b'\n', Field::Pid) => {
+                let Line { job, pid, .. } = *self;
+                *self = Line::new();
+                Heard::Exit { job, pid }
+            }
+            (b' ', Field::Job) => {
+                self.field = Field::Pid;
+                Heard::Part
+            }
+            (b'0'..=b'9', _) => self.digit(u32::from(byte.wrapping_sub(b'0'))),
+            _ => Heard::Wrong,
+        }
+    }
+
+    fn digit(&mut self, digit: u32) -> Heard {
+        let number = if self.field == Field::Pid {
+            self.pid
+        } else {
+            self.job
+        };
+        let Some(longer) = longer_by(number, digit) else {
+            return Heard::Wrong;
+        };
+        if self.field == Field::Pid {
+            self.pid = longer;
+        } else {
+            self.field = Field::Job;
+            self.job = longer;
+        }
+        Heard::Part
+    }
+}
+
+// The number with one digit more, if a `u32` holds it.
+fn longer_by(number: u32, digit: u32) -> Option<u32> {
+    number.checked_mul(10)?.checked_add(digit)
+}
