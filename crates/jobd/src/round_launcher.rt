@@ -291,6 +291,7 @@ impl<T: SettingStore, E: ChildEdge + SocketEdge + PathEdge, W: Write> PathHost
 }
 
 impl<T: SettingStore, E: RoundEdge, W: Write> LoopHost for RoundLauncher<T, E, W> {
+    ghost use Rattle.jobd.specs.Ended.{SaysState};
     ghost use Rattle.jobd.specs.Launches.{AsksEdge, Begins, PollsFrom, ComesIn, TakesClient};
 
     ghost Begun = { Begins E.told T.told T.holds T.stamped };
@@ -302,6 +303,8 @@ impl<T: SettingStore, E: RoundEdge, W: Write> LoopHost for RoundLauncher<T, E, W
     ghost Taken = { TakesClient E.told E.Accepts };
 
     ghost Came = { ComesIn E.told T.told T.holds T.stamped E.Holds };
+
+    ghost Says = { λ round has_ended next. SaysState round.host.table round.is_refused has_ended next };
 
     ghost rises = { λ first job old new polled. E.rises first job polled.0 old.host.edge polled.1 polled.3 };
 

@@ -1,6 +1,6 @@
 -- What a part of a pass leaves as it was: with which job's child the next pass begins, and what the path checks
 -- remember.
-use Rattle.std.specs.Prelude.{◌≡◌}
+use Rattle.std.specs.Prelude.{◌≡◌, ℕ, Option}
 use Rattle.job_clients.specs.Callers.{coming_in}
 use Rattle.live_loop.specs.declared.job_sockets.JobSockets.{JobSockets}
 use Rattle.live_loop.specs.declared.live.Live.{Live}
@@ -32,3 +32,7 @@ left_in live = record {
   later = later_in live.rooms.sights;
   known = known_in live.rooms.sights;
 }
+
+-- the `up` of the pass that first found that no job is left after a shutdown
+abbrev pub ended_in : {H : Type 0} → Live H → Option ℕ
+ended_in live = live.ended_at

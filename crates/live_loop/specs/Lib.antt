@@ -1,5 +1,6 @@
 pub mod Children
 pub mod Counting
+pub mod Ending
 pub mod Kept
 pub mod Looks
 pub mod Rounds

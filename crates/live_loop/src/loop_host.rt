@@ -1,7 +1,7 @@
 //! A launcher as its live loop sees it: what a pass asks of it and of its edge, and what it delivers. The loop does not
 //! know the table, the store and the journal of the launcher.
 
-ghost use Rattle.std.specs.Prelude.{◌≡◌, ◌≤◌, ℕ, List, Option, Some, IfNone, OnSome};
+ghost use Rattle.std.specs.Prelude.{◌≡◌, ◌≤◌, ℕ, Bool, List, Option, Some, IfNone, OnSome};
 ghost use Rattle.std.specs.Option.{option_map};
 ghost use Rattle.live_loop.specs.Looks.{PathCall, BeginsLooks, HasLoaded, AsksAt, Awaits, LookedAt, Sighted};
 
@@ -96,6 +96,9 @@ pub trait LoopHost: PathHost + Answers {
     /// That a client was taken which waited at the sockets of this job may have led from the one to the other.
     ghost Taken: { ℕ → Self → Self → Type 0 };
 
+    /// The launcher says of its state whether it has ended, and the next time at which time alone may make an order due.
+    ghost Says: { Self → Bool → Option ℕ → Type 0 };
+
     /// A client came, under this number, of this job, with this request. That it was delivered may have led from the
     /// one to the other.
     ghost Came: { ℕ → ℕ → List ℕ → HandedIn → Self → Self → Type 0 };
@@ -110,7 +113,8 @@ pub trait LoopHost: PathHost + Answers {
         ensures { Self.Asked self.old self.new };
 
     /// Its state now.
-    fn standing(&self) -> Standing;
+    fn standing(&self) -> Standing
+        ensures { Self.Says self.now result.has_ended result.next_moment };
 
     /// Asks about the child of this job, or of the next above it, whose run is over. It delivers how the run exited, or
     /// that the wait was refused. It gives the number of that job; none if no run is over.

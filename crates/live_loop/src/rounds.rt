@@ -1,9 +1,10 @@
 //! The passes of the live loop: what each does, one after the other.
 
-ghost use Rattle.std.specs.Prelude.{◌≡◌, ◌≤◌, OnOk};
+ghost use Rattle.std.specs.Prelude.{◌≡◌, ◌≤◌, OnOk, IfOk};
 ghost use Rattle.control_socket.specs.Serving.{Serves};
 ghost use Rattle.live_loop.specs.Rounds.{Asks, IsRound, ServesAll};
-ghost use Rattle.live_loop.specs.Kept.{IsKeptBy, IsLookKeptBy, desk_in, left_in};
+ghost use Rattle.live_loop.specs.Ending.{Ends};
+ghost use Rattle.live_loop.specs.Kept.{IsKeptBy, IsLookKeptBy, desk_in, ended_in, left_in};
 
 use crate::children::poll_children;
 use crate::fault::ServeFault;
@@ -49,7 +50,9 @@ pub fn round<R: System, H: LoopHost>(
     alloc: Global,
     live: &mut Live<H>,
 ) -> Result<bool, ServeFault>
-    ensures { OnOk result (IsRound (record {
+    ensures ends { IfOk result (λ is_last. Ends H.Says live.new.host (H.round_up live.new.host)
+        (ended_in live.old) (ended_in live.new) is_last) }
+    ensures passes { OnOk result (IsRound (record {
       round_up = H.round_up;
       IsNext = H.IsNext;
       Did = H.Did;
@@ -112,6 +115,7 @@ pub fn serve<L: Wait, R: System, H: LoopHost + Drop>(
 fn wait<R: System, H: LoopHost>(rt: &R, live: &mut Live<H>) -> Result<(), ServeFault>
     ensures asks { Asks H.Asked live.old.host live.new.host }
     ensures kept { IsKeptBy live.old live.new }
+    ensures ended { live.new.ended_at ≡ live.old.ended_at }
 {
     let mut wait = next_wait(live);
     if live.quick > 0 && wait > 0 {
@@ -136,6 +140,7 @@ fn next_wait<H: LoopHost>(live: &mut Live<H>) -> u64
     ensures within { result ≤ 100 }
     ensures asks { Asks H.Asked live.old.host live.new.host }
     ensures kept { IsKeptBy live.old live.new }
+    ensures ended { live.new.ended_at ≡ live.old.ended_at }
 {
     if live.is_busy {
         return 0;
@@ -150,6 +155,7 @@ fn serve_clients<R: System, H: LoopHost>(rt: &R, alloc: Global, live: &mut Live<
     ensures serves { ServesAll H.Answered H.Asked H.Taken H.Came
         (desk_in live.old.rooms.sockets) (desk_in live.new.rooms.sockets) live.old.host live.new.host }
     ensures kept { IsLookKeptBy live.old live.new }
+    ensures ended { live.new.ended_at ≡ live.old.ended_at }
 {
     let was_asking = serve_control(rt, alloc, live);
     let mut time = RoundTime::begin(rt, live.host.up());
@@ -185,6 +191,7 @@ fn serve_again<R: System, H: LoopHost>(
 ) -> bool
     ensures serves { Serves H.Answered live.old.host live.new.host }
     ensures kept { IsKeptBy live.old live.new }
+    ensures ended { live.new.ended_at ≡ live.old.ended_at }
 {
     if had_time {
         was_asking
@@ -197,6 +204,7 @@ fn serve_again<R: System, H: LoopHost>(
 fn serve_control<R: System, H: LoopHost>(rt: &R, alloc: Global, live: &mut Live<H>) -> bool
     ensures serves { Serves H.Answered live.old.host live.new.host }
     ensures kept { IsKeptBy live.old live.new }
+    ensures ended { live.new.ended_at ≡ live.old.ended_at }
 {
     live.control.accept(rt, live.poll.registry());
     let mut time = RoundTime::begin(rt, live.host.up());
@@ -208,6 +216,7 @@ fn serve_control<R: System, H: LoopHost>(rt: &R, alloc: Global, live: &mut Live<
 fn ends<H: LoopHost>(live: &mut Live<H>) -> bool
     ensures host { live.new.host ≡ live.old.host }
     ensures kept { IsKeptBy live.old live.new }
+    ensures ends { Ends H.Says live.old.host (H.round_up live.old.host) live.old.ended_at live.new.ended_at result }
 {
     let standing = live.host.standing();
     let is_active = standing.is_active || live.rooms.sockets.is_stirred || live.quick > 0;

@@ -19,6 +19,7 @@ const LINES: usize = 256;
 pub(crate) fn tell<R: Eprint, H: LoopHost>(rt: &R, alloc: Global, live: &mut Live<H>)
     ensures asks { Asks H.Asked live.old.host live.new.host }
     ensures kept { IsKeptBy live.old live.new }
+    ensures ended { live.new.ended_at ≡ live.old.ended_at }
 {
     live.rooms.voice.begin();
     if !live.rooms.voice.go_on(rt) {
@@ -39,6 +40,7 @@ pub(crate) fn tell<R: Eprint, H: LoopHost>(rt: &R, alloc: Global, live: &mut Liv
 fn next_notice<H: LoopHost>(alloc: Global, live: &mut Live<H>) -> Option<Notice>
     ensures asks { Asks H.Asked live.old.host live.new.host }
     ensures kept { IsKeptBy live.old live.new }
+    ensures ended { live.new.ended_at ≡ live.old.ended_at }
 {
     if let Some(notice) = live.untold.take() {
         return Some(notice);
@@ -53,6 +55,7 @@ fn next_notice<H: LoopHost>(alloc: Global, live: &mut Live<H>) -> Option<Notice>
 fn next_refusal<H: LoopHost>(alloc: Global, live: &mut Live<H>) -> Option<Notice>
     ensures host { live.new.host ≡ live.old.host }
     ensures kept { IsKeptBy live.old live.new }
+    ensures ended { live.new.ended_at ≡ live.old.ended_at }
 {
     let text = if live.has_journal_closed {
         let text = Text::copy_of(alloc, "journal refused").ok()?;
