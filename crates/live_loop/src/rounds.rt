@@ -176,6 +176,7 @@ fn serve_clients<R: System, H: LoopHost>(rt: &R, alloc: Global, live: &mut Live<
 fn forward<H: LoopHost>(live: &mut Live<H>) -> bool
     ensures asks { Asks H.Asked live.old.host live.new.host }
     ensures kept { IsKeptBy live.old live.new }
+    ensures ended { live.new.ended_at ≡ live.old.ended_at }
 {
     live.has_journal_closed = live.has_journal_closed | live.host.report_journal_closing();
     live.host.forward()
