@@ -123,9 +123,16 @@ impl Keeper {
         ensures { result ≡ true → IsStatusText table.now self.new.text.bytes.items }
     {
         self.notes.see_all(table);
-        if !self.is_due {
-            return false;
+        if self.is_due {
+            self.write_text(table, at)
+        } else {
+            false
         }
+    }
+
+    fn write_text(&mut self, table: &JobTable, at: Reading) -> bool
+        ensures { result ≡ true → IsStatusText table.now self.new.text.bytes.items }
+    {
         let jobs = job_count(table);
         self.has_told = self.has_told || jobs > 0;
         self.text.clear();

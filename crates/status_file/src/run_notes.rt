@@ -249,7 +249,7 @@ fn note_of<'a>(facts: RunFacts<'a>, definition: Option<&'a str>) -> JobNote<'a> 
         since: facts.since,
         run: facts.run,
         starts: facts.starts,
-        failures: facts.failures.saturating_add(facts.refusals),
+        unsuccessful: facts.failures.saturating_add(facts.refusals),
         refusals: facts.refusals,
         started: facts.started,
         term: facts.term,
