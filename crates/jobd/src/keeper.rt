@@ -43,7 +43,7 @@ pub struct Keeper {
     has_journal: bool,
     is_closed: bool,
     has_refused: bool,
-    // Whether the file has told of a loaded job, and whether its text is asked for. Else the table is only seen.
+    // Whether the file has had a job, and whether its text is due. If it is not, the table is only looked at.
     has_told: bool,
     is_due: bool,
     pub(crate) notes: RunNotes,
@@ -82,7 +82,7 @@ impl Keeper {
         is_new
     }
 
-    /// A client's line was answered: with a refusal, or well. What the store refused last is told until a later setting is stored.
+    /// A client's line was answered: with a refusal, or well. What the store refused last is in the file until a later setting is stored.
     pub(crate) fn replied(&mut self, line: &[u8], refusal: Option<Refusal>) {
         if refusal == Some(Refusal::StoreRefused) {
             self.has_refused = true;
@@ -91,7 +91,7 @@ impl Keeper {
         }
     }
 
-    /// Whether the first jobs were loaded, and the file has told of none so far. Then it is not left as it is for a second.
+    /// Whether the first jobs were loaded, and the file had none so far. Then it is written at once.
     pub(crate) fn is_urgent(&self) -> bool {
         !self.has_told && self.notes.has_unseen()
     }
@@ -123,9 +123,16 @@ impl Keeper {
         ensures { result ≡ true → IsStatusText table.now self.new.text.bytes.items }
     {
         self.notes.see_all(table);
-        if !self.is_due {
-            return false;
+        if self.is_due {
+            self.write_text(table, at)
+        } else {
+            false
         }
+    }
+
+    fn write_text(&mut self, table: &JobTable, at: Reading) -> bool
+        ensures { result ≡ true → IsStatusText table.now self.new.text.bytes.items }
+    {
         let jobs = job_count(table);
         self.has_told = self.has_told || jobs > 0;
         self.text.clear();

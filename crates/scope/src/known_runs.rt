@@ -46,8 +46,8 @@ pub(crate) struct KnownRuns<'a> {
 }
 
 impl<'a> KnownRuns<'a> {
-    /// By what a journal says: what is recorded of the load, since when its child is running, whether TERM or KILL was ordered for its last run, and
-    /// whether the wait for its present one was refused.
+    /// By what a journal says: what is recorded of the load, and since when its child is running. `is_ordered`: TERM or KILL was ordered for its last
+    /// run. `is_lost`: the wait for its present one was refused.
     pub(crate) fn recorded(
         facts: RunFacts<'a>,
         began: Option<Reading>,

@@ -210,7 +210,7 @@ loaded_tokens by definition =
 abbrev pub front_tokens : JobStatus → List Token
 front_tokens j =
     name_tokens j.label.now (state_by_reasons j.facts.reasons)
-    ++ (counts_tokens (child_pid j.facts.reasons.child) j.note.run j.note.starts j.note.failures j.note.refusals
+    ++ (counts_tokens (child_pid j.facts.reasons.child) j.note.run j.note.starts j.note.unsuccessful j.note.refusals
     j.facts.reasons.wants.connections
     ++ loaded_tokens j.disabled j.note.definition)
 

@@ -59,8 +59,8 @@ fn last_load<'a>(loads: &'a [Load], label: &str) -> Option<&'a str> {
 /// How many loads are kept until their jobs are seen.
 const LOADS: usize = 1_024;
 
-/// What is known of all loaded jobs, a recorder for each load. The number of a job is another's once the job is removed, so the recorder of a load is
-/// dropped with the job, and its first start never goes to the recorder of another load. Want of memory leaves a job out.
+/// What is known of all loaded jobs, a recorder for each load. The number of a job is another's once the job is removed, so its recorder is dropped with
+/// it. The first start of a load never goes to the recorder of another load. Want of memory leaves a job out.
 #[derive(Drop)]
 pub struct RunNotes {
     alloc: Global,
@@ -259,7 +259,7 @@ fn note_of<'a>(
         since: facts.since,
         run: facts.run,
         starts: facts.starts,
-        failures: facts.failures.saturating_add(facts.refusals),
+        unsuccessful: facts.failures.saturating_add(facts.refusals),
         refusals: facts.refusals,
         started: facts.started,
         term: facts.term,

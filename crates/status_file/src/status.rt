@@ -57,8 +57,8 @@ pub struct JobNote<'a> {
     pub run: u64,
     /// How many starts were ordered, refused ones too.
     pub starts: u64,
-    /// How many starts were refused, and how many runs did not exit with code 0, together.
-    pub failures: u64,
+    /// How many starts were refused, and how many runs did not exit with code 0, together: the file's `failures`.
+    pub unsuccessful: u64,
     /// How many starts were refused.
     pub refusals: u64,
     /// When its last start was ordered, also if it was refused.

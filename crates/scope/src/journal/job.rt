@@ -90,7 +90,7 @@ impl KeptJob {
     }
 }
 
-/// What is kept of a job: what became of the runs of its last load, as `run_log` records it, and what `jobscope` tells besides.
+/// What is kept of a job: what became of the runs of its last load, as `run_log` records it, and what `jobscope` reports of it too.
 #[derive(Drop)]
 pub(crate) struct Record {
     /// The number by which runs name it.

@@ -214,7 +214,7 @@ fn add_gone(page: &mut Page<'_>, job: &JobStatus<'_>) {
 
 // How the last run ended, how many starts there were, and that the last one was refused, with what the system said.
 fn add_past(page: &mut Page<'_>, note: &JobNote<'_>, runs: &KnownRuns<'_>) {
-    add_last_end(page, runs, note.failures, "failed");
+    add_last_end(page, runs, note.unsuccessful, "failed");
     let Some(start) = &runs.refused else {
         return;
     };
