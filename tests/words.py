@@ -78,7 +78,6 @@ SPECIFIED = re.compile(r"'(?:moments?|rounds?|demands?|struck|lives|(?:is|are|ha
 
 # Texts that are not sentences for a user: where they are, what is not looked at there, and why it is as it is.
 FIXED = [
-    ("moment_words/src/reading.rt", r"^HH:MM, .*", "it is mended with the next proof of its crate"),
     ("job_defs/src/load_text.rt", r"not acted on:", "a reply of the protocol"),
     ("loaded_jobs/src/texts.rt", r"\\tdemand = ", "a line of the reply to print, which the protocol fixes"),
     ("trials/src/little_memory/replaying.rt", r"\\tdemand = ", "a line of the reply to print"),

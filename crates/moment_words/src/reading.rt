@@ -10,7 +10,7 @@ use history_model::{CivilMinute, MAX_WALL};
 
 /// What is wanted where a text names no moment.
 pub const WANTED: &str =
-    "HH:MM, HH:MM:SS, today, yesterday or YYYY-MM-DD (also with a time behind it), a span before now as -90s, -15m, -2h, -3d or -1w, or a second of Unix time up to 250000000000";
+    "HH:MM, HH:MM:SS, a date (today, yesterday, YYYY-MM-DD), a date and a time, a span before now (-90s, -15m, -2h, -3d, -1w), or a second of Unix time up to 250000000000";
 
 /// The moment that the text names; None if it names none.
 pub fn read_moment(text: &str) -> Option<Moment>
