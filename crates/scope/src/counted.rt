@@ -1,5 +1,5 @@
-//! What the journals of a launcher say of the runs of its jobs, and those of the launchers before it: `metrics` counts them, so that its counts go on
-//! over a restart.
+//! What the journals of a launcher, and of those before it, say of the runs of its jobs. `metrics` counts them, so that its counts go on over a
+//! restart.
 
 ghost use Rattle.std.specs.Prelude.{IfOk};
 ghost use Rattle.scope.specs.Journals.{HearsLine};
@@ -18,8 +18,8 @@ use status_file::JournalStatus;
 use status_page::{RunCount, RunCounts, Standing};
 use std::alloc::{AllocError, Global};
 
-/// How many bytes the journals may have that are read, together: as many are read in about a second.
-const MOST_BYTES: u64 = 134_217_728;
+/// How many bytes the journals may have that are read, together: `metrics` is asked for each few seconds.
+const MOST_BYTES: u64 = 33_554_432;
 
 /// How lines begin that count nothing. Most lines of a journal are such lines, and are not read.
 const UNCOUNTED: [&[u8]; 4] = [

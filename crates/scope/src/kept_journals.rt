@@ -67,7 +67,7 @@ pub(crate) fn length_at(host: &HostRuntime, path: &str) -> Option<u64> {
     }
 }
 
-/// The first clock reading of the journal at the path. None: it is no plain file, can't be read, or is no journal.
+/// The first clock reading of the journal at the path. None: it is not a plain file, can't be read, or is not a journal.
 pub(crate) fn begin_at(
     host: &HostRuntime,
     alloc: Global,

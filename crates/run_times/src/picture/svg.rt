@@ -84,7 +84,7 @@ const TICK_TEXT: &str =
     r#"<text class="faint" x="$0" y="$2" text-anchor="$1">$3</text><text class="faint" x="$0" y="$4" text-anchor="$1">$5</text>
 "#;
 
-/// What a label is, how high it stands, and itself, cut if it is too wide and whole in its title, and the line on which the bars are.
+/// A label: its classes, its height, and itself, cut if it is too wide and whole in its title, and the line on which the bars are.
 const TOP: &str =
     r#"<g><text class="$" x="10" y="$">$$<title>$</title></text><path class="base" d="M10 $h980"/>
 "#;
