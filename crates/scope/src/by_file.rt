@@ -6,6 +6,7 @@ use crate::journal::source::{NONE_NAMED, finds_journal, stands_in};
 use crate::left::left_running;
 use crate::objects::status::status_objects;
 use crate::objects::why::standing_objects;
+use crate::subcommands::Statuses;
 use crate::texts::standing::{failed_in, failing_in, standing_text};
 use crate::texts::standing_next::standing_lines;
 use crate::texts::starts::ComingLines;
@@ -104,13 +105,13 @@ pub(crate) fn tell_by_file(
     alloc: Global,
     of: &ScopeCommand,
     path: &str,
-) -> io::Result<u8> {
+) -> io::Result<Statuses> {
     let second = match of.from {
         Some(second) => Some(second),
         None => now(host),
     };
     let Some(second) = second else {
-        return Ok(BAD_CLOCK);
+        return Ok(Statuses::only(BAD_CLOCK));
     };
     match read_standing(host, alloc, path, of.words.as_slice()) {
         Ok(standing) => {
@@ -118,7 +119,7 @@ pub(crate) fn tell_by_file(
             drop(standing);
             told
         }
-        Err(trouble) => tell_trouble(host, path, trouble),
+        Err(trouble) => Ok(Statuses::only(tell_trouble(host, path, trouble)?)),
     }
 }
 
@@ -129,7 +130,7 @@ fn tell(
     path: &str,
     standing: &Standing,
     second: u64,
-) -> io::Result<u8> {
+) -> io::Result<Statuses> {
     let labels = of.words.as_slice();
     let status = match of.task {
         Task::Why if of.is_json => {
@@ -180,7 +181,10 @@ fn tell(
         Task::Why if !of.is_json => put_failed(host, alloc, of, standing)?,
         _ => {}
     }
-    Ok(unknown.max(status))
+    Ok(Statuses {
+        before: status,
+        last: unknown,
+    })
 }
 
 // Where the errors of the jobs went whose last run failed.
