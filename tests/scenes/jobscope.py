@@ -545,7 +545,27 @@ def zones_that_are_none(stage):
         check(replay.returncode == 2 and not replay.stdout, f"a replay with {zone} ended with {replay.returncode}, {replay.stdout!r}")
 
 
+def zone_file_named(name):
+    """The bytes of a zone file (RFC 9636) of a clock that is three hours ahead of UTC, and has this name."""
+    block = b"TZif2" + bytes(15) + (0).to_bytes(16, "big") + (1).to_bytes(4, "big") + (len(name) + 1).to_bytes(4, "big")
+    block += (10800).to_bytes(4, "big") + bytes(2) + name + b"\0"
+    return block + block + b"\n\n"
+
+
+def a_zone_whose_name_ends_a_text(stage):
+    """Times in JSON stay JSON, and the same, whatever a zone file calls its clock."""
+    make(stage.at("a.json"), '{"Label":"a","Program":"/bin/true","StartCalendarInterval":{"Minute":5}}')
+    for name in (b"XST", b'a"b', b"a\\", b"a\nb", b"\x1b[31m", b'","start":"'):
+        with open(stage.at("zone"), "wb") as file:
+            file.write(zone_file_named(name))
+        words = ["next", "--json", "--zone-file", stage.at("zone"), "--from", "1764500000", "-n", "1", stage.at("a.json")]
+        run = subprocess.run([*stage.given.jobscope, *words], capture_output=True, timeout=patience(), text=True)
+        wanted = '{"label":"a","start":"2025-11-30T14:05:00+03:00","start_seconds":1764500700,"left_ms":700000}\n'
+        check(run.returncode == 0 and run.stdout == wanted, f"{name} got {run.returncode} {run.stdout!r} {run.stderr!r}")
+
+
 SCENES = [
+    a_zone_whose_name_ends_a_text,
     the_first_journal_is_told,
     jobscope_check,
     jobscope_corpus,

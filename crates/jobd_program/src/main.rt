@@ -8,7 +8,7 @@ use apply_folder::jobctl_apply;
 use control_client::jobctl;
 use files_and_process::own_process::{Programs, run_by_name};
 use jobd::jobd;
-use scope::jobscope;
+use scope::{HostSubcommands, jobscope};
 use std::process::ExitCode;
 use std::sync::Wait;
 
@@ -28,7 +28,12 @@ impl Programs for OneFile {
     }
 
     fn jobscope<L: Wait>(&self, host: &HostRuntime, waits: &L, words: &[String]) -> u8 {
-        jobscope(host, waits, host.alloc(), words)
+        let subcommands = HostSubcommands {
+            host,
+            waits,
+            alloc: host.alloc(),
+        };
+        jobscope(host, &subcommands, words)
     }
 
     fn look_out(&self, host: &HostRuntime) -> u8 {

@@ -1,9 +1,12 @@
 -- An object of JSON (RFC 8259) as it is within a line.
-use Rattle.std.specs.Prelude.{◌≡◌, ℕ, Bool, true, false, List, [], ◌∷◌, ◌++◌, ◌||◌, ◌==◌, ◌+◌, ◌/◌, ◌%◌, if◌then◌else◌, nat_lt, codes, chars, encode_utf8}
+use Rattle.std.specs.Prelude.{◌≡◌, ℕ, Bool, true, false, List, [], ◌∷◌, ◌++◌, ◌||◌, ◌==◌, ◌+◌, ◌/◌, ◌%◌, if◌then◌else◌, nat_lt, min, codes, chars, encode_utf8}
 use Rattle.std.specs.Borrow.{Bor}
 use Rattle.std.specs.Fmt.{decimal}
 use Rattle.std.specs.List.{flat_map}
+use Rattle.history_model.specs.declared.CivilMinute.{CivilMinute}
+use Rattle.history_model.specs.declared.TheConstants.{MAX_WALL}
 use Rattle.plain_text.specs.Plain.{is_hidden}
+use Rattle.run_times.specs.ClockTexts.{IsClockText}
 use Rattle.run_times.specs.declared.ink.Ink.{Ink}
 use Rattle.run_times.specs.Written.{Adds}
 use Rattle.json_lines.specs.declared.Field.{Field}
@@ -39,7 +42,11 @@ flag_text false = codes "false"
 abbrev pub front_of : List ℕ → List ℕ → List ℕ
 front_of key text = codes ",\"" ++ (key ++ (codes "\":" ++ text))
 
--- a key with its value. For a time the key has some text, and the key with `_seconds` its second.
+-- the text of a second, of at most 250,000,000,000: what some clock shows then
+abbrev pub IsShown : ℕ → List ℕ → Type 0
+IsShown second text = (at : CivilMinute) × IsClockText at (min second MAX_WALL) text
+
+-- A key with its value. For a time the key has what a clock shows then, and the key with `_seconds` its second.
 abbrev pub IsMember : List ℕ → Value → List ℕ → Type 0
 IsMember key Absent text = text ≡ []
 IsMember key (Flag flag) text = text ≡ front_of key (flag_text flag)
@@ -47,7 +54,7 @@ IsMember key (Number number) text = text ≡ codes ",\"" ++ (key ++ ([] ++ (code
 IsMember key (Text told) text = text ≡ front_of key [] ++ quoted told.now
 IsMember key (Json told) text = text ≡ front_of key told.now
 IsMember key (Moment second) text =
-    (shown : List ℕ) × (text ≡ front_of key (codes "\"") ++ (shown ++ (codes "\""
+    (shown : List ℕ) × IsShown second shown × (text ≡ front_of key (codes "\"") ++ (shown ++ (codes "\""
     ++ (codes ",\"" ++ (key ++ (codes "_seconds" ++ (codes "\":" ++ decimal second)))))))
 
 -- it follows what was written before

@@ -5,12 +5,12 @@
 ghost use Rattle.std.specs.Prelude.{◌++◌, chars, codes, encode_utf8};
 ghost use Rattle.std.specs.Fmt.{decimal};
 ghost use Rattle.std.specs.List.{flat_map};
-ghost use Rattle.run_times.specs.Written.{Adds, Grows};
+ghost use Rattle.run_times.specs.Written.{Adds};
 ghost use Rattle.json_lines.specs.Objects.{escape, hex_digit, json_char, more_text, quoted, text_char, texts_list, TellsLine, TellsMember, TellsMembers, TellsObject};
 
 use history_model::MAX_WALL;
 use plain_text::is_hidden;
-use run_times::{Ink, Page, Piece, time_text};
+use run_times::{Ink, Page, Piece, put_clock};
 
 /// The value at a key.
 #[derive(Clone, Copy)]
@@ -78,7 +78,7 @@ fn put_member(page: &mut Page<'_>, key: &'static str, value: Value<'_>)
         }
         Value::Moment(second) => {
             put_value(&mut page.ink, key, "\"");
-            put_shown(page, second);
+            put_clock(&mut page.ink, page.zone, second.min(MAX_WALL));
             page.ink.put("\"");
             put_number(&mut page.ink, key, "_seconds", second);
         }
@@ -158,27 +158,6 @@ fn put_digit(ink: &mut Ink, number: u32)
     } else {
         b'W' + digit
     }));
-}
-
-// The second as RFC 3339 writes it, by the clock of the page's zone.
-fn put_shown(page: &mut Page<'_>, second: u64)
-    ensures { Grows page.old.ink page.new.ink }
-{
-    match time_text(page.alloc, page.zone, second.min(MAX_WALL)) {
-        Ok(text) => {
-            let shown = text.as_str();
-            page.ink.put_all(&[
-                Piece::Text(shown.get(..10).unwrap_or("")),
-                Piece::Text("T"),
-                Piece::Text(shown.get(15..23).unwrap_or("")),
-                Piece::Text(shown.get(24..27).unwrap_or("")),
-                Piece::Text(":"),
-                Piece::Text(shown.get(27..29).unwrap_or("")),
-            ]);
-            drop(text);
-        }
-        Err(_) => page.ink.refuse(),
-    }
 }
 
 /// Adds JSON of others, whose texts may have hidden characters: each of these is escaped. JSON on one line stays so, and means the same.

@@ -13,6 +13,6 @@ pub mod telling;
 
 pub use escape::escaped;
 pub use ink::{Ink, Piece};
-pub use moment::{time_text, utc};
+pub use moment::{put_clock, time_text, utc};
 pub use next::{coming_second, needs_event, next_run};
 pub use page::{Filling, Page};

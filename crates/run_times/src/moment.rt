@@ -1,6 +1,10 @@
 //! A second of Unix time as a clock shows it.
 
-ghost use Rattle.std.specs.Prelude.{◌≤◌};
+ghost use Rattle.std.specs.Prelude.{◌≡◌, ◌≤◌, true};
+ghost use Rattle.std.specs.List.{list_all};
+ghost use Rattle.calendar_due.specs.ZoneRules.{minute_at};
+ghost use Rattle.run_times.specs.ClockTexts.{TellsClock, date_text, hour_text, is_clock_char, offset_text};
+ghost use Rattle.run_times.specs.Written.{Adds};
 
 use crate::ink::Ink;
 use crate::ink::Piece::{Number, Text, TwoDigits};
@@ -46,9 +50,63 @@ pub fn time_text(alloc: Global, zone: &Zone, second: u64) -> Result<String, Allo
     ink.into_text()
 }
 
+/// Adds the second as RFC 3339 writes it, by the clock of the zone: `2026-11-29T03:30:00+01:00`. It is digits and signs alone, without the name of
+/// the zone. Seconds of an offset are dropped. The caller's condition: at most 250,000,000,000 seconds.
+#[tactic(auto, using(crate::proofs::ClockLemmas::tells_clock))]
+pub fn put_clock(ink: &mut Ink, zone: &Zone, second: u64)
+    requires { second ≤ MAX_WALL }
+    ensures { TellsClock (minute_at zone.now second) second ink.old ink.new }
+{
+    let at = zone.civil_minute(second);
+    let (sign, offset) = offset_of(&at, second);
+    put_date(ink, &at);
+    put_hour(ink, &at, second);
+    put_offset(ink, sign, offset);
+}
+
+fn put_date(ink: &mut Ink, at: &CivilMinute)
+    ensures { Adds (date_text at.now) ink.old ink.new }
+{
+    let year = u64::from(at.year.unsigned_abs());
+    ink.put_all(&[
+        TwoDigits(year / 100),
+        TwoDigits(year % 100),
+        Text("-"),
+        TwoDigits(u64::from(at.month)),
+        Text("-"),
+        TwoDigits(u64::from(at.day)),
+    ]);
+}
+
+fn put_hour(ink: &mut Ink, at: &CivilMinute, second: u64)
+    ensures { Adds (hour_text at.now second) ink.old ink.new }
+{
+    ink.put_all(&[
+        Text("T"),
+        TwoDigits(u64::from(at.hour)),
+        Text(":"),
+        TwoDigits(u64::from(at.minute)),
+        Text(":"),
+        TwoDigits(second % 60),
+    ]);
+}
+
+fn put_offset(ink: &mut Ink, sign: &str, minutes: u64)
+    ensures { Adds (offset_text sign.now minutes) ink.old ink.new }
+{
+    ink.put_all(&[
+        Text(sign),
+        TwoDigits(minutes / 60),
+        Text(":"),
+        TwoDigits(minutes % 60),
+    ]);
+}
+
 // How far the minute that is shown at the second is from that of UTC: earlier or later, and by how many minutes. Both are counted from the
 // beginning of the second last day before that of UTC. An offset is less than two days, so the weekdays give it; UTC's first was a Thursday.
-fn offset_of(at: &CivilMinute, second: u64) -> (&'static str, u64) {
+fn offset_of(at: &CivilMinute, second: u64) -> (&'static str, u64)
+    ensures { list_all is_clock_char result.0.now ≡ true }
+{
     let utc_days = ((second / 86_400) % 7) as u32;
     let days = (u32::from(at.weekday) + 12 - utc_days) % 7;
     let shown = days * DAY + u32::from(at.hour) * 60 + u32::from(at.minute);

@@ -9,6 +9,7 @@ use crate::left::left_running;
 use crate::objects::status::status_objects;
 use crate::objects::why::standing_objects;
 use crate::settings::settings_of;
+use crate::subcommands::Statuses;
 use crate::texts::standing::{failed_in, failing_in, standing_text};
 use crate::texts::standing_next::standing_lines;
 use crate::texts::starts::ComingLines;
@@ -107,13 +108,13 @@ pub(crate) fn tell_by_file(
     alloc: Global,
     of: &ScopeCommand,
     path: &str,
-) -> io::Result<u8> {
+) -> io::Result<Statuses> {
     let second = match of.from {
         Some(second) => Some(second),
         None => now(host),
     };
     let Some(second) = second else {
-        return Ok(BAD_CLOCK);
+        return Ok(Statuses::only(BAD_CLOCK));
     };
     match read_standing(host, alloc, path, of.words.as_slice()) {
         Ok(standing) => {
@@ -121,7 +122,7 @@ pub(crate) fn tell_by_file(
             drop(standing);
             told
         }
-        Err(trouble) => tell_trouble(host, path, trouble),
+        Err(trouble) => Ok(Statuses::only(tell_trouble(host, path, trouble)?)),
     }
 }
 
@@ -132,7 +133,7 @@ fn tell(
     path: &str,
     standing: &Standing,
     second: u64,
-) -> io::Result<u8> {
+) -> io::Result<Statuses> {
     let labels = of.words.as_slice();
     let status = match of.task {
         Task::Why if of.is_json => {
@@ -201,7 +202,10 @@ fn tell(
         Task::Why if !of.is_json => put_failed(host, alloc, of, path, standing)?,
         _ => {}
     }
-    Ok(unknown.max(status))
+    Ok(Statuses {
+        before: status,
+        last: unknown,
+    })
 }
 
 fn lent(counts: &Option<RunCounts>) -> Option<&RunCounts> {

@@ -1,37 +1,28 @@
-//! One run of the program: which subcommand runs, and what ends it.
+//! One run of the program: which subcommand runs, and the exit status that follows from what it ended with.
 
-use crate::by_file::{clash_of, file_asked, tell_by_file};
-use crate::clock::now;
-use crate::ended::{check_ended, cron_ended, next_ended, plist_ended};
-use crate::report::report;
-use crate::zone::{Named, zone_of};
-use ctl_protocol::LINE_LIMIT;
-use definition_files::cron::{HostLines, lines_of, surroundings_of};
-use definition_files::{Asked, HostFiles};
-use exit_status::{BAD_CLOCK, BAD_FILE, USAGE};
-use files_and_process::path_files::files_at;
-use history_model::{MAX_WALL, Text};
-use launchctl_words::{
-    Meaning, ScopeCommand, Task, WordFault, ZoneWords, explain_scope, read_scope_words,
-};
-use run_times::telling::{put, tell_end, want_memory};
-use std::alloc::Global;
+ghost use Rattle.std.specs.Prelude.{◌≡◌};
+ghost use Rattle.scope.specs.ExitStatus.{IsExit, Runs, RunsBySource, greatest_status};
+
+use crate::subcommands::Part::Journals;
+use crate::subcommands::{Statuses, Subcommands, part_of};
+use exit_status::USAGE;
+use launchctl_words::{Meaning, ScopeCommand, WordFault};
+use run_times::telling::{tell_end, want_memory};
 use std::io;
-use std::sync::Wait;
-
-/// How many starts are shown if the arguments do not say it.
-const COUNT: u64 = 10;
 
 /// Does what the arguments ask, and returns the exit status. The first argument is the program's own name. What is asked for goes to the standard
 /// output; a fault is one line on the standard error.
 ///
 /// The exit status is 64 for invalid arguments, 65 for a file, 71 for the clock and 74 for the standard output. It is 1 for want of memory, or of a
-/// check that found faults. If the standard output's reader has closed it, nothing is reported and the status is 141. Both `host` and `waits` are the
-/// runtime of `main`: only what takes it as `waits` may wait.
-pub fn jobscope<W: Wait>(host: &HostRuntime, waits: &W, alloc: Global, words: &[String]) -> u8 {
-    let ended = match read_scope_words(alloc, words) {
+/// check that found faults. If the standard output's reader has closed it, nothing is reported and the status is 141. It is the greatest of the
+/// statuses with which the parts of the subcommand ended that the arguments mean.
+pub fn jobscope<P: Subcommands>(host: &HostRuntime, parts: &P, words: &[String]) -> u8
+    ensures { IsExit (P.Means parts.now) (P.Explains parts.now) (Runs (P.Names parts.now)
+        (P.Tells parts.now) (P.Ends parts.now)) words.now result }
+{
+    let ended = match parts.meaning(words) {
         Ok(Meaning::Command(command)) => {
-            let ended = run(host, waits, alloc, &command);
+            let ended = run(parts, &command);
             drop(command);
             ended
         }
@@ -40,7 +31,7 @@ pub fn jobscope<W: Wait>(host: &HostRuntime, waits: &W, alloc: Global, words: &[
             drop(text);
             Ok(USAGE)
         }
-        Err(WordFault::Usage) => explain(host, alloc, words),
+        Err(WordFault::Usage) => parts.explain(words),
         Err(WordFault::NoMemory) => return want_memory(host),
     };
     match ended {
@@ -53,155 +44,38 @@ fn tell_wrong(host: &HostRuntime, text: &str) {
     let _written = eprint!(host; "{text}");
 }
 
-fn run<W: Wait>(
-    host: &HostRuntime,
-    waits: &W,
-    alloc: Global,
-    command: &ScopeCommand,
-) -> io::Result<u8> {
-    let clash = match clash_of(command) {
-        Some(text) => Some(text),
-        None => clash_of_next(command),
+// Runs the part that the command asks for.
+fn run<P: Subcommands>(parts: &P, command: &ScopeCommand) -> io::Result<u8>
+    ensures { Runs (P.Names parts.now) (P.Tells parts.now) (P.Ends parts.now) command.now result }
+{
+    let has_words = !command.words.as_slice().is_empty();
+    let ended = match part_of(command.task, has_words) {
+        Some(part) => parts.part(part, command),
+        None => by_source(parts, command),
     };
-    if let Some(text) = clash {
-        tell_wrong(host, text);
-        return Ok(USAGE);
-    }
-    match command.task {
-        Task::Next if !command.words.as_slice().is_empty() => by_zone(host, alloc, command),
-        Task::Check => by_zone(host, alloc, command),
-        Task::Cron => by_lines(host, alloc, command),
-        Task::Plist => of_lists(host, alloc, command),
-        _ => match file_asked(host, command)? {
-            Some(path) => {
-                let told = tell_by_file(host, alloc, command, path.as_str());
-                drop(path);
-                told
-            }
-            None => report(host, waits, alloc, command),
-        },
-    }
+    greatest_of(ended)
 }
 
-// The error in the arguments of `next`, if there is one: an option for definitions without a definition, or one for loaded jobs with a definition.
-fn clash_of_next(of: &ScopeCommand) -> Option<&'static str> {
-    match of.task {
-        Task::Next => {}
-        _ => return None,
-    }
-    let names_zone = match of.zone {
-        ZoneWords::Default => false,
-        _ => true,
-    };
-    let is_of_loaded = of.is_all || of.status_file.is_some() || !of.journals.as_slice().is_empty();
-    match (of.words.as_slice().is_empty(), names_zone, is_of_loaded) {
-        (true, true, _) => Some("jobscope: next: --zone and --zone-file need a PATH\n"),
-        (false, _, true) => Some(
-            "jobscope: next: --journal, --status-file and --all can't be given with a PATH\n",
-        ),
-        _ => None,
-    }
-}
-
-// Makes the definitions from the lines in the arguments; the single argument `-` means the lines of standard input.
-fn by_lines(host: &HostRuntime, alloc: Global, of: &ScopeCommand) -> io::Result<u8> {
-    match of.words.as_slice() {
-        [only] if only.as_str() == "-" => match lines_of(host, alloc)? {
-            Some(lines) => {
-                let made = of_lines(host, alloc, of, lines.as_slice());
-                drop(lines);
-                made
-            }
-            None => Ok(BAD_FILE),
-        },
-        lines => of_lines(host, alloc, of, lines),
-    }
-}
-
-fn of_lines(
-    host: &HostRuntime,
-    alloc: Global,
-    of: &ScopeCommand,
-    lines: &[Text],
-) -> io::Result<u8> {
-    let around = surroundings_of(host, alloc, of.has_user, named(&of.folders.logs))?;
-    let mut keeper = HostLines {
-        host,
-        into: named(&of.folders.into),
-    };
-    let ended = cron_ended(host, alloc, &mut keeper, lines, &around);
-    drop(around);
-    ended
-}
-
-fn named(folder: &Option<Text>) -> Option<&str> {
-    match folder {
-        Some(folder) => Some(folder.as_str()),
-        None => None,
-    }
-}
-
-// The property lists that the arguments name, as JSON.
-fn of_lists(host: &HostRuntime, alloc: Global, of: &ScopeCommand) -> io::Result<u8> {
-    let mut source = HostFiles { host };
-    let paths = of.words.as_slice();
-    let into = named(&of.folders.into);
-    plist_ended(host, alloc, &mut source, paths, LINE_LIMIT, into)
-}
-
-// Reports on definitions in the zone of the arguments, as of their second, or of now.
-fn by_zone(host: &HostRuntime, alloc: Global, of: &ScopeCommand) -> io::Result<u8> {
-    let Some(named) = zone_of(host, alloc, &of.zone, of.is_utc)? else {
-        return Ok(BAD_FILE);
-    };
-    let second = match of.from {
-        Some(second) => Some(second.min(MAX_WALL)),
-        None => now(host),
-    };
-    let ended = match second {
-        Some(second) => ended_by(host, alloc, of, &named, second),
-        None => Ok(BAD_CLOCK),
-    };
-    drop(named);
-    ended
-}
-
-fn ended_by(
-    host: &HostRuntime,
-    alloc: Global,
-    of: &ScopeCommand,
-    named: &Named,
-    from: u64,
-) -> io::Result<u8> {
-    let asked = Asked {
-        longest: LINE_LIMIT,
-        zone: &named.zone,
-        zone_line: named.line,
-        from,
-        is_json: of.is_json,
-    };
-    let files = files_at(host, of.words.as_slice())?;
-    let mut source = HostFiles { host };
-    let listed = files.as_slice();
-    let ended = match of.task {
-        Task::Check => check_ended(host, alloc, &mut source, listed, &asked, of.is_strict),
-        _ => {
-            let count = of.count.unwrap_or(COUNT);
-            next_ended(host, alloc, &mut source, listed, &asked, count)
+// Tells of the file, if one is named, and else of the journals.
+fn by_source<P: Subcommands>(parts: &P, command: &ScopeCommand) -> io::Result<Statuses>
+    ensures { RunsBySource (P.Names parts.now) (P.Tells parts.now) (P.Ends parts.now) command.now result }
+{
+    match parts.file_named(command) {
+        Ok(Some(path)) => {
+            let told = parts.by_file(command, path.as_str());
+            drop(path);
+            told
         }
-    };
-    drop(files);
-    ended
+        Ok(None) => parts.part(Journals, command),
+        Err(error) => Err(error),
+    }
 }
 
-// The help goes to the standard output, and what is wrong with the arguments to the standard error.
-fn explain(host: &HostRuntime, alloc: Global, words: &[String]) -> io::Result<u8> {
-    let explanation = explain_scope(alloc, words)?;
-    let text = explanation.text.as_str();
-    if explanation.is_help {
-        put(host, text)?;
-        return Ok(0);
+fn greatest_of(ended: io::Result<Statuses>) -> io::Result<u8>
+    ensures { result ≡ greatest_status ended }
+{
+    match ended {
+        Ok(statuses) => Ok(statuses.last.max(statuses.before)),
+        Err(error) => Err(error),
     }
-    tell_wrong(host, text);
-    Ok(USAGE)
 }

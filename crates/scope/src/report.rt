@@ -20,6 +20,7 @@ use crate::log::follow;
 use crate::objects::runs::runs_objects;
 use crate::objects::why::why_objects;
 use crate::page::coming_of;
+use crate::subcommands::Statuses;
 use crate::texts::failing::{failed_runs, failing_text};
 use crate::texts::log::is_named;
 use crate::texts::next::{AskedStarts, next_lines};
@@ -62,10 +63,10 @@ pub(crate) fn report<W: Wait>(
     waits: &W,
     alloc: Global,
     of: &ScopeCommand,
-) -> io::Result<u8> {
+) -> io::Result<Statuses> {
     let window = match window_of(host, of) {
         Ok(window) => window,
-        Err(status) => return Ok(status),
+        Err(status) => return Ok(Statuses::only(status)),
     };
     let paths = journal_paths(host, of)?;
     let mut lines = JournalLines::new(alloc);
@@ -93,17 +94,17 @@ fn report_on<W: Wait>(
     paths: &[Text],
     lines: &mut JournalLines,
     listener: &mut JournalListener<'_>,
-) -> io::Result<u8> {
+) -> io::Result<Statuses> {
     let paths = up_to_moment(host, alloc, paths, listener);
     let [before @ .., last] = paths else {
-        return if host.stdin().is_terminal() {
+        return Ok(Statuses::only(if host.stdin().is_terminal() {
             tell_of(host, INPUT, &NOT_NAMED);
-            Ok(BAD_FILE)
+            BAD_FILE
         } else {
-            report_by(host, alloc, None, lines, listener)
-        };
+            report_by(host, alloc, None, lines, listener)?
+        }));
     };
-    let status = read_before(host, alloc, before, listener)?;
+    let before = read_before(host, alloc, before, listener)?;
     let path = last.as_str();
     let told = if listener.of.follows {
         follow(host, waits, alloc, path, lines, listener)
@@ -111,7 +112,7 @@ fn report_on<W: Wait>(
         report_by(host, alloc, Some(path), lines, listener)
     };
     match told {
-        Ok(told) => Ok(told.max(status)),
+        Ok(last) => Ok(Statuses { before, last }),
         Err(error) => Err(error),
     }
 }

@@ -22,16 +22,16 @@ returns-in-Moment c =
     let key = c.args.key.now in
     let a = c.args.page.now.ink in
     let b = c.put_value-in-Moment.new.ink in
-    let d = c.put_shown.new.page.ink in
+    let d = c.put_clock.new.ink in
     let e = c.put.new.self in
     let f = c.put_number-in-Moment.new.ink in
     let front = front_of key (codes "\"") in
     let number = codes ",\"" ++ (key ++ (codes "_seconds" ++ (codes "\":" ++ decimal c.in-Moment.second))) in
-    let (shown, grown) = c.put_shown.ensures in
+    let (shown, is, grown) = c.put_clock.ensures in
     let quote : Adds (codes "\"") d e = adds (codes "\"") d e c.put.ensures.added c.put.ensures.kept in
     subst (λ value. TellsMember key value a f) (sym c.in-Moment.is) (
       front ++ (shown ++ (codes "\"" ++ number)),
-      (shown, refl),
+      (shown, (_, is), refl),
       adds_on front (shown ++ (codes "\"" ++ number)) a b f c.put_value-in-Moment.ensures
           (adds_on shown (codes "\"" ++ number) b d f grown (adds_on (codes "\"") number d e f quote c.put_number-in-Moment.ensures)),
     )

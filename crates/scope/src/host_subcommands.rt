@@ -1,0 +1,220 @@
+//! The subcommands over the files, the streams and the clock of the system.
+
+use crate::by_file::{clash_of, file_asked, tell_by_file};
+use crate::clock::now;
+use crate::ended::{check_ended, cron_ended, next_ended, plist_ended};
+use crate::report::report;
+use crate::subcommands::{Part, Statuses, Subcommands};
+use crate::zone::{Named, zone_of};
+use ctl_protocol::LINE_LIMIT;
+use definition_files::cron::{HostLines, lines_of, surroundings_of};
+use definition_files::{Asked, HostFiles};
+use exit_status::{BAD_CLOCK, BAD_FILE, USAGE};
+use files_and_process::path_files::files_at;
+use history_model::{MAX_WALL, Text};
+use launchctl_words::{
+    Meaning, ScopeCommand, Task, WordFault, ZoneWords, explain_scope, read_scope_words,
+};
+use run_times::telling::put;
+use std::alloc::Global;
+use std::io;
+use std::sync::Wait;
+
+/// How many starts are shown if the arguments do not say it.
+const COUNT: u64 = 10;
+
+/// The subcommands of this process. Both `host` and `waits` are the runtime of `main`: only what takes it as `waits` may wait. Nothing is said of
+/// what the system gives them, so nothing of what they end with.
+pub struct HostSubcommands<'a, W> {
+    pub host: &'a HostRuntime,
+    pub waits: &'a W,
+    pub alloc: Global,
+}
+
+impl<W: Wait> Subcommands for HostSubcommands<'_, W> {
+    ghost Means = { λ _ _ _. Unit {0} };
+
+    ghost Explains = { λ _ _ _. Unit {0} };
+
+    ghost Names = { λ _ _ _. Unit {0} };
+
+    ghost Tells = { λ _ _ _ _. Unit {0} };
+
+    ghost Ends = { λ _ _ _ _. Unit {0} };
+
+    fn meaning(&self, words: &[String]) -> Result<Meaning, WordFault> {
+        match read_scope_words(self.alloc, words) {
+            Ok(Meaning::Command(command)) => unless_clash(self.alloc, command),
+            other => other,
+        }
+    }
+
+    fn explain(&self, words: &[String]) -> io::Result<u8> {
+        explain(self.host, self.alloc, words)
+    }
+
+    fn file_named(&self, command: &ScopeCommand) -> io::Result<Option<String>> {
+        file_asked(self.host, command)
+    }
+
+    fn by_file(&self, command: &ScopeCommand, path: &str) -> io::Result<Statuses> {
+        tell_by_file(self.host, self.alloc, command, path)
+    }
+
+    fn part(&self, part: Part, command: &ScopeCommand) -> io::Result<Statuses> {
+        let (host, alloc) = (self.host, self.alloc);
+        match part {
+            Part::Definitions => alone(by_zone(host, alloc, command)),
+            Part::Crontab => alone(by_lines(host, alloc, command)),
+            Part::Lists => alone(of_lists(host, alloc, command)),
+            Part::Journals => report(host, self.waits, alloc, command),
+        }
+    }
+}
+
+// One status, as those of a part that has no other.
+fn alone(ended: io::Result<u8>) -> io::Result<Statuses> {
+    match ended {
+        Ok(status) => Ok(Statuses::only(status)),
+        Err(error) => Err(error),
+    }
+}
+
+// The command, or the text that says which of its options can't stand together.
+fn unless_clash(alloc: Global, command: ScopeCommand) -> Result<Meaning, WordFault> {
+    let clash = match clash_of(&command) {
+        Some(text) => Some(text),
+        None => clash_of_next(&command),
+    };
+    let Some(text) = clash else {
+        return Ok(Meaning::Command(command));
+    };
+    drop(command);
+    match String::from_str(alloc, text) {
+        Ok(text) => Ok(Meaning::Wrong(text)),
+        Err(_) => Err(WordFault::NoMemory),
+    }
+}
+
+// The error in the arguments of `next`, if there is one: an option for definitions without a definition, or one for loaded jobs with a definition.
+fn clash_of_next(of: &ScopeCommand) -> Option<&'static str> {
+    match of.task {
+        Task::Next => {}
+        _ => return None,
+    }
+    let names_zone = match of.zone {
+        ZoneWords::Default => false,
+        _ => true,
+    };
+    let is_of_loaded = of.is_all || of.status_file.is_some() || !of.journals.as_slice().is_empty();
+    match (of.words.as_slice().is_empty(), names_zone, is_of_loaded) {
+        (true, true, _) => Some("jobscope: next: --zone and --zone-file need a PATH\n"),
+        (false, _, true) => Some(
+            "jobscope: next: --journal, --status-file and --all can't be given with a PATH\n",
+        ),
+        _ => None,
+    }
+}
+
+// Makes the definitions from the lines in the arguments; the single argument `-` means the lines of standard input.
+fn by_lines(host: &HostRuntime, alloc: Global, of: &ScopeCommand) -> io::Result<u8> {
+    match of.words.as_slice() {
+        [only] if only.as_str() == "-" => match lines_of(host, alloc)? {
+            Some(lines) => {
+                let made = of_lines(host, alloc, of, lines.as_slice());
+                drop(lines);
+                made
+            }
+            None => Ok(BAD_FILE),
+        },
+        lines => of_lines(host, alloc, of, lines),
+    }
+}
+
+fn of_lines(
+    host: &HostRuntime,
+    alloc: Global,
+    of: &ScopeCommand,
+    lines: &[Text],
+) -> io::Result<u8> {
+    let around = surroundings_of(host, alloc, of.has_user, named(&of.folders.logs))?;
+    let mut keeper = HostLines {
+        host,
+        into: named(&of.folders.into),
+    };
+    let ended = cron_ended(host, alloc, &mut keeper, lines, &around);
+    drop(around);
+    ended
+}
+
+fn named(folder: &Option<Text>) -> Option<&str> {
+    match folder {
+        Some(folder) => Some(folder.as_str()),
+        None => None,
+    }
+}
+
+// The property lists that the arguments name, as JSON.
+fn of_lists(host: &HostRuntime, alloc: Global, of: &ScopeCommand) -> io::Result<u8> {
+    let mut source = HostFiles { host };
+    let paths = of.words.as_slice();
+    let into = named(&of.folders.into);
+    plist_ended(host, alloc, &mut source, paths, LINE_LIMIT, into)
+}
+
+// Reports on definitions in the zone of the arguments, as of their second, or of now.
+fn by_zone(host: &HostRuntime, alloc: Global, of: &ScopeCommand) -> io::Result<u8> {
+    let Some(named) = zone_of(host, alloc, &of.zone, of.is_utc)? else {
+        return Ok(BAD_FILE);
+    };
+    let second = match of.from {
+        Some(second) => Some(second.min(MAX_WALL)),
+        None => now(host),
+    };
+    let ended = match second {
+        Some(second) => ended_by(host, alloc, of, &named, second),
+        None => Ok(BAD_CLOCK),
+    };
+    drop(named);
+    ended
+}
+
+fn ended_by(
+    host: &HostRuntime,
+    alloc: Global,
+    of: &ScopeCommand,
+    named: &Named,
+    from: u64,
+) -> io::Result<u8> {
+    let asked = Asked {
+        longest: LINE_LIMIT,
+        zone: &named.zone,
+        zone_line: named.line,
+        from,
+        is_json: of.is_json,
+    };
+    let files = files_at(host, of.words.as_slice())?;
+    let mut source = HostFiles { host };
+    let listed = files.as_slice();
+    let ended = match of.task {
+        Task::Check => check_ended(host, alloc, &mut source, listed, &asked, of.is_strict),
+        _ => {
+            let count = of.count.unwrap_or(COUNT);
+            next_ended(host, alloc, &mut source, listed, &asked, count)
+        }
+    };
+    drop(files);
+    ended
+}
+
+// The help goes to the standard output, and what is wrong with the arguments to the standard error.
+fn explain(host: &HostRuntime, alloc: Global, words: &[String]) -> io::Result<u8> {
+    let explanation = explain_scope(alloc, words)?;
+    let text = explanation.text.as_str();
+    if explanation.is_help {
+        put(host, text)?;
+        return Ok(0);
+    }
+    let _written = eprint!(host; "{text}");
+    Ok(USAGE)
+}
