@@ -12,6 +12,7 @@ import json
 import os
 import pwd
 import re
+import shutil
 import socket
 import subprocess
 import sys
@@ -312,9 +313,15 @@ web is running.
   Run 1 lives, process 5, since {since} (for {lived}).
 {throttled}  It is wanted: KeepAlive is true.
 """
-NOBODY = "No launcher writes this journal now: it ended or was killed."
-ENDED = {"writer": NOBODY, "since": "14:02:57", "lived": "0.0 s",
-    "throttled": "  It is throttled until 14:03:07 (in 10.0 s): its last start was ordered at 14:02:57, ThrottleInterval is 10.\n"}
+# The same if its launcher is not known to run.
+AT_END = """\
+As of 2026-11-25 Wed 14:02:57 +0100, the journal's last event, 2 days 7 h ago.
+{writer}
+
+web was running at the journal's end.
+  Run 1 was running (process 5). Whether that process still does is not known here.
+"""
+NOBODY = "No launcher writes this journal now: it was killed, or its journal closed, after 14:02:57."
 
 
 def a_journal_that_is_held(stage):
@@ -323,13 +330,14 @@ def a_journal_that_is_held(stage):
     path = make(stage.at("held"), HEADER + load + '\n{"ev":"spawned","job":"web","run":1,"pid":5}\n')
     other = make(stage.at("beside"), "")
     lives = f"The launcher that writes this journal lives (process {os.getpid()}): spans are up to now."
-    writes = {"writer": lives, "since": "2026-11-25 Wed 14:02:57 +0100", "lived": "2 days 7 h", "throttled": ""}
-    for file, lock, wanted in ((path, fcntl.LOCK_EX, writes), (path, fcntl.LOCK_SH, ENDED), (other, fcntl.LOCK_EX, ENDED)):
+    writes = HELD.format(writer=lives, since="2026-11-25 Wed 14:02:57 +0100", lived="2 days 7 h", throttled="")
+    ended = AT_END.format(writer=NOBODY)
+    for file, lock, wanted in ((path, fcntl.LOCK_EX, writes), (path, fcntl.LOCK_SH, ended), (other, fcntl.LOCK_EX, ended)):
         with open(file, encoding="utf-8") as held:
             fcntl.flock(held, lock)
             got = ran(stage, ["why", "--now", "1795811777", "--journal", path])
-            check(got == (0, HELD.format(**wanted), ""), f"with {lock} on {file}: {got}")
-    check((got := ran(stage, ["why", "--now", "1795811777", "--journal", path])) == (0, HELD.format(**ENDED), ""), f"with no lock: {got}")
+            check(got == (0, wanted, ""), f"with {lock} on {file}: {got}")
+    check((got := ran(stage, ["why", "--now", "1795811777", "--journal", path])) == (0, ended, ""), f"with no lock: {got}")
 
 
 def a_launcher_that_is_killed(stage):
@@ -341,12 +349,33 @@ def a_launcher_that_is_killed(stage):
         check(f"lives (process {launcher.pid}): spans are up to now.\n" in got[1], f"of a launcher that lives: {got}")
     launcher.process.kill()
     launcher.process.wait()
-    check(NOBODY in (got := ran(stage, words))[1], f"of a launcher that was killed: {got}")
+    check("it was killed, or its journal closed, after" in (got := ran(stage, words))[1], f"of a launcher that was killed: {got}")
+
+
+# The names of cases over journals that nobody holds begin so.
+ALONE = "no launcher: "
+
+
+def play_journals(stage):
+    """The cases over journals. This process holds each journal, as a launcher that runs does, but for the cases of journals that nobody holds."""
+    source = os.path.join(HERE, "scope", "journal")
+    held, alone = shutil.copytree(source, stage.at("held_journals")), shutil.copytree(source, stage.at("journals"))
+    text = text_at(os.path.join(source, "cases")).replace("lives (process 4711)", f"lives (process {os.getpid()})")
+    cases = text.split("=== ")[1:]
+    files = [open(os.path.join(held, name), encoding="utf-8") for name in os.listdir(held) if name.endswith(".jsonl")]
+    try:
+        for file in files:
+            fcntl.flock(file, fcntl.LOCK_EX)
+        play(stage, held, "".join(f"=== {case}" for case in cases if not case.startswith(ALONE)))
+    finally:
+        for file in files:
+            file.close()
+    play(stage, alone, "".join(f"=== {case}" for case in cases if case.startswith(ALONE)))
 
 
 def jobscope_journal(stage):
     """`jobscope why`, `log`, `runs` and `picture` over journals; a line that is too long, one that is put aside, and who writes one."""
-    play_cases(stage, "journal")
+    play_journals(stage)
     a_journal_that_is_held(stage)
     a_launcher_that_is_killed(stage)
     a_line_too_long(stage)
@@ -398,6 +427,8 @@ def jobscope_status(stage):
             text = text.replace('"pid":4711,"began":123456', f'"pid":{os.getpid()},"began":{began}', 1)
         with open(os.path.join(folder, name), "w") as file:
             file.write(text)
+    # A launcher that was killed leaves the file of its lock.
+    make(os.path.join(folder, "gone.jsonl.lock"))
     cases = text_at(os.path.join(source, "cases"))
     play(stage, folder, cases.replace("lives (process 4711)", f"lives (process {os.getpid()})"))
 

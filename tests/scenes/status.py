@@ -448,7 +448,7 @@ def wanted_samples(path, is_up):
     for name, help_text, value in (
         ("jobd_up", "Whether the launcher lives.", int(is_up)),
         ("jobd_journal_open", "Whether the journal of the launcher is open.", 1),
-        ("jobd_status_timestamp_seconds", "When the launcher told how it stands.", first["at"]["wall"]),
+        ("jobd_status_timestamp_seconds", "When the launcher told how it stands.", int(os.stat(path).st_mtime)),
     ):
         text += f"# HELP {name} {help_text}\n# TYPE {name} gauge\n{name} {value}\n"
     return text + families_of(FAMILIES, jobs, is_up)

@@ -6,6 +6,7 @@ use crate::journal::source::{NONE_NAMED, finds_journal, stands_in};
 use crate::left::left_running;
 use crate::objects::status::status_objects;
 use crate::objects::why::standing_objects;
+use crate::report::tell_unforetold;
 use crate::texts::standing::{failed_in, failing_in, standing_text};
 use crate::texts::standing_next::standing_lines;
 use crate::texts::starts::ComingLines;
@@ -206,6 +207,7 @@ fn put_next(
     standing: &Standing,
     second: u64,
 ) -> io::Result<()> {
+    tell_unforetold(host, path, of, standing.foretells());
     let ComingLines {
         text,
         jobs,

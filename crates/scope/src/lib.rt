@@ -19,7 +19,6 @@ mod program;
 mod report;
 mod texts;
 mod window;
-mod writer;
 mod zone;
 
 pub use ended::{check_ended, cron_ended, next_ended, plist_ended};
