@@ -3,14 +3,16 @@
 
 `play.py` plays them; `harness.py` has what all scenes share.
 """
+import fcntl
 import json
 import os
 import resource
 import signal
+import stat
 import subprocess
 import time
 
-from harness import check, make, patience, shell_job, text_at, wait_for
+from harness import check, make, patience, sees_all, shell_job, text_at, wait_for
 
 JOBS = ({"Label": "hourly", "ProgramArguments": ["/bin/true"], "StartInterval": 3600}, shell_job("web", "exec sleep 600", KeepAlive=True))
 
@@ -45,6 +47,13 @@ def says(stage, words, *parts, without=(), status=(0,)):
 def by_both(stage, path):
     return ("--status-file", path), ("--journal", stage.at("journal"))
 
+
+# What one that was killed is called, its sentences by the file and by the journal, and its `jobd_up`.
+GONE = "gone" if sees_all() else "not_seen"
+GONE_BY_FILE = "is gone: it ended or was killed" if sees_all() else "is not seen here"
+GONE_BY_JOURNAL = "it was killed, or its journal closed, after" if sees_all() else "is not seen here"
+DOWN = "jobd_up 0\n" if sees_all() else "jobd_journal_open 1\n"
+LOG_ENDS = "the journal ends without a shutdown" if sees_all() else "the journal ends here"
 
 # What is only foretold of a launcher that runs.
 FORETOLD = ("hourly  in", "It starts at", "It will be wanted", '"next_start"', '"start"')
@@ -90,12 +99,12 @@ def a_launcher_that_is_stopped_or_killed(stage):
     os.kill(launcher.pid, signal.SIGKILL)
     wait_for(lambda: text_at(f"/proc/{launcher.pid}/stat").rpartition(")")[2][:3] == " Z ", "the launcher is no zombie")
     for _ in range(2):
-        says(stage, ("why", "--status-file", path), "is gone: it ended or was killed")
-        says(stage, ("why", "--journal", stage.at("journal")), "it was killed, or its journal closed, after", "web was running at the journal's end.")
-        foretells_nothing(stage, path, "gone")
-        check("jobd_up 0\n" in scope(stage, "metrics", "--status-file", path), "a launcher that was killed is up")
+        says(stage, ("why", "--status-file", path), GONE_BY_FILE)
+        says(stage, ("why", "--journal", stage.at("journal")), GONE_BY_JOURNAL, "web was running at the journal's end.")
+        foretells_nothing(stage, path, GONE)
+        check(DOWN in scope(stage, "metrics", "--status-file", path), "a launcher that was killed is up")
         launcher.process.wait()
-    says(stage, ("log", "--journal", stage.at("journal")), "the journal ends without a shutdown")
+    says(stage, ("log", "--journal", stage.at("journal")), LOG_ENDS)
     later = str(int(time.time()) + 3600)
     says(stage, ("why", "--at", later, "--journal", stage.at("journal")), "No launcher ran then", without=FORETOLD)
 
@@ -123,14 +132,14 @@ def a_number_that_is_used_again(stage):
     other = subprocess.Popen(["sleep", "600"])
     try:
         make(path, text_at(path).replace(f'"pid":{launcher.pid},', f'"pid":{other.pid},', 1))
-        check(names_of(stage, ("--status-file", path)) == {"gone"}, f"another process is the launcher: {scope(stage, 'why', '--status-file', path)}")
+        check(names_of(stage, ("--status-file", path)) == {GONE}, f"another process is the launcher: {scope(stage, 'why', '--status-file', path)}")
     finally:
         other.kill()
     wait_for(lambda: text_at(f"/proc/{other.pid}/stat").rpartition(")")[2][:3] == " Z ", "the process is no zombie")
     began = text_at(f"/proc/{other.pid}/stat").rpartition(")")[2].split()[19]
     first = json.loads(text_at(path).splitlines()[0])["launcher"]
     make(path, text_at(path).replace(f'"began":{first["began"]},', f'"began":{began},', 1))
-    check(names_of(stage, ("--status-file", path)) == {"gone"}, f"a zombie is the launcher: {scope(stage, 'why', '--status-file', path)}")
+    check(names_of(stage, ("--status-file", path)) == {GONE}, f"a zombie is the launcher: {scope(stage, 'why', '--status-file', path)}")
     other.wait()
 
 
@@ -177,11 +186,21 @@ def a_journal_that_closes(stage):
     launcher.ask({"req": "start", "job": "hourly"})
     wait_for(lambda: "journal" in launcher.said(), "the journal was not closed")
     resource.prlimit(launcher.pid, resource.RLIMIT_FSIZE, limits)
-    says(stage, ("why", "--journal", stage.at("journal")), "it was killed, or its journal closed, after", without=("web is running", *FORETOLD))
+    says(stage, ("why", "--journal", stage.at("journal")), GONE_BY_JOURNAL, without=("web is running", *FORETOLD))
     says(stage, ("next", "--journal", stage.at("journal")), "its journal closed", without=FORETOLD)
     says(stage, ("next", "--status-file", path), f"lives (process {launcher.pid})", "hourly  in")
-    second = stage.start(journal="other", socket="other_socket")
-    check("held" in second.said() or second.ends() != 0, "a second launcher has the same places")
+    with open(stage.at("journal"), encoding="utf-8") as journal:
+        fcntl.flock(journal, fcntl.LOCK_EX | fcntl.LOCK_NB)
+    locks = [path for path in (stage.at("socket.lock"), f"{path}.lock", stage.at("spool/jobd.lock")) if os.path.exists(path)]
+    check(len(locks) >= 2, f"the other locks: {locks} {os.listdir(stage.folder)}")
+    for lock in locks:
+        check(stat.S_IMODE(os.stat(lock).st_mode) == 0o600, f"the mode of {lock}")
+        with open(lock, encoding="utf-8") as file:
+            try:
+                fcntl.flock(file, fcntl.LOCK_EX | fcntl.LOCK_NB)
+                check(False, f"{lock} is let go")
+            except BlockingIOError:
+                pass
     launcher.shut_down()
 
 
