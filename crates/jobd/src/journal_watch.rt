@@ -1,5 +1,5 @@
 //! Whether the journal is still at its path. The launcher writes on to one that is renamed or removed, where that is,
-//! and reports it. Once the journal is closed its lock is let go, so that others see that nobody writes it.
+//! and reports it. Once the journal is closed its lock is released, so that others see that nobody writes it.
 
 use child_edge::{Notice, NoticeKind, System};
 use history_model::{SECOND, Text};
@@ -128,7 +128,7 @@ impl<R: System> JournalWatch<R> {
         drop(mem::replace(&mut self.file, Some(file)));
     }
 
-    /// Nothing more is written to it: its lock is let go.
+    /// Nothing more is written to it: its lock is released.
     pub(crate) fn end(&mut self) {
         if let Some(file) = self.file.take() {
             let _freed = file.unlock();

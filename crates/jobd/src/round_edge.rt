@@ -101,7 +101,7 @@ pub trait RoundEdge: ChildEdge + SleepEdge + PathEdge + SocketEdge {
     fn note_reply(&mut self, load: Option<&[u8]>, refusal: Option<Refusal>)
         ensures told { Self.told self.new ≡ Self.told self.old };
 
-    /// The journal's file, by a handle of its own: its lock is let go once the journal is closed.
+    /// The journal's file, by a handle of its own: its lock is released once the journal is closed.
     fn keep_journal(&mut self, journal: File)
         ensures told { Self.told self.new ≡ Self.told self.old };
 

@@ -65,7 +65,7 @@ pub struct LifeFacts {
     pub silent: Option<u64>,
 }
 
-/// Whether the launcher is running, by what is known of it. A launcher is only told as killed where its process would be seen.
+/// Whether the launcher is running, by what is known of it. It calls a launcher killed only where its process would be seen.
 pub fn life_of(facts: &LifeFacts) -> Life
     ensures exactly { result ≡ life_by facts.now.process facts.now.lock facts.now.sees_all facts.now.has_ended facts.now.silent }
     ensures there { is_running result ≡ true → is_there facts.now.process facts.now.lock ≡ true }
