@@ -17,11 +17,11 @@ from harness import check, make, patience, sees_all, shell_job, text_at, wait_fo
 JOBS = ({"Label": "hourly", "ProgramArguments": ["/bin/true"], "StartInterval": 3600}, shell_job("web", "exec sleep 600", KeepAlive=True))
 
 
-def serve(stage):
+def serve(stage, **how):
     """A launcher with a journal, a status file, and two jobs of which one runs and one starts each hour."""
     os.makedirs(stage.at("standing"), mode=0o700, exist_ok=True)
     path = stage.at("standing/status.jsonl")
-    launcher = stage.serve(env={"JOBD_STATUS_FILE": path}, journal="journal")
+    launcher = stage.serve(env={"JOBD_STATUS_FILE": path}, journal="journal", **how)
     for job in JOBS:
         launcher.load(job)
     launcher.tells("web", "state = running")
@@ -61,7 +61,7 @@ FORETOLD = ("hourly  in", "It starts at", "It will be wanted", '"next_start"', '
 
 def names_of(stage, words):
     """The values of `launcher` in the objects of `why`."""
-    return {json.loads(line)["launcher"] for line in scope(stage, "why", "--json", *words).splitlines()}
+    return {json.loads(line)["launcher"] for line in scope(stage, "why", "--json", *words).splitlines() if line.startswith("{")}
 
 
 def foretells_nothing(stage, path, name):
@@ -179,7 +179,7 @@ def a_status_file_that_is_renewed(stage):
 
 def a_journal_that_closes(stage):
     """Its lock is let go, and no other: the launcher lives by its status file, and the journal says that nobody writes it, and foretells nothing."""
-    launcher, path = serve(stage)
+    launcher, path = serve(stage, shell="trap '' XFSZ")
     says(stage, ("why", "--journal", stage.at("journal")), f"lives (process {launcher.pid})")
     limits = resource.prlimit(launcher.pid, resource.RLIMIT_FSIZE)
     resource.prlimit(launcher.pid, resource.RLIMIT_FSIZE, (os.path.getsize(stage.at("journal")), limits[1]))
