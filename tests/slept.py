@@ -6,7 +6,7 @@ namespaces, which root alone can make. What is not here is left out, with a line
 
 Tried: an hourly job starts after a sleep of two hours, once; a job that was given TERM has its whole ExitTimeOut awake before KILL, and the
 sleep counts behind that; beside a job that gets no KILL it counts at once; what the machine slept before the launcher began counts for
-nothing, whichever of the two clocks is ahead. The status file tells runs by the launcher's own readings. It is run by hand, after `make build`.
+nothing, whichever of the two clocks is ahead. After a sleep, and after the wall clock was set, the status file is renewed at once. The status file tells runs by the launcher's own readings. It is run by hand, after `make build`.
 """
 import json
 import os
@@ -120,6 +120,34 @@ def of_library(folder, library):
         launcher.end()
 
 
+def renewed(folder, library):
+    """The modification time of the status file follows the clocks at once, and not only ten seconds later."""
+    paths = {name: f"{folder}/{name}" for name in ("SLEPT_FILE", "SET_FILE")}
+
+    def show(name, seconds):
+        with open(f"{paths[name]}.new", "w") as it:
+            it.write(f"{seconds}\n")
+        os.rename(f"{paths[name]}.new", paths[name])
+
+    for name in paths:
+        show(name, 500)
+    launcher = Sleeper(f"{folder}/renewed", LD_PRELOAD=library, **paths)
+    path = f"{folder}/renewed/standing/status.jsonl"
+    try:
+        launcher.load("idle", ":")
+        wait_for(lambda: launcher.standing("idle"), "the job is in the status file")
+        for name, seconds, ahead in (("SLEPT_FILE", 500 + HOURS, 500), ("SET_FILE", 500 + HOURS, 500 + HOURS), ("SET_FILE", 0, 0)):
+            time.sleep(1.5)
+            old = time.time() - 100
+            os.utime(path, (old, old))
+            begun = time.monotonic()
+            show(name, seconds)
+            wait_for(lambda ahead=ahead: abs(os.stat(path).st_mtime - time.time() - ahead) < 5, f"after {name} {seconds} the file is renewed")
+            check(time.monotonic() - begun < 5, f"after {name} {seconds} the file was renewed only {time.monotonic() - begun:.1f} s later")
+    finally:
+        launcher.end()
+
+
 def in_namespace(folder, *clocks):
     launcher = Sleeper(folder, front=["unshare", "--time", *clocks, "--"])
     try:
@@ -140,6 +168,8 @@ def main():
             subprocess.run(["cc", "-shared", "-fPIC", "-O1", "-o", library, f"{HERE}/slept_clock.c"], check=True)
             of_library(folder, library)
             print("slept: a sleep counts once, and takes no time to end")
+            renewed(folder, library)
+            print("slept: after a sleep, and after a clock that was set, the status file is renewed at once")
         else:
             print("slept: cc is not here, so a clock of its own was not tried")
         if subprocess.run(["unshare", "--time", "--boottime", "1", "true"], capture_output=True).returncode == 0:

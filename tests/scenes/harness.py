@@ -33,6 +33,11 @@ def make(path, text=""):
     return path
 
 
+def sees_all():
+    """Whether all processes of the machine and all locks are shown here: this is the first PID namespace. Elsewhere nothing is told as gone."""
+    return os.readlink("/proc/self/ns/pid") == "pid:[4026531836]"
+
+
 def children_of(pid):
     """The process ids below this one, the nearest first."""
     found = []

@@ -12,12 +12,13 @@ import json
 import os
 import pwd
 import re
+import shutil
 import socket
 import subprocess
 import sys
 import tempfile
 
-from harness import BOUND, HERE, Late, check, make, patience, text_at, wait_for
+from harness import BOUND, HERE, Late, check, make, patience, sees_all, text_at, wait_for
 from pictures import faults_of
 
 # A case may look through years minute by minute.
@@ -85,6 +86,9 @@ def the_first_journal_is_told(stage):
     examples = os.path.join(HERE, "..", "..", "examples")
     ran = subprocess.run([*stage.given.jobscope, "log", "--journal", f"{examples}/first.jsonl"], capture_output=True, timeout=patience(), text=True)
     got, wanted = (ran.returncode, ran.stdout, ran.stderr), (0, text_at(f"{examples}/first.log"), "")
+    if not sees_all():
+        # (that nobody writes the journal is not known there)
+        got, wanted = (got[1].splitlines()[:-1], got[2]), (wanted[1].splitlines()[:-1], wanted[2])
     check(got == wanted, f"it says {got}, and {wanted} is kept")
 
 
@@ -312,9 +316,16 @@ web is running.
   Run 1 is running, PID 5, since {since} (for {lived}).
 {throttled}  It is wanted: KeepAlive is true.
 """
-NOBODY = "No launcher writes this journal now: it exited or was killed."
-ENDED = {"writer": NOBODY, "since": "14:02:57", "lived": "0.0 s",
-    "throttled": "  It is throttled until 14:03:07 (in 10.0 s): its last start was ordered at 14:02:57, ThrottleInterval is 10.\n"}
+# The same if its launcher is not known to run.
+AT_END = """\
+As of 2026-11-25 Wed 14:02:57 +0100, the journal's last event, 2 days 7 h ago.
+{writer}
+
+web was running at the journal's end.
+  Run 1 was running (PID 5). Whether that process still does is not known here.
+"""
+NOT_SEEN = "The launcher that writes this journal is not seen here: it exited, its journal closed after 14:02:57, or it runs in another container."
+NOBODY = "No launcher writes this journal now: it was killed, or its journal closed, after 14:02:57."
 
 
 def a_journal_that_is_held(stage):
@@ -323,13 +334,14 @@ def a_journal_that_is_held(stage):
     path = make(stage.at("held"), HEADER + load + '\n{"ev":"spawned","job":"web","run":1,"pid":5}\n')
     other = make(stage.at("beside"), "")
     lives = f"The launcher that writes this journal is running (PID {os.getpid()}): durations are measured to the present."
-    writes = {"writer": lives, "since": "2026-11-25 Wed 14:02:57 +0100", "lived": "2 days 7 h", "throttled": ""}
-    for file, lock, wanted in ((path, fcntl.LOCK_EX, writes), (path, fcntl.LOCK_SH, ENDED), (other, fcntl.LOCK_EX, ENDED)):
+    writes = HELD.format(writer=lives, since="2026-11-25 Wed 14:02:57 +0100", lived="2 days 7 h", throttled="")
+    ended = AT_END.format(writer=NOBODY if sees_all() else NOT_SEEN)
+    for file, lock, wanted in ((path, fcntl.LOCK_EX, writes), (path, fcntl.LOCK_SH, ended), (other, fcntl.LOCK_EX, ended)):
         with open(file, encoding="utf-8") as held:
             fcntl.flock(held, lock)
             got = ran(stage, ["why", "--now", "1795811777", "--journal", path])
-            check(got == (0, HELD.format(**wanted), ""), f"with {lock} on {file}: {got}")
-    check((got := ran(stage, ["why", "--now", "1795811777", "--journal", path])) == (0, HELD.format(**ENDED), ""), f"with no lock: {got}")
+            check(got == (0, wanted, ""), f"with {lock} on {file}: {got}")
+    check((got := ran(stage, ["why", "--now", "1795811777", "--journal", path])) == (0, ended, ""), f"with no lock: {got}")
 
 
 def a_launcher_that_is_killed(stage):
@@ -338,15 +350,38 @@ def a_launcher_that_is_killed(stage):
     words = ["why", "--journal", stage.at("journal")]
     for _ in range(3):
         got = ran(stage, words)
-        check(f"lives (process {launcher.pid}): durations are measured to the present.\n" in got[1], f"of a launcher that lives: {got}")
+        check(f"is running (PID {launcher.pid}): durations are measured to the present.\n" in got[1], f"of a launcher that lives: {got}")
     launcher.process.kill()
     launcher.process.wait()
-    check(NOBODY in (got := ran(stage, words))[1], f"of a launcher that was killed: {got}")
+    told = "it was killed, or its journal closed, after" if sees_all() else "is not seen here"
+    check(told in (got := ran(stage, words))[1], f"of a launcher that was killed: {got}")
+
+
+# The names of cases over journals that nobody holds begin so.
+ALONE = "no launcher: "
+
+
+def play_journals(stage):
+    """The cases over journals. This process holds each journal, as a launcher that runs does, but for the cases of journals that nobody holds."""
+    source = os.path.join(HERE, "scope", "journal")
+    held, alone = shutil.copytree(source, stage.at("held_journals")), shutil.copytree(source, stage.at("journals"))
+    text = text_at(os.path.join(source, "cases")).replace("is running (PID 4711)", f"is running (PID {os.getpid()})")
+    cases = text.split("=== ")[1:]
+    files = [open(os.path.join(held, name), encoding="utf-8") for name in os.listdir(held) if name.endswith(".jsonl")]
+    try:
+        for file in files:
+            fcntl.flock(file, fcntl.LOCK_EX)
+        play(stage, held, "".join(f"=== {case}" for case in cases if not case.startswith(ALONE)))
+    finally:
+        for file in files:
+            file.close()
+    if sees_all():
+        play(stage, alone, "".join(f"=== {case}" for case in cases if case.startswith(ALONE)))
 
 
 def jobscope_journal(stage):
     """`jobscope why`, `log`, `runs` and `picture` over journals; a line that is too long, one that is put aside, and who writes one."""
-    play_cases(stage, "journal")
+    play_journals(stage)
     a_journal_that_is_held(stage)
     a_launcher_that_is_killed(stage)
     a_line_too_long(stage)
@@ -398,8 +433,12 @@ def jobscope_status(stage):
             text = text.replace('"pid":4711,"began":123456', f'"pid":{os.getpid()},"began":{began}', 1)
         with open(os.path.join(folder, name), "w") as file:
             file.write(text)
+    # A launcher that was killed leaves the file of its lock.
+    make(os.path.join(folder, "gone.jsonl.lock"))
     cases = text_at(os.path.join(source, "cases"))
-    play(stage, folder, cases.replace("lives (process 4711)", f"lives (process {os.getpid()})"))
+    if not sees_all():
+        cases = "".join(f"=== {case}" for case in cases.split("=== ")[1:] if "gone.jsonl" not in case)
+    play(stage, folder, cases.replace("is running (PID 4711)", f"is running (PID {os.getpid()})"))
 
 
 def jobscope_next(stage):

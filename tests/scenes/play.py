@@ -32,6 +32,7 @@ import hung
 import jobctl
 import jobs
 import jobscope
+import life
 import limits
 import places
 import replies
@@ -44,7 +45,7 @@ import words
 from harness import HERE, Stage, adopt_orphans, children_of, chosen, end_children, end_process, heed_signals, program_words
 from pace import Deadline, Fault, Late, Pace, Probe
 
-FILES = (clients, places, limits, replies, stores, telling, hung, jobs, jobctl, users, words, jobscope, status, apply, waking)
+FILES = (clients, places, limits, replies, stores, telling, hung, jobs, jobctl, users, words, jobscope, status, life, apply, waking)
 # The longest is begun first.
 SCENES = [scene for file in FILES for scene in file.SCENES]
 SCENES.sort(key=lambda scene: scene is not clients.a_client_still_for_a_minute)

@@ -6,7 +6,7 @@ use exit_status::NO_ANSWER;
 use history_model::{JobState, Text};
 use launcher_places::{Places, check_own_file};
 use status_file::{DisabledBy, JobStatus, LauncherStatus, StatusFault, StatusLine, state_of};
-use status_page::{Life, Standing, Trouble, named_path, read_standing};
+use status_page::{Standing, Trouble, named_path, read_standing};
 use std::alloc::{AllocError, Global};
 use std::io::ErrorKind;
 use std::time::{Duration, SystemTime};
@@ -177,7 +177,7 @@ fn check_launcher(
     let Some(launcher) = standing.launcher() else {
         return stale(host, path, "it does not name a launcher");
     };
-    if let Life::Gone = standing.life {
+    if !standing.may_live() {
         return stale(host, path, "the launcher that wrote it has exited");
     }
     match places {

@@ -104,7 +104,7 @@ fn open_checked<R: Files<File = File>>(
 fn check_file(data: &Metadata, user: u32) -> io::Result<()> {
     let owner = data.uid();
     if !data.is_file() {
-        Err(refusal("it is no plain file"))
+        Err(refusal("it is not a plain file"))
     } else if data.mode() & OTHERS_WRITE != 0 {
         Err(refusal("others may write it"))
     } else if owner != 0 && owner != user {

@@ -128,7 +128,7 @@ launcher_text family None = []
 
 abbrev pub launcher_samples : LauncherSample → List ℕ
 launcher_samples launcher =
-    launcher_text Up (flag_value (Some launcher.is_up))
+    launcher_text Up (flag_value launcher.is_up)
     ++ launcher_text JournalOpen (flag_value launcher.journal_is_open)
     ++ launcher_text Told (Some launcher.told)
     ++ launcher_text LeftOut launcher.left_out

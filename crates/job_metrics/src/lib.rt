@@ -13,8 +13,8 @@ use std::alloc::{AllocError, Global};
 /// What a monitor asks of a launcher.
 #[derive(Clone, Copy)]
 pub struct LauncherSample {
-    /// Whether its process is running.
-    pub is_up: bool,
+    /// Whether its process is running. None if that is not known.
+    pub is_up: Option<bool>,
     /// Whether its journal is open. None if it writes none.
     pub journal_is_open: Option<bool>,
     /// As of when this was written, in seconds of Unix time.
@@ -297,7 +297,7 @@ pub fn metrics(
 fn put_launcher(ink: &mut Ink, launcher: &LauncherSample)
     ensures { Adds (launcher_samples launcher.now) ink.old ink.new }
 {
-    put_single(ink, Family::Up, flag_value(Some(launcher.is_up)));
+    put_single(ink, Family::Up, flag_value(launcher.is_up));
     put_single(
         ink,
         Family::JournalOpen,

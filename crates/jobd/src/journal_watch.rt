@@ -1,11 +1,11 @@
 //! Whether the journal is still at its path. The launcher writes on to one that is renamed or removed, where that is,
-//! and reports it.
+//! and reports it. Once the journal is closed its lock is released, so that others see that nobody writes it.
 
 use child_edge::{Notice, NoticeKind, System};
 use history_model::{SECOND, Text};
 use startup::Plan;
 use std::alloc::Global;
-use std::fs::Metadata;
+use std::fs::{File, Metadata};
 use std::io::ErrorKind;
 use std::os::unix::fs::MetadataExt;
 use std::{fs, mem};
@@ -26,6 +26,8 @@ pub struct JournalWatch<R: System> {
     rt: R,
     alloc: Global,
     path: String,
+    // The journal by a handle of its own, which shares the lock.
+    file: Option<File>,
     // That of the journal, once the launcher serves.
     own: Option<Place>,
     looked: u64,
@@ -48,6 +50,7 @@ pub(crate) fn journal_watch<R: System>(
             rt,
             alloc,
             path,
+            file: None,
             own: None,
             looked: 0,
             is_told: false,
@@ -120,8 +123,17 @@ impl<R: System> JournalWatch<R> {
         }
     }
 
-    /// Nothing more is written to it.
+    /// Keeps a handle of the journal.
+    pub(crate) fn keep(&mut self, file: File) {
+        drop(mem::replace(&mut self.file, Some(file)));
+    }
+
+    /// Nothing more is written to it: its lock is released.
     pub(crate) fn end(&mut self) {
+        if let Some(file) = self.file.take() {
+            let _freed = file.unlock();
+            drop(file);
+        }
         self.own = None;
         self.is_told = true;
     }

@@ -5,7 +5,8 @@ ghost use Rattle.jobd.specs.Standings.{IsStatusText};
 
 use crate::loaded_definition::{load_in, writes_setting};
 use crate::own_process::OwnProcess;
-use history_model::{JobNo, Reading, Refusal, Text};
+use crate::standing_file::RENEWED;
+use history_model::{JobNo, Reading, Refusal, SECOND, Text};
 use job_table::JobTable;
 use status_file::{
     JournalStatus, LauncherStatus, RunNotes, StatusText, VERSION, add_jobs, add_launcher, job_count,
@@ -146,6 +147,7 @@ impl Keeper {
             at,
             journal,
             store,
+            renewed_each: Some(RENEWED / SECOND),
             jobs,
         };
         add_launcher(&mut self.text, self.alloc, &launcher);

@@ -9,6 +9,7 @@ use child_edge::{ChildEdge, Client, ClockEdge, Notice, OsEdge, PathEdge, SocketE
 use history_model::{JobNo, Reading, Refusal};
 use live_loop::{Caller, Origin};
 use mio::{Registry, Token};
+use std::fs::File;
 
 /// An edge whose `up` stops while the machine sleeps, and that says how long it slept.
 pub trait SleepEdge: ClockEdge {
@@ -98,6 +99,10 @@ pub trait RoundEdge: ChildEdge + SleepEdge + PathEdge + SocketEdge {
 
     /// A client's line was answered: with this refusal, or well. `has_loaded`: it is a load, and was accepted.
     fn note_reply(&mut self, line: &[u8], has_loaded: bool, refusal: Option<Refusal>)
+        ensures told { Self.told self.new ≡ Self.told self.old };
+
+    /// The journal's file, by a handle of its own: its lock is released once the journal is closed.
+    fn keep_journal(&mut self, journal: File)
         ensures told { Self.told self.new ≡ Self.told self.old };
 
     /// The journal is closed.
@@ -196,6 +201,11 @@ impl<R: System> RoundEdge for OsEdge<R> {
 
     fn note_reply(&mut self, _line: &[u8], _has_loaded: bool, refusal: Option<Refusal>) {
         OsEdge::note_answer(self, refusal == Some(Refusal::NoMemory));
+    }
+
+    // It lets no lock go.
+    fn keep_journal(&mut self, journal: File) {
+        drop(journal);
     }
 
     fn note_closing(&mut self) {}

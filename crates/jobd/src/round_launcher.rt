@@ -396,8 +396,10 @@ impl<T: SettingStore, E: RoundEdge, W: Write> LoopHost for RoundLauncher<T, E, W
         may_go_on | self.write_status()
     }
 
+    // The status file says how things are at the end.
     fn let_all_go(&mut self) {
         self.host.edge().let_all_go();
+        let _is_written = self.write_status();
     }
 
     fn next_notice(&mut self) -> Option<Notice> {

@@ -276,6 +276,7 @@ fn serve_over<L: Wait, R: System + Print, E: RoundEdge + Drop>(
             return status;
         }
     };
+    let edge = with_journal(edge, &journal);
     let serving = Serving {
         rt,
         waits,
@@ -291,6 +292,17 @@ fn serve_over<L: Wait, R: System + Print, E: RoundEdge + Drop>(
         Ok(status) => status,
         Err((status, serving)) => serving.refused(status),
     }
+}
+
+// The edge, which lets the journal's lock go once that is closed. Without a descriptor for this it is held until the end.
+fn with_journal<E: RoundEdge>(edge: E, journal: &Option<File>) -> E {
+    let mut edge = edge;
+    if let Some(file) = journal {
+        if let Ok(own) = file.try_clone() {
+            edge.keep_journal(own);
+        }
+    }
+    edge
 }
 
 /// What a launcher has before its store is opened, and what it serves by.

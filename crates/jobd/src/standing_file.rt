@@ -1,17 +1,21 @@
-//! The status file: held by a lock next to it, written next to it in pieces, one in each pass of the event loop, and put in place whole.
+//! The status file: held by a lock next to it, written next to it in pieces, one in each pass of the event loop, and put in place whole. Its modification
+//! time is renewed while its text still holds.
 
 use crate::whole_file::{new_file, shared};
 use child_edge::{Notice, NoticeKind, System};
 use files_and_process::own_files::{LockFile, check_folder};
 use history_model::{Reading, SECOND, Text};
 use std::alloc::Global;
-use std::fs::File;
-use std::io::Write;
+use std::fs::{File, OpenOptions};
+use std::io::{ErrorKind, Write};
 use std::time::SystemTime;
 use std::{fs, io, mem};
 
 /// How many bytes of the text are written in one pass of the event loop, at most.
 const PIECE: usize = 65_536;
+
+/// How many milliseconds pass at most until the modification time of the file is renewed.
+pub(crate) const RENEWED: u64 = 10 * SECOND;
 
 /// The file, with its lock, which is held until this is dropped.
 #[derive(Drop)]
@@ -34,6 +38,10 @@ pub struct StandingFile<R: System> {
     // Something happened since it was written, and it was tried last at this `up`.
     has_changed: bool,
     tried: Option<u64>,
+    // The clock reading as of which its modification time is.
+    renewed: Option<Reading>,
+    // The text that is written next is the last one.
+    is_last: bool,
     // That it can't be written was logged, or waits to be.
     is_refused: bool,
     untold: Option<Notice>,
@@ -46,6 +54,12 @@ fn folder_of(path: &str) -> &str {
         Some((folder, _)) => folder,
         None => ".",
     }
+}
+
+// Whether either clock went on by ten seconds, or the wall clock was set back.
+fn is_old(last: Reading, at: Reading) -> bool {
+    let by_wall = at.wall < last.wall || at.wall >= last.wall.saturating_add(RENEWED / SECOND);
+    by_wall || at.up >= last.up.saturating_add(RENEWED)
 }
 
 /// EPERM: this user may not give a file to the group (chown(2)).
@@ -85,6 +99,8 @@ impl<R: System> StandingFile<R> {
             began: None,
             has_changed: true,
             tried: None,
+            renewed: None,
+            is_last: false,
             is_refused: false,
             untold: None,
         })
@@ -97,7 +113,52 @@ impl<R: System> StandingFile<R> {
             Some(tried) => at.up < tried.saturating_add(SECOND),
             None => false,
         };
-        self.has_changed && !is_soon && !self.is_going
+        self.is_last || (self.has_changed && !is_soon && !self.is_going)
+    }
+
+    /// Renews the modification time of the file, if its text holds at this clock reading and this was not done within ten seconds of either clock. A
+    /// sleep of the machine counts, and so does a clock that was set: it is renewed at once then. A file that is not there is written again.
+    pub(crate) fn renew(&mut self, at: Reading) {
+        let Some(last) = self.renewed else {
+            return;
+        };
+        if self.has_changed || self.is_going || !is_old(last, at) {
+            return;
+        }
+        self.renewed = Some(at);
+        match self.mark() {
+            Ok(()) => self.is_refused = false,
+            Err(error) if error.kind() == ErrorKind::NotFound => {
+                drop(error);
+                self.has_changed = true;
+            }
+            Err(error) => self.tell(error),
+        }
+    }
+
+    // Sets the modification time of the file at the path, which is a plain one of this launcher's folder.
+    fn mark(&self) -> io::Result<()> {
+        check_folder(&self.rt, folder_of(self.path.as_str()), self.user)?;
+        let now = SystemTime::now(&self.rt)?;
+        if !fs::symlink_metadata(&self.rt, self.path.as_str())?.is_file() {
+            return Err(io::Error::from(ErrorKind::NotFound));
+        }
+        let mut options = OpenOptions::new();
+        options.write(true);
+        let file = options.open(&self.rt, self.path.as_str())?;
+        let marked = file.set_modified(now);
+        drop(file);
+        marked
+    }
+
+    /// The launcher ends: the next text is the last one, and is due.
+    pub(crate) fn note_end(&mut self) {
+        self.is_last = true;
+    }
+
+    /// Whether the text that is written next is the last one.
+    pub(crate) fn is_last(&self) -> bool {
+        self.is_last
     }
 
     /// The next change is written at once, also within a second.
@@ -114,6 +175,7 @@ impl<R: System> StandingFile<R> {
     pub(crate) fn begin(&mut self, text: &[u8], at: Reading) {
         self.tried = Some(at.up);
         self.began = SystemTime::now(&self.rt).ok();
+        self.renewed = Some(at);
         self.has_changed = false;
         self.is_going = true;
         self.write(text, PIECE);
@@ -218,7 +280,7 @@ impl<R: System> StandingFile<R> {
         self.untold.take()
     }
 
-    /// The launcher ends: the file of the lock is removed, and the file is left as it is.
+    /// The launcher has ended: the file of the lock is removed, and the file is left as it is.
     pub(crate) fn let_go(&self) {
         self.lock.remove(&self.rt);
     }

@@ -17,6 +17,7 @@ use history_model::{Ended, JobNo, Obs, Reading, Refusal};
 use live_loop::{Caller, Origin};
 use mio::{Registry, Token};
 use std::alloc::Global;
+use std::fs::File;
 use std::mem;
 
 /// The edge, and what keeps the file, if one is kept.
@@ -234,13 +235,14 @@ impl<E: RoundEdge, R: System> RoundEdge for StatusEdge<E, R> {
         may_go_on | is_left
     }
 
+    // The file gets one more text, for which the keeper is lent and handed back after this. Then its lock is let go.
     fn let_all_go(&mut self) {
         self.edge.let_all_go();
         if let Some(file) = &mut self.file {
             if let Some(keeper) = &self.keeper {
                 file.end(keeper.text.as_slice());
             }
-            file.let_go();
+            file.note_end();
         }
         if let Some(places) = &self.places {
             places.remove();
@@ -283,6 +285,13 @@ impl<E: RoundEdge, R: System> RoundEdge for StatusEdge<E, R> {
         }
     }
 
+    fn keep_journal(&mut self, journal: File) {
+        match &mut self.journal {
+            Some(watch) => watch.keep(journal),
+            None => drop(journal),
+        }
+    }
+
     fn note_closing(&mut self) {
         if let Some(journal) = &mut self.journal {
             journal.end();
@@ -315,6 +324,7 @@ impl<E: RoundEdge, R: System> RoundEdge for StatusEdge<E, R> {
         if keeper.must_see(is_due) {
             self.keeper.take()
         } else {
+            file.renew(at);
             None
         }
     }
@@ -325,6 +335,10 @@ impl<E: RoundEdge, R: System> RoundEdge for StatusEdge<E, R> {
                 file.begin(keeper.text.as_slice(), at);
             } else if keeper.was_due() {
                 file.put_off(at);
+            }
+            if file.is_last() {
+                file.end(keeper.text.as_slice());
+                file.let_go();
             }
         }
         drop(mem::replace(&mut self.keeper, Some(keeper)));

@@ -126,6 +126,7 @@ pub(crate) fn read_up_to(
         None => Ok(AsOf::Moment {
             second,
             is_end: cut.is_end,
+            is_gap: false,
         }),
     }
 }

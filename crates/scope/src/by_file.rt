@@ -8,6 +8,7 @@ use crate::journal::source::{NONE_NAMED, finds_journal, stands_in};
 use crate::left::left_running;
 use crate::objects::status::status_objects;
 use crate::objects::why::standing_objects;
+use crate::report::tell_unforetold;
 use crate::settings::settings_of;
 use crate::subcommands::Statuses;
 use crate::texts::standing::{failed_in, failing_in, standing_text};
@@ -240,6 +241,7 @@ fn put_next(
     standing: &Standing,
     second: u64,
 ) -> io::Result<()> {
+    tell_unforetold(host, path, of, standing.foretells());
     let ComingLines {
         text,
         jobs,

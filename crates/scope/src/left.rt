@@ -19,10 +19,11 @@ pub(crate) fn left_running(
     labels: &[Text],
 ) -> Result<Vec<RunProcess>, AllocError> {
     let launcher = match standing.launcher() {
-        Some(launcher) if standing.life.may_live() => LauncherId {
-            pid: launcher.pid,
-            began: launcher.began,
-        },
+        Some(launcher) if standing.may_live() && is_numbered_here(standing, launcher.pid) =>
+            LauncherId {
+                pid: launcher.pid,
+                began: launcher.began,
+            },
         _ => return Ok(Vec::new(alloc)),
     };
     let mut left = run_processes(host, alloc, launcher)?;
@@ -40,6 +41,14 @@ pub(crate) fn left_running(
     }
     left.retain(|process| process.began < oldest);
     Ok(left)
+}
+
+// Whether the numbers of processes that the file has are those of this PID namespace, as far as that is known.
+fn is_numbered_here(standing: &Standing, pid: u32) -> bool {
+    match standing.seen.pid {
+        Some(seen) => seen == pid,
+        None => true,
+    }
 }
 
 // When the process of the job's present run began; of a job without one, `oldest`.

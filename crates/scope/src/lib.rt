@@ -26,7 +26,6 @@ mod settings;
 mod subcommands;
 mod texts;
 mod window;
-mod writer;
 mod zone;
 
 pub use ended::{check_ended, cron_ended, next_ended, plist_ended};

@@ -8,9 +8,12 @@ use crate::journal::fault::JournalFault;
 use crate::journal::lines::Hears;
 use crate::journal::reader::{OpenJournal, open};
 use crate::texts::log::add_lines;
+use crate::texts::log_ends::{add_clock, add_end};
 use crate::window::{Told, Window};
 use calendar_due::Zone;
+use history_model::Reading;
 use launchctl_words::{ScopeCommand, Task};
+use launcher_life::Life;
 use run_times::Filling::Now;
 use run_times::{Page, utc};
 use std::alloc::{AllocError, Global};
@@ -27,6 +30,8 @@ pub(crate) struct JournalListener<'a> {
     pub(crate) heard: HeardMarks<'a>,
     pub(crate) utc: Zone,
     pub(crate) window: Window,
+    /// Whether a later journal is left out, since it begins after the time that is asked for.
+    pub(crate) is_followed: bool,
     /// The seconds of the window, by the zone of the last header.
     told: Told,
 }
@@ -41,10 +46,62 @@ impl JournalListener<'_> {
             heard: HeardMarks::new(alloc, of.words.as_slice()),
             utc: utc(),
             window,
+            is_followed: false,
             told: Told {
                 since: 0,
                 until: u64::MAX,
             },
+        }
+    }
+
+    /// Whether a log has what comes at this clock reading.
+    pub(crate) fn tells(&self, at: Reading) -> bool {
+        is_within(self.told, at.wall)
+    }
+
+    // The line of a log for the end of the journal that comes before this header, if that was not one in order.
+    fn tell_end(&self, shown: &mut String) -> Result<(), JournalFault> {
+        match (&self.journal, self.of.task) {
+            (Some(journal), Task::Log) if self.tells(journal.table.reading()) => {
+                let zone = zone_shown(self.of, &self.utc, &journal.zone);
+                let mut page = Page::new(self.alloc, zone, journal.table.reading());
+                let life = if journal.has_ended() {
+                    Life::Exited
+                } else {
+                    Life::Killed
+                };
+                add_end(&mut page, life);
+                match add_text(page, shown) {
+                    Ok(()) => Ok(()),
+                    Err(_) => Err(JournalFault::NoMemory),
+                }
+            }
+            _ => Ok(()),
+        }
+    }
+
+    // The line of a log for a clock that was set, if the last line shows it; `before` is the clock reading before that line.
+    fn tell_clock(&self, before: Reading, shown: &mut String) -> Result<(), JournalFault> {
+        match (&self.journal, self.of.task) {
+            (Some(journal), Task::Log) if self.tells(journal.table.reading()) => {
+                let now = journal.table.reading();
+                let zone = zone_shown(self.of, &self.utc, &journal.zone);
+                let mut page = Page::new(self.alloc, zone, now);
+                add_clock(&mut page, before, now);
+                match add_text(page, shown) {
+                    Ok(()) => Ok(()),
+                    Err(_) => Err(JournalFault::NoMemory),
+                }
+            }
+            _ => Ok(()),
+        }
+    }
+
+    // The clock reading of the journal's last line.
+    fn reading(&self) -> Option<Reading> {
+        match &self.journal {
+            Some(journal) => Some(journal.table.reading()),
+            None => None,
         }
     }
 
@@ -130,7 +187,14 @@ impl Hears for JournalListener<'_> {
             return Err(JournalFault::NoMemory);
         }
         let is_first = self.journal.is_none();
+        if is_header {
+            self.tell_end(shown)?;
+        }
+        let before = self.reading();
         let is_event = self.take(line, is_header)?;
+        if let (Some(before), false) = (before, is_header) {
+            self.tell_clock(before, shown)?;
+        }
         if is_header {
             let told = self.told()?;
             self.tell_begin(is_first, told.since, shown)?;

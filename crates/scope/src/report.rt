@@ -17,12 +17,14 @@ use crate::journal::source::{INPUT, journal_paths, read_journal, tell_bad};
 use crate::known_runs::KnownRuns;
 use crate::listener::{JournalListener, zone_shown};
 use crate::log::follow;
+use crate::objects::job::around_journal;
 use crate::objects::runs::runs_objects;
 use crate::objects::why::why_objects;
 use crate::page::coming_of;
 use crate::subcommands::Statuses;
 use crate::texts::failing::{failed_runs, failing_text};
 use crate::texts::log::is_named;
+use crate::texts::log_ends::add_end;
 use crate::texts::next::{AskedStarts, next_lines};
 use crate::texts::runs::runs_table;
 use crate::texts::show::show_text;
@@ -30,16 +32,16 @@ use crate::texts::starts::{ComingLines, Telling};
 use crate::texts::unknown::unknown_text;
 use crate::texts::why::{is_known, why_text};
 use crate::window::window_of;
-use crate::writer::writer_of;
 use calendar_due::Zone;
 use definition_files::check::put_seen;
 use definition_files::tell_clockless;
 use exit_status::BAD_FILE;
 use history_model::{Ended, Text};
 use launchctl_words::{ScopeCommand, Task};
+use launcher_life::{JournalAsked, LauncherSeen, Life, journal_life};
 use run_times::picture::{Beside, Chart, blocks_text, picture_piece};
 use run_times::telling::{put, put_made, put_outcome, tell_of};
-use run_times::{Ink, Piece};
+use run_times::{Ink, Page, Piece};
 use status_page::width_of;
 use std::alloc::{AllocError, Global};
 use std::io;
@@ -95,7 +97,9 @@ fn report_on<W: Wait>(
     lines: &mut JournalLines,
     listener: &mut JournalListener<'_>,
 ) -> io::Result<Statuses> {
+    let kept = paths.len();
     let paths = up_to_moment(host, alloc, paths, listener);
+    listener.is_followed = paths.len() < kept;
     let [before @ .., last] = paths else {
         return Ok(Statuses::only(if host.stdin().is_terminal() {
             tell_of(host, INPUT, &NOT_NAMED);
@@ -182,9 +186,12 @@ fn report_by(
     let (read, as_of) = match read_as_of(host, alloc, path, is_quiet, lines, listener) {
         Ok(as_of) => (tell_bad(host, name, lines), as_of),
         // What came before that line is reported.
-        Err(JournalFault::LongLine(line)) => (tell_long(host, name, line), AsOf::End),
+        Err(JournalFault::LongLine(line)) => (tell_long(host, name, line), AsOf::End(None)),
         Err(fault) => return tell_fault(host, name, fault),
     };
+    if let (Some(path), Task::Log) = (path, listener.of.task) {
+        put_end(host, alloc, path, listener)?;
+    }
     match write_report(host, alloc, name, listener, as_of) {
         Ok(status) => Ok(status.max(read)),
         Err(error) => Err(error),
@@ -202,33 +209,105 @@ fn read_as_of(
 ) -> Result<AsOf, JournalFault> {
     let of = listener.of;
     if let Some((moment, now)) = listener.window.end(of.task) {
-        return read_up_to(host, alloc, path, moment, now, lines, listener);
+        let as_of = read_up_to(host, alloc, path, moment, now, lines, listener)?;
+        return Ok(with_gap(host, alloc, path, listener, as_of));
     }
     match (read_journal(host, path, is_quiet, lines, listener), of.task) {
-        (Ok(()), Task::Why | Task::Next) => seen_now(host, alloc, path, of),
-        (Ok(()), _) => Ok(AsOf::End),
+        (Ok(()), Task::Why | Task::Next) => seen_now(host, alloc, path, listener),
+        (Ok(()), Task::Picture) if of.is_page => {
+            Ok(AsOf::End(seen_at(host, alloc, path, listener)))
+        }
+        (Ok(()), _) => Ok(AsOf::End(None)),
         (Err(fault), _) => Err(fault),
     }
 }
 
-// The journal's end, seen now. The writer is looked for only after the read: a launcher that exited meanwhile does not count as running.
+// The journal's end, seen now. The launcher is looked for only after the read: one that exited meanwhile does not count as running.
 fn seen_now(
     host: &HostRuntime,
     alloc: Global,
     path: Option<&str>,
-    of: &ScopeCommand,
+    listener: &JournalListener<'_>,
 ) -> Result<AsOf, JournalFault> {
-    let second = match of.from {
+    let second = match listener.of.from {
         Some(second) => Some(second),
         None => now(host),
     };
-    let writer = match path {
-        Some(path) => Some(writer_of(host, alloc, path)),
-        None => None,
-    };
+    let seen = seen_at(host, alloc, path, listener);
     match second {
-        Some(second) => Ok(AsOf::Seen(second, writer)),
+        Some(second) => Ok(AsOf::Seen(second, seen)),
         None => Err(JournalFault::Clock),
+    }
+}
+
+// What is seen of the launcher that writes the journal at the path, which was read to its end. None if it has no file.
+fn seen_at(
+    host: &HostRuntime,
+    alloc: Global,
+    path: Option<&str>,
+    listener: &JournalListener<'_>,
+) -> Option<LauncherSeen> {
+    let has_ended = match &listener.journal {
+        Some(journal) => journal.has_ended(),
+        None => false,
+    };
+    Some(journal_life(
+        host,
+        alloc,
+        JournalAsked {
+            path: path?,
+            has_ended,
+        },
+    ))
+}
+
+// The same time, which is within a gap if it is later than the journal's last event and the launcher of the journal runs no more.
+fn with_gap(
+    host: &HostRuntime,
+    alloc: Global,
+    path: Option<&str>,
+    listener: &JournalListener<'_>,
+    as_of: AsOf,
+) -> AsOf {
+    let last = match &listener.journal {
+        Some(journal) => journal.table.reading().wall,
+        None => 0,
+    };
+    match as_of {
+        AsOf::Moment {
+            second,
+            is_end: true,
+            ..
+        } if second > last => {
+            let seen = AsOf::End(seen_at(host, alloc, path, listener));
+            AsOf::Moment {
+                second,
+                is_end: true,
+                is_gap: listener.is_followed || !seen.foretells(),
+            }
+        }
+        as_of => as_of,
+    }
+}
+
+// The line of a log for an end of its last journal that is not one in order.
+fn put_end(
+    host: &HostRuntime,
+    alloc: Global,
+    path: &str,
+    listener: &JournalListener<'_>,
+) -> io::Result<()> {
+    match (
+        &listener.journal,
+        seen_at(host, alloc, Some(path), listener),
+    ) {
+        (Some(journal), Some(seen)) if listener.tells(journal.table.reading()) => {
+            let zone = zone_shown(listener.of, &listener.utc, &journal.zone);
+            let mut page = Page::new(alloc, zone, journal.table.reading());
+            add_end(&mut page, seen.life);
+            put_made(host, page.into_text())
+        }
+        _ => Ok(()),
     }
 }
 
@@ -257,7 +336,7 @@ fn write_report(
         }
         Task::Why => put_made(host, why_text(alloc, journal, zone, labels, as_of)),
         Task::Runs => put_runs(host, alloc, name, journal, zone, of, as_of),
-        Task::Picture => paint(host, alloc, journal, zone, &listener.heard, of),
+        Task::Picture => paint(host, alloc, journal, zone, &listener.heard, of, as_of),
         Task::Show => put_made(host, show_text(alloc, journal, zone, labels, of.is_json)),
         Task::Next => put_next(host, alloc, name, journal, zone, of, as_of),
         Task::Drift => {
@@ -309,7 +388,7 @@ fn put_failed(
     }
     let is_seen = match as_of {
         AsOf::Moment { .. } => false,
-        AsOf::End | AsOf::Seen(_, _) => true,
+        AsOf::End(_) | AsOf::Seen(_, _) => true,
     };
     let path = if name == INPUT { None } else { Some(name) };
     let whom = read_for(host, path);
@@ -374,8 +453,10 @@ fn put_next(
             now: clock_as_of(as_of, last).wall,
             count: of.count.unwrap_or(count),
             is_json: of.is_json,
+            around: around_journal(as_of, last),
         },
     };
+    tell_unforetold(host, name, of, as_of.foretells());
     let ComingLines {
         text,
         jobs,
@@ -383,6 +464,17 @@ fn put_next(
     } = next_lines(alloc, journal, asked)?;
     tell_clockless(host, name, clockless, jobs);
     put_made(host, Ok(text))
+}
+
+/// Says in the place of objects that no start is foretold. A text has a head that says it.
+pub(crate) fn tell_unforetold(host: &HostRuntime, name: &str, of: &ScopeCommand, foretells: bool) {
+    if of.is_json && !foretells {
+        tell_of(
+            host,
+            name,
+            &"its launcher is not known to run: no start is foretold",
+        );
+    }
 }
 
 // Why what a start needs may be missing: its last start was refused, or its last run exited with 126 or 127. A shell or a wrapper command exits with
@@ -476,6 +568,7 @@ fn paint(
     zone: &Zone,
     heard: &HeardMarks<'_>,
     of: &ScopeCommand,
+    as_of: AsOf,
 ) -> io::Result<()> {
     let labels = of.words.as_slice();
     for label in labels {
@@ -486,7 +579,7 @@ fn paint(
     }
     let chart = chart_of(alloc, &journal.past, heard)?;
     let painted = if of.is_page {
-        paint_page(host, alloc, journal, zone, &chart, labels)
+        paint_page(host, alloc, journal, zone, &chart, labels, as_of)
     } else if host.stdout().is_terminal() {
         put_made(
             host,
@@ -506,11 +599,16 @@ fn paint_page(
     zone: &Zone,
     chart: &Chart,
     labels: &[Text],
+    as_of: AsOf,
 ) -> io::Result<()> {
     let table = runs_table(alloc, &journal.past, journal.table.reading(), labels)?;
-    let why = why_text(alloc, journal, zone, labels, AsOf::End)?;
-    let coming = coming_of(alloc, journal, chart)?;
-    let failing = failing_front(alloc, journal, zone, labels)?;
+    let why = why_text(alloc, journal, zone, labels, as_of)?;
+    let coming = if as_of.foretells() {
+        coming_of(alloc, journal, chart)?
+    } else {
+        Vec::new(alloc)
+    };
+    let failing = failing_front(alloc, journal, zone, labels, as_of)?;
     let beside = Some(Beside {
         failing: failing.as_str(),
         table: table.as_str(),
@@ -526,8 +624,9 @@ fn failing_front(
     journal: &OpenJournal,
     zone: &Zone,
     labels: &[Text],
+    as_of: AsOf,
 ) -> Result<String, AllocError> {
-    let (text, count) = failing_text(alloc, journal, zone, labels, AsOf::End)?;
+    let (text, count) = failing_text(alloc, journal, zone, labels, as_of)?;
     let mut ink = Ink::new(alloc);
     if count > 0 {
         ink.put(text.as_str());

@@ -7,6 +7,7 @@ pub(crate) mod coming;
 pub(crate) mod failing;
 pub(crate) mod fronts;
 pub(crate) mod log;
+pub mod log_ends;
 pub(crate) mod next;
 pub(crate) mod runs;
 pub(crate) mod show;

@@ -60,6 +60,7 @@ impl StatusLine {
             at: reading_in(&mut fields, "at"),
             journal: journal_in(&mut fields),
             store: fields.text_if("store"),
+            renewed_each: renewed_in(&mut fields),
             jobs: fields.count("jobs"),
         };
         match fields.fault {
@@ -203,6 +204,15 @@ fn note_in<'a>(fields: &mut Fields<'a>) -> JobNote<'a> {
 }
 
 // A launcher of version 0.3.0 does not write it.
+fn renewed_in(fields: &mut Fields<'_>) -> Option<u64> {
+    if fields.has("renewed_each") {
+        fields.count_if("renewed_each")
+    } else {
+        None
+    }
+}
+
+// Nor this.
 fn definition_in<'a>(fields: &mut Fields<'a>) -> Option<&'a str> {
     if fields.has("definition") {
         fields.text_if("definition")

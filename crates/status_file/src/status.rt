@@ -35,6 +35,9 @@ pub struct LauncherStatus<'a> {
     pub journal: JournalStatus<'a>,
     /// What the store refused last, if it refused something.
     pub store: Option<&'a str>,
+    /// How many seconds pass at most until the launcher renews the file's modification time. None also if a launcher of version 0.3.0 wrote the file:
+    /// it renews it only if something happens.
+    pub renewed_each: Option<u64>,
     /// How many jobs are loaded, and so how many lines follow this one.
     pub jobs: u64,
 }

@@ -49,6 +49,8 @@ pub fn add_launcher(text: &mut StatusText, alloc: Global, launcher: &LauncherSta
         text_piece(reason),
         Key("store"),
         text_piece(launcher.store),
+        Key("renewed_each"),
+        count_piece(launcher.renewed_each),
         Key("jobs"),
         Count(launcher.jobs),
         Close,

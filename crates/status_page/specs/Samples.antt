@@ -5,6 +5,8 @@ use Rattle.job_metrics.specs.declared.JobSample.{JobSample}
 use Rattle.history_model.specs.declared.Ended.{Ended}
 use Rattle.history_model.specs.declared.Ended.TheVariants as ends
 use Rattle.history_model.specs.declared.Reading.{Reading}
+use Rattle.launcher_life.specs.declared.life.Life.{Life}
+use Rattle.launcher_life.specs.declared.life.Life.TheVariants as lives
 use Rattle.status_file.specs.declared.status.JournalStatus.{JournalStatus}
 use Rattle.status_file.specs.declared.status.JournalStatus.TheVariants as journals
 use Rattle.run_log.specs.declared.facts.RunEnd.{RunEnd}
@@ -14,6 +16,16 @@ use Rattle.status_page.specs.declared.rows.Next.{Next}
 use Rattle.status_page.specs.declared.rows.Next.TheVariants.{Nothing, Clock, Event}
 use Rattle.status_page.specs.declared.throttles.ThrottleEnd.{ThrottleEnd}
 use Rattle.status_page.specs.Throttles.{second_told}
+
+-- whether the launcher is up, if that is known
+abbrev pub up_flag : Life → Option Bool
+up_flag lives.Runs = Some true
+up_flag lives.Stopped = Some true
+up_flag (lives.Silent seconds) = Some true
+up_flag lives.NotSeen = None
+up_flag lives.Exited = Some false
+up_flag lives.Killed = Some false
+up_flag lives.Unknown = None
 
 -- whether the journal is open, if one is written
 abbrev pub journal_flag : JournalStatus → Option Bool

@@ -133,7 +133,10 @@ pub fn add_failing(page: &mut Page<'_>, of: &Failing<'_>) {
             &[label, Number(u64::from(signal)), ended],
         ),
         (Fault::NotRunning, _) => page.add("$: it is wanted, and does not run\n", &[label]),
-        (Fault::LauncherGone, _) => page.add("$: its launcher has exited\n", &[label]),
+        (Fault::LauncherGone, _) => page.add(
+            "$: it ran by a launcher that exited, or writes nothing more\n",
+            &[label],
+        ),
         (Fault::Missed(minute), _) => page.add(
             "$: $ passed while no launcher ran\n",
             &[label, Time(minute)],

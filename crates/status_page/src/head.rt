@@ -1,9 +1,9 @@
 //! Who the launcher of a status file is, whether it is running, and how old the file is.
 
-use crate::life::Life;
 use crate::standing::Standing;
 use history_model::SECOND;
-use run_times::Filling::{Moment, Number, Text};
+use launcher_life::Life;
+use run_times::Filling::{Moment, Number, Text, Time};
 use run_times::Page;
 use status_file::{JournalStatus, LauncherStatus};
 
@@ -20,14 +20,36 @@ pub fn add_head(page: &mut Page<'_>, standing: &Standing, second: u64) {
         page.ink.put_span(age, false);
         page.ink.put(" ago. ");
     }
-    let form = match standing.life {
-        Life::Lives => "The launcher is running (PID $): durations are measured to the present.\n",
-        Life::Gone =>
+    let (form, seconds) = match standing.seen.life {
+        Life::Runs => ("The launcher is running (PID $): durations are measured to the present.\n", 0),
+        Life::Stopped => (
+            "The launcher (PID $) is stopped by a signal: it starts nothing until it gets CONT.\n",
+            0,
+        ),
+        Life::Silent(seconds) => (
+            "The launcher (PID $) has written nothing for $ s: it hangs or can't write.\n",
+            seconds,
+        ),
+        Life::NotSeen => (
+            "The launcher (PID $) is not seen here: it exited, or runs in another container.\n",
+            0,
+        ),
+        Life::Exited => ("The launcher (PID $) exited in order, at $.\n", 0),
+        Life::Killed => (
             "The launcher (PID $) exited or was killed, and its jobs are no longer supervised.\n",
-        Life::Unknown =>
+            0,
+        ),
+        Life::Unknown => (
             "It is not known whether the launcher (PID $) is running: /proc does not show it.\n",
+            0,
+        ),
     };
-    page.add(form, &[Number(u64::from(launcher.pid))]);
+    let process = standing.seen.pid.unwrap_or(launcher.pid);
+    let second = match standing.seen.life {
+        Life::Exited => Time(launcher.at.wall),
+        _ => Number(seconds),
+    };
+    page.add(form, &[Number(u64::from(process)), second]);
     add_faults(page, &launcher);
 }
 

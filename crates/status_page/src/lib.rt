@@ -1,5 +1,5 @@
-//! The state of a launcher's jobs by its status file (`status_file`). The file is read whole, and this crate says whether its launcher is running. It
-//! makes a table with a line a job, and says which jobs are failing. What follows from the facts of a job as the clocks go on is here too, for the
+//! The state of a launcher's jobs by its status file (`status_file`). The file is read whole, and `launcher_life` says whether its launcher is running.
+//! This crate makes a table with a line a job, and says which jobs are failing. What follows from the facts of a job as the clocks go on is here too, for the
 //! texts of `jobscope why`.
 #![tactic(auto)]
 
@@ -10,7 +10,6 @@ mod counts;
 mod failing;
 mod head;
 mod left_out;
-mod life;
 mod passed;
 mod rows;
 mod samples;
@@ -29,13 +28,12 @@ pub use counts::{RunCount, RunCounts};
 pub use failing::{Failing, Fault, LastEnd, add_failing, fault_of, is_crash, last_end_of};
 pub use head::add_head;
 pub use left_out::{add_left_out, is_told};
-pub use life::Life;
 pub use passed::{Down, passed_minute};
 pub use rows::{Next, Row, ShownState, last_refused, row_of};
-pub use samples::{journal_flag, sample_of, samples_text, with_count};
+pub use samples::{journal_flag, sample_of, samples_text, up_flag, with_count};
 pub use standing::{Standing, Trouble, named_path, packages_file, read_standing, tell_trouble};
 pub use starts::{ToldStart, start_told};
-pub use table::{Look, is_asked, reading_of, table_text, told_as_of};
+pub use table::{Look, is_asked, reading_of, table_text, told_as_of, told_row};
 pub use throttles::{ThrottleBy, ThrottleEnd, second_told, throttle_by, throttle_end};
 pub use usage::{Usage, usage_of};
 pub use width::{has_colour, width_of};

@@ -2,18 +2,19 @@
 
 ghost use Rattle.std.specs.Prelude.{◌≡◌, ◌≤◌, is_some};
 ghost use Rattle.history_model.specs.declared.TheConstants.{MAX_UP, MAX_WALL};
-ghost use Rattle.status_page.specs.Samples.{end_second, exit_told, journal_flag, next_told, success_second, with_count};
+ghost use Rattle.status_page.specs.Samples.{end_second, exit_told, journal_flag, next_told, success_second, up_flag, with_count};
 
 use crate::clocks::StartWhen;
 use crate::counts::{RunCount, RunCounts};
 use crate::rows::{Next, Row};
 use crate::standing::Standing;
-use crate::table::{reading_of, row_in};
+use crate::table::{reading_of, row_in, told_row};
 use crate::throttles::{ThrottleEnd, second_told};
 use crate::usage::{Usage, usage_of};
 use calendar_due::Zone;
 use history_model::{Ended, Reading, Text};
 use job_metrics::{JobSample, LauncherSample, metrics};
+use launcher_life::Life;
 use status_file::{JobNote, JournalStatus, RunEnd, StatusLine};
 use std::alloc::{AllocError, Global};
 
@@ -34,9 +35,9 @@ pub fn samples_text(
     let text = match standing.launcher() {
         Some(launcher) => {
             let sample = LauncherSample {
-                is_up: standing.life.may_live(),
+                is_up: up_flag(standing.seen.life),
                 journal_is_open: journal_flag(launcher.journal),
-                told: launcher.at.wall,
+                told: standing.renewed.unwrap_or(launcher.at.wall),
                 left_out: standing.count_left_out(),
                 counted_since: match counts {
                     Some(counts) => Some(counts.since),
@@ -49,6 +50,17 @@ pub fn samples_text(
     };
     drop(samples);
     text
+}
+
+/// Whether a launcher is up, if that is known: it runs, is stopped by a signal, or hangs.
+pub fn up_flag(life: Life) -> Option<bool>
+    ensures { result ≡ up_flag life }
+{
+    match life {
+        Life::Runs | Life::Stopped | Life::Silent(_) => Some(true),
+        Life::Exited | Life::Killed => Some(false),
+        Life::NotSeen | Life::Unknown => None,
+    }
 }
 
 /// Whether a journal is open, if one is written.
@@ -188,7 +200,7 @@ fn samples_of<'a>(
             line,
             labels,
             zone,
-            standing.life.may_live(),
+            standing.may_live(),
             at,
             second,
         )?;
@@ -216,7 +228,8 @@ fn sample_in<'a>(
 {
     let row = row_in(alloc, line, labels, zone, may_live, at, second)?;
     Ok(match (row, line.job()) {
-        (Some(mut row), Ok(job)) => {
+        (Some(row), Ok(job)) => {
+            let mut row = told_row(row, standing.foretells());
             if let (Some(_), Some(launcher)) = (row.process, standing.launcher()) {
                 row.usage = usage_of(host, alloc, &launcher, &job);
             }

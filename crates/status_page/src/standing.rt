@@ -1,17 +1,17 @@
-//! A status file that is read whole: where it is, its lines, and whether its launcher is running.
+//! A status file that is read whole: where it is, its lines, and what is seen of its launcher.
 
 ghost use Rattle.std.specs.Prelude.{◌≡◌, false, IfOk, IfSome};
 ghost use Rattle.status_file.specs.Fronts.{IsLineOf};
 ghost use Rattle.status_page.specs.Rows.{is_asked};
 
 use crate::boot::{Boot, LeftOut, boot_of};
-use crate::life::{Life, life_of};
 use crate::table::is_asked;
 use calendar_due::Zone;
 use ctl_protocol::{ReadFault, read_header};
 use exit_status::BAD_FILE;
 use files_and_process::path_files::read_file;
 use history_model::Text;
+use launcher_life::{LauncherSeen, StatusFileAsked, file_life, foretells, mark_of, may_live};
 use run_times::telling::{tell_line, tell_of};
 use run_times::{Ink, utc};
 use status_file::{LauncherStatus, LineRoom, StatusFault, StatusLine, read_line};
@@ -35,7 +35,10 @@ const LONGEST: usize = 16_777_216;
 #[derive(Drop)]
 pub struct Standing {
     lines: Lines,
-    pub life: Life,
+    /// What is seen of its launcher.
+    pub seen: LauncherSeen,
+    /// The second of Unix time at which its launcher renewed it last, if the file says it.
+    pub renewed: Option<u64>,
     pub boot: Boot,
 }
 
@@ -51,6 +54,16 @@ struct Lines {
 }
 
 impl Standing {
+    /// Whether what it says of jobs may hold now.
+    pub fn may_live(&self) -> bool {
+        may_live(self.seen.life)
+    }
+
+    /// Whether something may be foretold of its jobs: its launcher runs.
+    pub fn foretells(&self) -> bool {
+        foretells(self.seen.life)
+    }
+
     /// What it says of the launcher, which is its first line.
     pub fn launcher(&self) -> Option<LauncherStatus<'_>> {
         self.lines.read.first()?.launcher().ok()
@@ -208,7 +221,12 @@ fn standing_of(
         None => Err(Trouble::NotWhole),
     };
     match found {
-        Ok((life, boot)) => Ok(Standing { lines, life, boot }),
+        Ok((seen, boot)) => Ok(Standing {
+            lines,
+            seen,
+            renewed: mark_of(host, path),
+            boot,
+        }),
         Err(trouble) => {
             drop(lines);
             Err(trouble)
@@ -216,15 +234,24 @@ fn standing_of(
     }
 }
 
-// Whether the launcher is running, and what was written of its boot.
+// What is seen of the launcher, and what was written of its boot.
 fn around_of(
     host: &HostRuntime,
     alloc: Global,
     path: &str,
     launcher: &LauncherStatus<'_>,
-) -> Result<(Life, Boot), Trouble> {
+) -> Result<(LauncherSeen, Boot), Trouble> {
     match boot_of(host, alloc, path, launcher) {
-        Ok(boot) => Ok((life_of(host, alloc, launcher), boot)),
+        Ok(boot) => {
+            let asked = StatusFileAsked {
+                path,
+                pid: launcher.pid,
+                began: launcher.began,
+                is_empty: launcher.jobs == 0,
+                renews: launcher.renewed_each.is_some(),
+            };
+            Ok((file_life(host, alloc, asked), boot))
+        }
         Err(_) => Err(Trouble::NoMemory),
     }
 }

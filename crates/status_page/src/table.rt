@@ -145,13 +145,13 @@ pub fn reading_of(standing: &Standing) -> Reading
     }
 }
 
-/// The clock reading as of which the file is reported at a second. Its clocks went on while its launcher wrote nothing. If the launcher has exited,
-/// they stay where they were.
+/// The clock reading as of which the file is reported at a second. Its clocks went on while its launcher wrote nothing. If the launcher does not run, or
+/// if that is not known, they stay where they were.
 pub fn told_as_of(standing: &Standing, at: Reading, second: u64) -> Reading
     requires up { at.up ≤ MAX_UP }
     requires wall { at.wall ≤ MAX_WALL }
 {
-    if standing.life.may_live() {
+    if standing.foretells() {
         gone_on(at, second)
     } else {
         at
@@ -170,14 +170,23 @@ fn rows_of<'a>(
     requires up { at.up ≤ MAX_UP }
     requires wall { at.wall ≤ MAX_WALL }
 {
-    let may_live = standing.life.may_live();
+    let may_live = standing.may_live();
+    let foretells = standing.foretells();
     let mut rows = Vec::new(alloc);
     for line in standing.jobs() {
         if let Some(row) = row_in(alloc, line, labels, zone, may_live, at, second)? {
-            rows.push(row)?;
+            rows.push(told_row(row, foretells))?;
         }
     }
     Ok(rows)
+}
+
+/// The row, without what comes next if nothing may be foretold.
+pub fn told_row(mut row: Row<'_>, foretells: bool) -> Row<'_> {
+    if !foretells {
+        row.next = Next::Nothing;
+    }
+    row
 }
 
 /// The row of a line, if its job is asked for.

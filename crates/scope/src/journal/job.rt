@@ -79,14 +79,26 @@ pub(crate) struct KeptJob {
 }
 
 impl KeptJob {
-    /// Its launcher has exited, and with it the job, if it was loaded.
-    pub(crate) fn lose(&mut self, at: Reading) {
+    /// Its launcher has exited, and with it the job, if it was loaded. `ending` is the clock reading at which that launcher was asked for a shutdown.
+    pub(crate) fn lose(&mut self, at: Reading, ending: Option<Reading>) {
+        self.record.absent = None;
         if self.def.is_some() {
             self.record.lose(at);
+            self.record.absent = Some(at.wall);
+        } else if is_left(self.record.gone, ending) {
+            self.record.absent = Some(self.record.gone.wall);
         }
         self.record.follow();
         drop(self.def.take());
         drop(self.text.take());
+    }
+}
+
+// Whether a job that left then did so in a shutdown, and not at a request of its own.
+fn is_left(gone: Reading, ending: Option<Reading>) -> bool {
+    match ending {
+        Some(ending) => gone.wall >= ending.wall,
+        None => false,
     }
 }
 
@@ -104,6 +116,8 @@ pub(crate) struct Record {
     /// The last stop, `kickstart -k` or unload since the last start was ordered, and its number among such requests to all jobs.
     pub(crate) asked: Option<(JobRequest, Reading)>,
     pub(crate) ask: u64,
+    /// Since which second no launcher ran, if it was loaded until then.
+    pub(crate) absent: Option<u64>,
     // Whether the system refused to wait for the present run.
     is_lost: bool,
     /// Whether this is its first load under its launcher.
@@ -133,6 +147,7 @@ impl Record {
             was_ordered_to_end: false,
             asked: None,
             ask: 0,
+            absent: None,
             is_lost: false,
             is_first: true,
             was_lost: false,
@@ -146,11 +161,20 @@ impl Record {
     }
 
     /// Of the job that is loaded again: what is kept of its earlier load goes, the totals stay.
-    pub(crate) fn loaded_again(&self, at: Reading) -> Record {
+    /// A time without a launcher, from the second `from` on, counts as a time in which it was loaded and did not run.
+    pub(crate) fn loaded_again(&self, at: Reading, from: u64) -> Record {
         let mut record = Record::new(self.serial, at);
         record.gone = self.gone;
         record.totals = self.totals;
         record.is_first = self.was_lost;
+        if let Some(since) = self.absent {
+            let absent = at
+                .wall
+                .saturating_sub(since.max(from))
+                .saturating_mul(SECOND);
+            record.totals.loaded = record.totals.loaded.saturating_add(absent);
+            record.totals.gap = record.totals.gap.max(absent);
+        }
         record
     }
 

@@ -92,8 +92,12 @@ impl Past {
         self.serial = before.serial;
         self.labels.follow(&before.labels);
         self.counts = before.counts;
+        let ending = match before.shut_down {
+            Some((_, at)) => Some(at),
+            None => None,
+        };
         for (_, job) in &mut self.jobs {
-            job.lose(last);
+            job.lose(last, ending);
         }
     }
 
@@ -109,7 +113,7 @@ impl Past {
         let text = String::from_str(alloc, text);
         let mut is_room = true;
         let mut record = match self.jobs.get(def.label()) {
-            Some(job) => job.record.loaded_again(at),
+            Some(job) => job.record.loaded_again(at, self.from),
             None => {
                 is_room = self.make_room().is_ok();
                 self.serial = self.serial.saturating_add(1);

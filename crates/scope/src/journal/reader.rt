@@ -84,6 +84,11 @@ fn past_of(alloc: Global, header: &Header) -> Result<Past, AllocError> {
 }
 
 impl OpenJournal {
+    /// Whether its last lines are those of a shutdown that is over: no job is left.
+    pub(crate) fn has_ended(&self) -> bool {
+        self.table.is_shutting_down() && self.table.is_empty()
+    }
+
     /// Applies a line after the header. It returns whether the line is an event; what it gave is the past's `news`. After it the table
     /// keeps the machine's next state.
     pub fn take(&mut self, alloc: Global, line: &[u8]) -> Result<bool, AllocError>

@@ -5,12 +5,12 @@ use crate::journal::labels::KnownLabel;
 use crate::known_runs::KnownRuns;
 use crate::objects::lines::{end_of, moment_of};
 use crate::texts::words::refusal_name;
-use crate::writer::Writer;
 use history_model::Reading;
 use json_lines::Value::{Absent, Flag, Moment, Number, Text};
 use json_lines::{Field, Value, put_line};
+use launcher_life::{LauncherSeen, Life, foretells, may_live};
 use run_times::Page;
-use status_page::{Fault, Life};
+use status_page::Fault;
 
 /// As of when jobs are reported, and what is known of their launcher.
 #[derive(Clone, Copy)]
@@ -20,6 +20,8 @@ pub(crate) struct Around {
     pub(crate) launcher: Value<'static>,
     /// Whether the report of the jobs may still hold now.
     pub(crate) may_live: bool,
+    /// Whether something may be foretold of them.
+    pub(crate) foretells: bool,
 }
 
 /// What the object of a job has besides what is kept of its runs.
@@ -43,30 +45,39 @@ pub(crate) struct Beside<'a> {
 
 /// What is known of the launcher of a journal that is reported as of then.
 pub(crate) fn around_journal(as_of: AsOf, last: Reading) -> Around {
-    let (launcher, may_live) = match as_of {
-        AsOf::Seen(_, Some(Writer::Process(_))) => (Text("lives"), true),
-        AsOf::Seen(_, Some(Writer::Nobody)) => (Text("gone"), false),
-        AsOf::Seen(_, Some(Writer::Unknown)) => (Text("unknown"), true),
-        AsOf::Seen(_, None) | AsOf::End | AsOf::Moment { .. } => (Absent, true),
+    let launcher = match as_of {
+        AsOf::Seen(_, Some(seen)) | AsOf::End(Some(seen)) => Text(life_name(seen.life)),
+        AsOf::Moment { is_gap: true, .. } => Text("none"),
+        AsOf::Seen(_, None) | AsOf::End(None) | AsOf::Moment { .. } => Absent,
     };
     Around {
         as_of: last.wall,
         launcher,
-        may_live,
+        may_live: as_of.may_live(),
+        foretells: as_of.foretells(),
     }
 }
 
 /// What is known of the launcher of a status file.
-pub(crate) fn around_file(life: Life, at: Reading) -> Around {
-    let launcher = match life {
-        Life::Lives => "lives",
-        Life::Gone => "gone",
-        Life::Unknown => "unknown",
-    };
+pub(crate) fn around_file(seen: LauncherSeen, at: Reading) -> Around {
     Around {
         as_of: at.wall,
-        launcher: Text(launcher),
-        may_live: life.may_live(),
+        launcher: Text(life_name(seen.life)),
+        may_live: may_live(seen.life),
+        foretells: foretells(seen.life),
+    }
+}
+
+// The name of what is known of a launcher.
+fn life_name(life: Life) -> &'static str {
+    match life {
+        Life::Runs => "lives",
+        Life::Stopped => "stopped",
+        Life::Silent(_) => "silent",
+        Life::NotSeen => "not_seen",
+        Life::Exited => "exited",
+        Life::Killed => "gone",
+        Life::Unknown => "unknown",
     }
 }
 

@@ -17,7 +17,7 @@ use run_times::Page;
 use status_file::{JobStatus, state_name};
 use status_page::{
     Next, Row, ShownState, Standing, StartWhen, Usage, is_asked, reading_of, row_of, second_told,
-    told_as_of, usage_of,
+    told_as_of, told_row, usage_of,
 };
 use std::alloc::{AllocError, Global};
 
@@ -49,14 +49,15 @@ fn objects_in(
     let shown = standing.zone(alloc, of.is_utc)?;
     let at = reading_of(standing);
     let mut page = Page::new(alloc, &shown, told_as_of(standing, at, second));
-    let around = around_file(standing.life, at);
+    let around = around_file(standing.seen, at);
     for line in standing.jobs() {
         if let Ok(job) = line.job() {
             if is_asked(of.words.as_slice(), job.label) {
                 match line.calendar(alloc) {
                     Ok(entries) => {
                         let may_live = around.may_live;
-                        let mut row = row_of(&job, entries.as_slice(), zone, may_live, at, second);
+                        let row = row_of(&job, entries.as_slice(), zone, may_live, at, second);
+                        let mut row = told_row(row, around.foretells);
                         row.usage = usage_in(host, alloc, standing, &job, row.process);
                         let since = disabled_at(&job, settings);
                         put_row(&mut page, &row, job.disabled.is_some(), since, around);

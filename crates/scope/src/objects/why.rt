@@ -76,9 +76,8 @@ fn put_known(
     };
     let fault = job_fault(journal, job, &facts, around.may_live);
     if fault.is_some() || !is_failing {
-        let told = told_job(journal, job, def, &facts, page.now);
-        let beside = Beside {
-            state: state_name(state_of(&facts.reasons)),
+        let mut beside = Beside {
+            state: "unknown",
             causes: Absent,
             fault,
             reason: Absent,
@@ -88,6 +87,12 @@ fn put_known(
             disabled_since: disabled_since(known),
             known,
         };
+        if !around.foretells {
+            put_job(page, label, &job.record, &beside, around);
+            return fault.is_some();
+        }
+        beside.state = state_name(state_of(&facts.reasons));
+        let told = told_job(journal, job, def, &facts, page.now);
         let at = Clocks {
             entries: def.calendar(),
             zone: &journal.zone,
@@ -183,7 +188,7 @@ fn objects_in(
     let shown = standing.zone(alloc, of.is_utc)?;
     let last = reading_of(standing);
     let mut page = Page::new(alloc, &shown, told_as_of(standing, last, second));
-    let around = around_file(standing.life, last);
+    let around = around_file(standing.seen, last);
     let clock = gone_on(last, second);
     let mut count: u64 = 0;
     for line in standing.jobs() {
@@ -230,7 +235,7 @@ struct ByFile<'a> {
     clock: Reading,
 }
 
-// Adds the line of a job of a file. If its launcher has exited, the causes are left out.
+// Adds the line of a job of a file. If its launcher is not known to run, its state and causes are left out.
 fn put_status(
     page: &mut Page<'_>,
     line: &StatusLine,
@@ -240,7 +245,7 @@ fn put_status(
     around: Around,
 ) {
     let runs = KnownRuns::noted(&job.note, job.facts.reasons.child);
-    if !around.may_live {
+    if !around.foretells {
         return put_job(page, job.label, &runs, &beside, around);
     }
     beside.state = state_name(state_of(&job.facts.reasons));

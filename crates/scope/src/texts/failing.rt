@@ -6,7 +6,6 @@ use crate::journal::job::KeptJob;
 use crate::journal::reader::OpenJournal;
 use crate::known_runs::KnownRuns;
 use crate::texts::standing::{is_failed_run, missed_fault};
-use crate::writer::Writer;
 use calendar_due::Zone;
 use history_model::Text;
 use run_times::Page;
@@ -25,10 +24,7 @@ pub(crate) fn failing_text(
     let last = journal.table.reading();
     let mut page = Page::new(alloc, zone, reading_as_of(as_of, last));
     add_head(&mut page, as_of, last);
-    let may_live = match as_of {
-        AsOf::Seen(_, Some(Writer::Nobody)) => false,
-        _ => true,
-    };
+    let may_live = as_of.may_live();
     let mut count: u64 = 0;
     for (label, job) in &journal.past.jobs {
         let label = label.as_str();

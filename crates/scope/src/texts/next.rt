@@ -24,7 +24,7 @@ pub(crate) struct AskedStarts<'a> {
     pub(crate) telling: Telling,
 }
 
-/// The coming starts of each loaded job.
+/// The coming starts of each loaded job. If no launcher is known to run, there are none, and no job is reported to have no schedule.
 pub(crate) fn next_lines(
     alloc: Global,
     journal: &OpenJournal,
@@ -34,7 +34,7 @@ pub(crate) fn next_lines(
     let mut jobs: u64 = 0;
     let mut clockless: u64 = 0;
     for (label, job) in &journal.past.jobs {
-        if let Some(def) = &job.def {
+        if let (Some(def), true) = (&job.def, of.as_of.foretells()) {
             let before = starts.len();
             add_starts(journal, label.as_str(), job, def, of, &mut starts)?;
             jobs = jobs.saturating_add(1);

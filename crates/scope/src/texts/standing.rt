@@ -6,7 +6,9 @@ use crate::known_runs::KnownRuns;
 use crate::texts::coming::calendar_next;
 use crate::texts::since::add_coming;
 use crate::texts::told::ToldJob;
-use crate::texts::why::{add_last_end, add_refused, add_stand, facts_then, throttle_shown};
+use crate::texts::why::{
+    add_last_end, add_refused, add_stand, add_state_then, facts_then, throttle_shown,
+};
 use calendar_due::Zone;
 use history_model::{Entry, Reading};
 use leftovers::RunProcess;
@@ -125,7 +127,7 @@ fn add_process(page: &mut Page<'_>, process: &RunProcess) {
     );
 }
 
-// The report on a job. If the launcher has exited, its causes are left out: they were those of another time.
+// The report on a job. If the launcher is not known to run, its causes are left out: they were those of another time.
 fn add_job(
     page: &mut Page<'_>,
     zone: &Zone,
@@ -136,7 +138,7 @@ fn add_job(
     known: KnownLabel,
 ) {
     let runs = KnownRuns::noted(&job.note, job.facts.reasons.child);
-    if standing.life.may_live() {
+    if standing.foretells() {
         match line.calendar(page.alloc) {
             Ok(entries) => {
                 let missed = missed_in(&job.note, entries.as_slice(), zone, standing.boot.down);
@@ -156,7 +158,7 @@ fn add_job(
             Err(_) => page.ink.refuse(),
         }
     } else {
-        add_gone(page, job);
+        add_gone(page, standing, job);
         add_past(page, &job.note, &runs);
     }
 }
@@ -199,8 +201,12 @@ pub(crate) fn told_of<'a>(
     }
 }
 
-// That a job's launcher has exited, and the PID of its run.
-fn add_gone(page: &mut Page<'_>, job: &JobStatus<'_>) {
+// That a job's launcher has exited, or is not known to run, and the PID of its run.
+fn add_gone(page: &mut Page<'_>, standing: &Standing, job: &JobStatus<'_>) {
+    if standing.may_live() {
+        let reasons = &job.facts.reasons;
+        return add_state_then(page, job.label, reasons, "when the file was written");
+    }
     page.add(
         "\n$ is not supervised: the launcher that wrote this file has exited.\n",
         &[Text(job.label)],
@@ -369,7 +375,7 @@ pub(crate) fn line_fault(
     job: &JobStatus<'_>,
     zone: &Zone,
 ) -> Result<Option<Fault>, AllocError> {
-    let fault = file_fault(job, standing.life.may_live());
+    let fault = file_fault(job, standing.may_live());
     if fault.is_some() || standing.boot.down.is_none() {
         return Ok(fault);
     }
@@ -401,7 +407,7 @@ pub(crate) fn failed_in<'a>(
     for line in standing.jobs() {
         if let Ok(job) = line.job() {
             let is_told = job.keys.knows_errors && is_asked(labels, job.label);
-            if is_told && is_failed_run(file_fault(&job, standing.life.may_live())) {
+            if is_told && is_failed_run(file_fault(&job, standing.may_live())) {
                 failed.push(FailedRun {
                     label: job.label,
                     errors: job.keys.errors,

@@ -3,6 +3,7 @@
 ghost use Rattle.std.specs.Prelude.{◌≤◌};
 ghost use Rattle.history_model.specs.declared.TheConstants.{MAX_UP, MAX_WALL};
 
+use crate::objects::job::around_file;
 use crate::texts::starts::{ComingLines, Start, Telling, put_starts};
 use calendar_due::Zone;
 use definition_files::calendar_after;
@@ -26,8 +27,8 @@ struct Moments {
     ghost wall: { at.wall ≤ MAX_WALL },
 }
 
-/// The next start of each job of the file, as of a second. If the launcher has exited, no start is shown, and no job is reported to have no
-/// schedule.
+/// The next start of each job of the file, as of a second. If the launcher is not known to run, no start is shown, and no job is reported
+/// to have no schedule.
 pub(crate) fn standing_lines(
     alloc: Global,
     standing: &Standing,
@@ -57,7 +58,7 @@ fn starts_of<'a>(
     moments: Moments,
 ) -> Result<Vec<Start<'a>>, AllocError> {
     let mut starts = Vec::new(alloc);
-    if standing.life.may_live() {
+    if standing.foretells() {
         for line in standing.jobs() {
             if let Some(start) = start_in(alloc, line, zone, moments)? {
                 starts.push(start)?;
@@ -75,7 +76,7 @@ fn lines_of(
     moments: Moments,
     starts: &mut Vec<Start<'_>>,
 ) -> Result<ComingLines, AllocError> {
-    let jobs = if standing.life.may_live() {
+    let jobs = if standing.foretells() {
         standing.jobs().len() as u64
     } else {
         0
@@ -110,6 +111,7 @@ fn text_of(
         now: moments.now,
         count: of.count.unwrap_or(u64::MAX),
         is_json: of.is_json,
+        around: around_file(standing.seen, moments.at),
     };
     put_starts(&mut page, zone, telling, starts);
     let text = page.into_text();

@@ -1,9 +1,13 @@
 //! Coming starts by time alone, in the order of time: a line each, or an object.
 
+use crate::objects::job::Around;
+use crate::objects::lines::number_of;
 use calendar_due::Zone;
-use definition_files::{calendar_after, put_start};
+use definition_files::calendar_after;
 use history_model::MAX_WALL;
 use job_defs::Def;
+use json_lines::Value::{Moment as Second, Number as Count};
+use json_lines::{Field, put_line};
 use run_times::Filling::{Moment, Number, Text};
 use run_times::Page;
 
@@ -35,6 +39,8 @@ pub(crate) struct Telling {
     pub(crate) count: u64,
     /// Each as an object of JSON.
     pub(crate) is_json: bool,
+    /// As of when, and what is known of the launcher.
+    pub(crate) around: Around,
 }
 
 /// Adds the starts, the soonest first, each followed by the next of the same clock, if its definition is there. The zone is that of the calendars.
@@ -50,7 +56,7 @@ pub(crate) fn put_starts(
             break;
         };
         if of.is_json {
-            put_start(page, start.label, start.at, of.now, start.every);
+            put_object(page, start, of);
         } else {
             add_start(page, start, of.now);
         }
@@ -71,6 +77,23 @@ fn soonest(starts: &[Start<'_>]) -> usize {
         index = index.saturating_add(1);
     }
     found
+}
+
+// The object of a start, with the keys that those of `next` over definitions have, and what is known of the launcher.
+fn put_object(page: &mut Page<'_>, start: &Start<'_>, of: Telling) {
+    let left = start.at.saturating_sub(of.now).saturating_mul(1000);
+    let every = match start.every {
+        Some(every) => Some(u64::from(every)),
+        None => None,
+    };
+    let fields = [
+        Field("start", Second(start.at)),
+        Field("left_ms", Count(left)),
+        Field("interval_seconds", number_of(every)),
+        Field("as_of", Second(of.around.as_of)),
+        Field("launcher", of.around.launcher),
+    ];
+    put_line(page, "label", start.label, &fields);
 }
 
 fn add_start(page: &mut Page<'_>, start: &Start<'_>, now: u64) {

@@ -44,6 +44,7 @@ pub(crate) fn why_text(
     }
     for label in &asked {
         match journal.past.jobs.get(*label) {
+            Some(job) if !as_of.foretells() => add_at_end(&mut page, journal, *label, job),
             Some(job) => add_job(&mut page, journal, *label, job, clock),
             None => add_unloaded(&mut page, journal, *label),
         }
@@ -164,6 +165,37 @@ fn add_job<'x>(
     );
 }
 
+// The report on a job whose launcher is not known to run: what it did at the journal's end. What kept it from a start then, and when it would have
+// started, is not told.
+fn add_at_end(page: &mut Page<'_>, journal: &OpenJournal, label: &str, job: &KeptJob) {
+    let (Some(_), Some(facts)) = (&job.def, journal.facts(label)) else {
+        let form = "\n$ is not loaded: it was removed at $.\n";
+        page.add(form, &[Text(label), Time(job.record.gone.wall)]);
+        return add_label(page, label, journal.past.labels.of(label));
+    };
+    add_state_then(page, label, &facts.reasons, "at the journal's end");
+    add_past(page, &job.record);
+    add_missed(page, missed_by(journal, job));
+    add_background(page, &job.record);
+    add_label(page, label, journal.past.labels.of(label));
+}
+
+/// Adds the state that a job had then, and its process, of which it is not known whether it still runs.
+pub(crate) fn add_state_then(
+    page: &mut Page<'_>,
+    label: &str,
+    reasons: &Reasons,
+    then: &'static str,
+) {
+    let holes = [Text(label), Text(words_then(reasons)), Text(then)];
+    page.add("\n$ $ $.\n", &holes);
+    if let Some(child) = reasons.child {
+        let form =
+            "  Run $ was running (process $). Whether that process still does is not known here.\n";
+        page.add(form, &[Number(child.run), Number(u64::from(child.pid))]);
+    }
+}
+
 /// What the report on a loaded job needs, as of a clock reading.
 pub(crate) fn told_job<'a>(
     journal: &'a OpenJournal,
@@ -221,6 +253,16 @@ fn state_words(reasons: &Reasons) -> &'static str {
         (_, Some(_), _) => "is running",
         (_, None, Some(_)) => "is being started",
         (_, None, None) => "is not running",
+    }
+}
+
+fn words_then(reasons: &Reasons) -> &'static str {
+    match (reasons.is_removing, reasons.child, reasons.awaited) {
+        (true, _, _) => "was being removed",
+        (_, Some(child), _) if child.is_stopped || child.is_struck => "was being stopped",
+        (_, Some(_), _) => "was running",
+        (_, None, Some(_)) => "was being started",
+        (_, None, None) => "was not running",
     }
 }
 

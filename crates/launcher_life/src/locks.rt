@@ -1,12 +1,11 @@
-//! Who writes a journal, as the system shows it to other processes: by the lock on its file and by the process that holds it. Nothing here takes the
-//! lock.
+//! Who holds the lock on a file, by the list of all locks.
 
 use files_and_process::path_files::read_front;
 use std::alloc::Global;
-use std::fs::metadata;
-use std::io;
+use std::fs::{Metadata, metadata};
 use std::io::ErrorKind;
 use std::os::unix::fs::MetadataExt;
+use std::{io, str};
 
 /// Where Linux lists the locks of all files, one in a line: `4: FLOCK  ADVISORY  WRITE 812 08:01:1234 0 EOF`.
 const LOCKS: &str = "/proc/locks";
@@ -14,36 +13,17 @@ const LOCKS: &str = "/proc/locks";
 /// How many bytes of that list are looked at.
 const MOST: usize = 4_194_304;
 
-/// Who writes a journal.
-#[derive(Clone, Copy)]
-pub(crate) enum Writer {
-    /// This process holds its lock.
-    Process(u32),
-    /// No process holds it.
-    Nobody,
-    /// The system does not show it.
-    Unknown,
-}
-
-/// Who writes the journal at the path.
-pub(crate) fn writer_of(host: &HostRuntime, alloc: Global, path: &str) -> Writer {
-    match holder_of(host, alloc, path) {
-        Ok(Some(pid)) if lives(host, alloc, pid) => Writer::Process(pid),
-        Ok(_) => Writer::Nobody,
-        Err(error) => {
-            drop(error);
-            Writer::Unknown
-        }
-    }
-}
-
-// The process that the list names for the lock on the file. If the layers of an overlayfs are on several file systems, a file reports another device
-// than the list. Its folder reports that of the list.
-fn holder_of(host: &HostRuntime, alloc: Global, path: &str) -> io::Result<Option<u32>> {
-    let data = metadata(host, path)?;
+/// The process that the list names for the lock on the file at the path. If the layers of an overlayfs are on several file systems, a file reports
+/// another device than the list. Its folder reports that of the list.
+pub(crate) fn holder_of(
+    host: &HostRuntime,
+    alloc: Global,
+    path: &str,
+    data: &Metadata,
+) -> io::Result<Option<u32>> {
     let mut bytes = Vec::new(alloc);
     read_front(host, LOCKS, MOST, &mut bytes)?;
-    let Ok(list) = std::str::from_utf8(bytes.as_slice()) else {
+    let Ok(list) = str::from_utf8(bytes.as_slice()) else {
         return Err(io::Error::from(ErrorKind::InvalidData));
     };
     let holder = match marked_in(alloc, list, data.dev(), data.ino())? {
@@ -104,17 +84,5 @@ fn holder_by(line: &str, mark: &str) -> Option<u32> {
         pid.parse::<u32>().ok()
     } else {
         None
-    }
-}
-
-// Whether the process is running. If not even the first process is shown, the system hides those of others, and only the lock counts.
-fn lives(host: &HostRuntime, alloc: Global, pid: u32) -> bool {
-    match format!(in alloc; "/proc/{pid}") {
-        Ok(folder) => {
-            let is_shown = metadata(host, folder.as_str()).is_ok();
-            drop(folder);
-            is_shown || metadata(host, "/proc/1").is_err()
-        }
-        Err(_) => true,
     }
 }
