@@ -6,10 +6,9 @@ use Rattle.child_edge.specs.declared.waking.Watch.TheVariants.{Unsent, Sent, Due
 -- A pass in which all are asked asks about each child. Any other asks about each of which the helper was not told, about
 -- each whose exit it reported, and about each that has exited or whose wait was refused.
 abbrev pub is_asked_in : Bool → Watch → Bool
-is_asked_in true watch = true
-is_asked_in false Unsent = true
-is_asked_in false Sent = false
-is_asked_in false Due = true
+is_asked_in asks_all Unsent = true
+is_asked_in asks_all Sent = asks_all
+is_asked_in asks_all Due = true
 
 -- A pass asks about all, unless the helper answered in it and it is none of those that ask about all.
 abbrev pub asks_all_in : Bool → Bool → Bool

@@ -1,7 +1,7 @@
 //! Which children a pass of the loop asks the system about, with a helper that reports their exits; and what the helper
 //! writes.
 
-ghost use Rattle.std.specs.Prelude.{◌≡◌, ◌+◌, ◌≤◌, ◌↔◌, true, false, IsTrue};
+ghost use Rattle.std.specs.Prelude.{◌≡◌, ◌+◌, ◌<◌, ◌≤◌, true, false};
 ghost use Rattle.child_edge.specs.Waking.{is_asked_in, asks_all_in, sent_in, unsent_in};
 
 /// After how many milliseconds all children are asked again, whatever the helper reports.
@@ -21,8 +21,7 @@ pub(crate) enum Watch {
 /// Whether a pass asks the system about a child. All are asked if `asks_all` says so. Only a child that the helper
 /// knows, and whose exit it did not report, is ever left out.
 pub(crate) fn is_asked(watch: Watch, asks_all: bool) -> bool
-    ensures exact { result ≡ is_asked_in asks_all watch }
-    ensures left_out { result ≡ false → (asks_all ≡ false) × (watch ≡ Watch.Sent) }
+    ensures { result ≡ is_asked_in asks_all watch }
 {
     match watch {
         Watch::Sent => asks_all,
@@ -35,8 +34,8 @@ pub(crate) fn sent(watch: Watch) -> Watch
     ensures { result ≡ sent_in watch }
 {
     match watch {
-        Watch::Unsent => Watch::Sent,
-        other => other,
+        Watch::Unsent | Watch::Sent => Watch::Sent,
+        Watch::Due => Watch::Due,
     }
 }
 
@@ -46,25 +45,28 @@ pub(crate) fn unsent(watch: Watch) -> Watch
     ensures asked { is_asked_in false result ≡ true }
 {
     match watch {
-        Watch::Sent => Watch::Unsent,
-        other => other,
+        Watch::Unsent | Watch::Sent => Watch::Unsent,
+        Watch::Due => Watch::Due,
     }
 }
 
 /// Whether a pass that begins now asks about all children: the helper gave no answer, or this pass is one of those that
 /// ask about all.
 pub(crate) fn asks_all(is_sweep: bool, is_answered: bool) -> bool
-    ensures exact { result ≡ asks_all_in is_sweep is_answered }
-    ensures helped { result ≡ false → is_answered ≡ true }
+    ensures { result ≡ asks_all_in is_sweep is_answered }
 {
-    is_sweep || !is_answered
+    if is_answered { is_sweep } else { true }
 }
 
 /// Whether it is time to ask about all children again, who were all asked at `swept`.
 pub(crate) fn is_sweep_due(up: u64, swept: u64) -> bool
-    ensures { IsTrue result ↔ (swept + 10_000 ≤ up) }
+    ensures early { up < swept + 10_000 → result ≡ false }
+    ensures due { swept + 10_000 ≤ up → result ≡ true }
 {
-    up.saturating_sub(swept) >= SWEEP
+    if up.saturating_sub(swept) < SWEEP {
+        return false;
+    }
+    true
 }
 
 /// What part of a line comes next from the helper.
