@@ -21,7 +21,10 @@ pub fn add_head(page: &mut Page<'_>, standing: &Standing, second: u64) {
         page.ink.put(" ago. ");
     }
     let (form, seconds) = match standing.seen.life {
-        Life::Runs => ("The launcher is running (PID $): durations are measured to the present.\n", 0),
+        Life::Runs => (
+            "The launcher is running (PID $): durations are measured to the present.\n",
+            0,
+        ),
         Life::Stopped => (
             "The launcher (PID $) is stopped by a signal: it starts nothing until it gets CONT.\n",
             0,

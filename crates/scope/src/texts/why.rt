@@ -191,7 +191,7 @@ pub(crate) fn add_state_then(
     page.add("\n$ $ $.\n", &holes);
     if let Some(child) = reasons.child {
         let form =
-            "  Run $ was running (process $). Whether that process still does is not known here.\n";
+            "  Run $ was running (PID $). Whether that process still does is not known here.\n";
         page.add(form, &[Number(child.run), Number(u64::from(child.pid))]);
     }
 }
