@@ -1,8 +1,7 @@
 -- The exit status of `jobscope`, by what its parts ended with.
-use Rattle.std.specs.Prelude.{◌≡◌, ◌==◌, ℕ, List, length, Bool, not, Option, Some, None, Result, Ok, Err, max}
+use Rattle.std.specs.Prelude.{◌≡◌, ◌==◌, ℕ, List, length, Bool, not, Option, Some, None, Result, Ok, Err, String, max}
 use Rattle.std.specs.String.{string_bytes}
 use Rattle.std.specs.IoError.{error_kind}
-use Rattle.std.specs.declared.String.{String}
 use Rattle.std.specs.declared.io.Error.{Error}
 use Rattle.exit_status.specs.declared.TheConstants.{USAGE, NO_MEMORY}
 use Rattle.command_words.specs.declared.command.WordFault.{WordFault}

@@ -1,7 +1,6 @@
 //! The subcommands of `jobscope` as parts of one run: what each ends with.
 
-ghost use Rattle.std.specs.Prelude.{◌≡◌, ℕ, List, Option, Result};
-ghost use Rattle.std.specs.declared.String.{String as OwnText};
+ghost use Rattle.std.specs.Prelude.{◌≡◌, ℕ, List, Option, Result, String as OwnText};
 ghost use Rattle.std.specs.declared.io.Error.{Error as IoFault};
 ghost use Rattle.command_words.specs.declared.command.WordFault.{WordFault as Fault};
 ghost use Rattle.command_words.specs.declared.scope_command.Meaning.{Meaning as Meant};
