@@ -162,11 +162,18 @@ impl<E: RoundEdge, R: System> SleepEdge for StatusEdge<E, R> {
         self.edge.slept()
     }
 
-    // From now on this clock reading is that of what is noted.
+    // Each pass of the loop begins with it: from now on this clock reading is that of what is noted. In the first pass all is open that the launcher
+    // needs, and nobody was answered.
     fn note_time(&mut self, at: Reading) {
         self.edge.note_time(at);
         if let Some(keeper) = &mut self.keeper {
             keeper.notes.at = at;
+        }
+        if let Some(places) = &mut self.places {
+            places.begin();
+        }
+        if let Some(journal) = &mut self.journal {
+            journal.begin();
         }
     }
 }
@@ -187,14 +194,7 @@ impl<E: RoundEdge, R: System> RoundEdge for StatusEdge<E, R> {
         self.edge.over_from(job)
     }
 
-    // Each pass of the loop begins with it. In the first one all is open that the launcher needs.
     fn register(&mut self, registry: &Registry, token: Token) -> bool {
-        if let Some(places) = &mut self.places {
-            places.begin();
-        }
-        if let Some(journal) = &mut self.journal {
-            journal.begin();
-        }
         self.edge.register(registry, token)
     }
 
