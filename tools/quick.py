@@ -135,12 +135,12 @@ def lay_out(kit, folder, module):
                 os.symlink(f"{kit}/{below}{name}", f"{folder}/{below}{name}")
 
 
-def module_of(clock, kit, clang, room):
+def module_of(clock, kit, clang, room, program):
     """The program's module as text, with all that a try looks at, as the path of a file."""
     module, text = f"{room}/module.bc", f"{room}/module.ll"
     lay_out(kit, f"{room}/kit", module)
     said = clock.run("the sources are read and compiled to one module", [f"{room}/kit/bin/rt", "try"], may_fail=True,
-                     cwd=f"{TOP}/crates/{PROGRAM}", env={**os.environ, "TMPDIR": room})
+                     cwd=f"{TOP}/crates/{program}", env={**os.environ, "TMPDIR": room})
     if not os.path.isfile(module):
         sys.exit(f"{said[-4000:]}quick: rt try made no module")
     clock.run("the module is written as text", [*clang, "-S", "-emit-llvm", "-Xclang", "-disable-llvm-passes", "-O2", "-x", "ir", module, "-o", text])
@@ -163,22 +163,27 @@ def halves_of(clock, kit, text, room, is_checked):
     return paths
 
 
-def main(words):
-    if words not in ([], ["--unchecked"]):
-        sys.exit(__doc__)
-    clock, kit = Clock(), kit_folder()
+def build(clock, program, path, is_checked):
+    """Makes the program of this crate at the path."""
+    kit = kit_folder()
     clang = [f"{kit}/toolchain/bin/clang", f"--target={TARGET}", "--no-default-config"]
-    out = f"{TOP}/build/quick"
-    shutil.rmtree(out, ignore_errors=True)
     with tempfile.TemporaryDirectory(prefix="quick-") as room:
-        halves = halves_of(clock, kit, module_of(clock, kit, clang, room), room, not words)
+        halves = halves_of(clock, kit, module_of(clock, kit, clang, room, program), room, is_checked)
         compiled = [f"{path}.o" for path in halves]
         clock.run("clang compiles both halves", *([*clang, "-O2", *FLAGS, "-fPIE", "-c", "-x", "ir", *it] for it in zip(halves, ["-o"] * 2, compiled)))
         put(f"{room}/said.c", SAID)
         clock.run("the line that says that it is not proved", [*clang, "-O1", "-ffreestanding", "-fPIE", "-c", f"{room}/said.c", "-o", f"{room}/said.o"])
-        os.makedirs(out, exist_ok=True)
-        link = [f"{kit}/bin/rattle-link", "--target", TARGET, "--toolchain", f"{kit}/toolchain", "-o", f"{out}/jobd", *compiled, f"{room}/said.o"]
+        os.makedirs(os.path.dirname(path), exist_ok=True)
+        link = [f"{kit}/bin/rattle-link", "--target", TARGET, "--toolchain", f"{kit}/toolchain", "-o", path, *compiled, f"{room}/said.o"]
         clock.run("it is linked", [*link, f"{kit}/c/libos_c.a", f"{kit}/c/liblibc_c.a"])
+
+
+def main(words):
+    if words not in ([], ["--unchecked"]):
+        sys.exit(__doc__)
+    clock, out = Clock(), f"{TOP}/build/quick"
+    shutil.rmtree(out, ignore_errors=True)
+    build(clock, PROGRAM, f"{out}/jobd", not words)
     # Hard links: the gate of kit 13b stops at a symbolic one in any folder here.
     for name in NAMES[1:]:
         os.link(f"{out}/jobd", f"{out}/{name}")

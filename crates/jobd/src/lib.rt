@@ -33,6 +33,7 @@ pub use replay::{ReplayFault, replay, replay_within};
 pub use round_edge::{RoundEdge, SleepEdge};
 pub use round_launcher::RoundLauncher;
 use startup::{Places, list_store};
+pub use status_edge::StatusEdge;
 use std::alloc::Global;
 use std::sync::Wait;
 

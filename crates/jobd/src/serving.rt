@@ -19,7 +19,7 @@ use files_and_process::socket_file;
 use history_model::{Reading, Setting, Text};
 use launchctl_words::ZoneWords;
 use launcher::{Host, HostFault};
-use live_loop::{Live, LoopHost, ServeFault, System, serve};
+use live_loop::{Live, LoopHost, ServeFault, System, round, serve};
 use outside::SettingStore;
 use startup::{
     Places, Plan, StoreUser, begun, bound, hold_spool, journal_at, no_clock, plan_of, report,
@@ -458,6 +458,8 @@ fn serve_with<L: Wait, R: System + Print, H: LoopHost + Drop>(
     };
     set_wishes(plan, &mut live);
     tell_standing(rt, plan);
+    // The first pass writes the files that others read. That it was the last, or that the system refuses to wait, the next pass finds too.
+    let _is_last = round(rt, alloc, &mut live);
     // Nobody has to hear it.
     let _written = println!(rt; "jobd: ready");
     match serve(waits, rt, alloc, live) {

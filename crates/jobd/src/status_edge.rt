@@ -1,11 +1,12 @@
 //! An edge over another one, which keeps the status file. Each call is that of the other edge, and what becomes of runs
 //! is noted.
 
-ghost use Rattle.std.specs.Prelude.{◌≡◌, ◌≤◌, ℕ, List, Option, Some};
+ghost use Rattle.std.specs.Prelude.{◌≡◌, ◌≤◌, ℕ, List, Option, Some, IfOk};
 
 use crate::journal_watch::JournalWatch;
 use crate::keeper::Keeper;
 use crate::memory_want::MemoryWant;
+use crate::own_process::own_process;
 use crate::places_file::PlacesFile;
 use crate::round_edge::{RoundEdge, SleepEdge};
 use crate::standing_file::StandingFile;
@@ -13,12 +14,13 @@ use child_edge::{
     ChildEdge, Client, ClockEdge, Edge, EdgeFault, Notice, PathEdge, SocketEdge, System,
 };
 use history_model::definition::Def;
-use history_model::{Ended, JobNo, Obs, Reading, Refusal};
+use history_model::{Ended, JobNo, Obs, Reading, Refusal, Text};
 use live_loop::{Caller, Origin};
 use mio::{Registry, Token};
 use std::alloc::Global;
 use std::fs::File;
-use std::mem;
+use std::io::ErrorKind;
+use std::{io, mem};
 
 /// The edge, and what keeps the file, if one is kept.
 #[derive(Drop)]
@@ -41,7 +43,9 @@ impl<E: RoundEdge, R: System> StatusEdge<E, R> {
         kept: Option<(StandingFile<R>, Keeper)>,
         places: Option<PlacesFile<R>>,
         journal: Option<JournalWatch<R>>,
-    ) -> StatusEdge<E, R> {
+    ) -> StatusEdge<E, R>
+        ensures { result.edge ≡ edge }
+    {
         let (file, keeper) = match kept {
             Some((file, keeper)) => (Some(file), Some(keeper)),
             None => (None, None),
@@ -53,6 +57,38 @@ impl<E: RoundEdge, R: System> StatusEdge<E, R> {
             places,
             journal,
             keeper,
+        }
+    }
+
+    /// The edge with a status file at the path, which this user alone may read, and no other file. The launcher keeps a journal, whose header's line
+    /// is given without its newline, and began at this clock reading. Refused as `StandingFile::take`; `NotFound`, if the system does not say which
+    /// process this is. The edge is then dropped.
+    pub fn keeping(
+        rt: &R,
+        alloc: Global,
+        edge: E,
+        path: &str,
+        header: Text,
+        at: Reading,
+    ) -> io::Result<StatusEdge<E, R>>
+    where
+        E: Drop,
+        ensures told { IfOk result (λ kept. E.told kept.edge ≡ E.told edge) }
+        ensures failures { IfOk result (λ kept. E.failures kept.edge ≡ E.failures edge) }
+    {
+        let Some(own) = own_process(rt) else {
+            drop(edge);
+            drop(header);
+            return Err(io::Error::from(ErrorKind::NotFound));
+        };
+        let keeper = Keeper::new(alloc, own, header, true, at);
+        match StandingFile::take(rt, alloc, path, None, None) {
+            Ok(file) => Ok(StatusEdge::new(alloc, edge, Some((file, keeper)), None, None)),
+            Err(error) => {
+                drop(edge);
+                drop(keeper);
+                Err(error)
+            }
         }
     }
 }
@@ -163,11 +199,18 @@ impl<E: RoundEdge, R: System> SleepEdge for StatusEdge<E, R> {
         self.edge.slept()
     }
 
-    // From now on this clock reading is that of what is noted.
+    // Each pass of the loop begins with it: from now on this clock reading is that of what is noted. In the first pass all is open that the launcher
+    // needs, and nobody was answered.
     fn note_time(&mut self, at: Reading) {
         self.edge.note_time(at);
         if let Some(keeper) = &mut self.keeper {
             keeper.notes.at = at;
+        }
+        if let Some(places) = &mut self.places {
+            places.begin();
+        }
+        if let Some(journal) = &mut self.journal {
+            journal.begin();
         }
     }
 }
@@ -188,14 +231,7 @@ impl<E: RoundEdge, R: System> RoundEdge for StatusEdge<E, R> {
         self.edge.over_from(job)
     }
 
-    // Each pass of the loop begins with it. In the first one all is open that the launcher needs.
     fn register(&mut self, registry: &Registry, token: Token) -> bool {
-        if let Some(places) = &mut self.places {
-            places.begin();
-        }
-        if let Some(journal) = &mut self.journal {
-            journal.begin();
-        }
         self.edge.register(registry, token)
     }
 

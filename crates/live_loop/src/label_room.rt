@@ -1,6 +1,6 @@
 //! Room for one label, reserved once: the table can't lend a label while the outside is asked about its job.
 
-ghost use Rattle.std.specs.Prelude.{◌≡◌, ℕ, ◌≤◌, List, length, IsUtf8};
+ghost use Rattle.std.specs.Prelude.{◌≡◌, ℕ, ◌≤◌, List, [], length, IfOk, IsUtf8};
 ghost use Rattle.std.specs.String.{string_bytes, string_capacity};
 
 use std::alloc::{AllocError, Global};
@@ -25,7 +25,9 @@ impl Model for LabelRoom {
 
 impl LabelRoom {
     /// Room with no text. `AllocError` if memory for it was refused.
-    pub(crate) fn new(alloc: Global) -> Result<LabelRoom, AllocError> {
+    pub fn new(alloc: Global) -> Result<LabelRoom, AllocError>
+        ensures { IfOk result (λ room. room ≡ []) }
+    {
         let text = String::with_capacity(alloc, LONGEST_LABEL)?;
         Ok(LabelRoom { text })
     }

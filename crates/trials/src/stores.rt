@@ -1,7 +1,7 @@
 //! The store of settings: over files that are closed and opened again, and on disks that stop.
 
 pub mod calls;
-mod disks;
+pub mod disks;
 pub mod files;
 pub mod on_disks;
 mod over_files;

@@ -249,7 +249,7 @@ impl<R: System, H: LoopHost + Drop> Stage<'_, R, H> {
 }
 
 /// Whether the outcome has the code and the text of the reply.
-fn is_told(outcome: Option<&str>, reply: Option<&str>) -> bool {
+pub fn is_told(outcome: Option<&str>, reply: Option<&str>) -> bool {
     let (Some(outcome), Some(reply)) = (outcome, reply) else {
         return false;
     };
