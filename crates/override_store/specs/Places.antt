@@ -4,7 +4,6 @@ use Rattle.sqlite.specs.Held.{Held, state}
 use Rattle.sqlite.specs.State.{State, HasCleanDisk, IsLive, Opens}
 use Rattle.sqlite.specs.Store.{Ghosts}
 use Rattle.sqlite.specs.Tree.{Trees}
-use Rattle.sqlite.specs.View.{IsClean}
 use Rattle.override_store.specs.declared.known.Known.{Known}
 use Rattle.override_store.specs.KnownSettings.{HoldsTrees}
 
@@ -26,12 +25,6 @@ pub record IsFound (Finds : Trees → Type 0) (s : State) : Type 0 where
   pub opens : Opens s
   pub live : IsLive s
   pub left : (db : Trees) → s.may_leave db → Finds db
-
--- what is below a connection, once that is gone: it returned what was written, so the connection did, and it may leave no more
-abbrev pub IsLeftBelow : {S : Type 0} → Ghosts S → State → S → Type 0
-IsLeftBelow g conn store =
-    IsClean (g.view store) →
-    HasCleanDisk conn × ((db : Trees) → g.recovers store db → conn.may_leave db)
 
 -- the trees are a store of what is known, or of that and one setting more
 abbrev pub IsLastOr : List Known → Option Known → Trees → Type 0

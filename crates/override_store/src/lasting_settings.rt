@@ -16,8 +16,9 @@ ghost use Rattle.override_store.specs.Places.{AreLastOr, IsAskedMore, IsHonest, 
 ghost use Rattle.override_store.specs.KnownSettings.{AtHand, HasMade, HoldsKnown, HoldsLast, IsOneTooMany, StampsLast, TellAlike, known_as};
 
 use crate::known::{Known, is_one_too_many, put, rising};
+use crate::pattern::store_schema;
 use crate::place::{StoreNews, StorePlace, Telling};
-use crate::renewal::{open_all, renewed, store_schema};
+use crate::renewal::{open_all, renewed};
 use crate::{OverrideStore, StoreFault};
 use history_model::{Setting, Text};
 use outside::{self, SettingStore};

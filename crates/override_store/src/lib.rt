@@ -23,6 +23,7 @@ pub mod laws;
 mod lists;
 mod mending;
 mod open;
+mod pattern;
 mod place;
 mod renewal;
 mod sameness;

@@ -10,7 +10,7 @@ ghost use Rattle.sqlite.specs.View.{IsClean, doubt};
 ghost use Rattle.override_store.specs.OverrideStores.{AreFit, HoldsAs, IsOurs};
 ghost use Rattle.override_store.specs.KnownSettings.{HoldsKnown, HoldsTrees};
 ghost use Rattle.override_store.specs.declared.known.Known.{Known as OneKnown};
-ghost use Rattle.override_store.specs.Places.{AreLastOr, IsAskedMore, IsLeftBelow};
+ghost use Rattle.override_store.specs.Places.{AreLastOr, IsAskedMore};
 
 use crate::known::{Known, are_same};
 use crate::open::open_tables;
@@ -158,26 +158,6 @@ fn has_schema<S: Alter>(conn: &Connection<S>, pattern: &Schema) -> bool
 {
     let is_settled = conn.is_autocommit();
     is_settled && conn.schema().is_same(pattern)
-}
-
-/// The schema of a store.
-pub(crate) fn store_schema(alloc: Global) -> Result<Schema, StoreFault>
-    ensures { IfOk result (λ schema. schema ≡ both_schema) }
-{
-    let conn = match Connection::open_in_memory(alloc) {
-        Ok(conn) => conn,
-        Err(_) => return Err(StoreFault::NoMemory),
-    };
-    let conn = match OverrideStore::open_on(alloc, conn) {
-        Ok(store) => store.close_on(),
-        Err(fault) => return Err(fault),
-    };
-    let copy = conn.schema().copy(alloc);
-    drop(conn);
-    match copy {
-        Ok(schema) => Ok(schema),
-        Err(_) => Err(StoreFault::NoMemory),
-    }
 }
 
 fn told<S: Alter, P: StorePlace<S>>(place: &P, telling: Telling, fault: StoreFault) -> StoreFault

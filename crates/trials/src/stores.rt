@@ -51,10 +51,8 @@ static LINES: &[Line] = &[
     (
         "settings_last_where_a_renewal_stops",
         &[
-            Case::Stopping(Run::Renewed(true, true)),
-            Case::Stopping(Run::Renewed(true, false)),
-            Case::Stopping(Run::Renewed(false, true)),
-            Case::Stopping(Run::Renewed(false, false)),
+            Case::Stopping(Run::Renewed(true)),
+            Case::Stopping(Run::Renewed(false)),
         ],
     ),
 ];

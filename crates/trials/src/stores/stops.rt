@@ -160,12 +160,15 @@ fn each_renewal_is_followed(alloc: Global, from: &Disks, stop: Stop, is_log: boo
     None
 }
 
-/// Whether each stop in a renewal is followed, for each stop of the first setting, up to one that the first setting does not meet.
-fn renewals_are_followed(alloc: Global, from: &Disks, is_log: bool, again_is_log: bool) -> bool {
+/// Whether each stop in a renewal is followed, for each stop of the log at the first setting.
+fn renewals_are_followed(alloc: Global, from: &Disks, is_log: bool) -> bool {
     let mut is_renewed = false;
     for calls in 0..200u64 {
-        let stop = Stop { is_log, calls };
-        match each_renewal_is_followed(alloc, from, stop, again_is_log) {
+        let stop = Stop {
+            is_log: true,
+            calls,
+        };
+        match each_renewal_is_followed(alloc, from, stop, is_log) {
             Some(true) => is_renewed = true,
             Some(false) => {
                 if is_renewed {
@@ -183,8 +186,8 @@ fn renewals_are_followed(alloc: Global, from: &Disks, is_log: bool, again_is_log
 pub enum Run {
     /// The log stops, or else the database.
     Once(Life, bool),
-    /// The one stops at the first setting, and then the other, or the same, once it is opened again.
-    Renewed(bool, bool),
+    /// The log stops at the first setting. Once it is opened again the log stops again, or else the database.
+    Renewed(bool),
 }
 
 /// Whether each stop is followed, from files of the first version for settings, and from a store with no setting for a launcher.
@@ -197,7 +200,7 @@ pub fn are_followed(alloc: Global, run: Run) -> bool {
         Some(from) => {
             let is_so = match run {
                 Run::Once(life, is_log) => each_is_followed(alloc, life, &from, is_log),
-                Run::Renewed(first, again) => renewals_are_followed(alloc, &from, first, again),
+                Run::Renewed(is_log) => renewals_are_followed(alloc, &from, is_log),
             };
             drop(from);
             is_so
