@@ -17,8 +17,11 @@ pub(crate) trait Task {
     fn over<S: Alter + Drop>(self, conn: Connection<S>) -> Result<Self::Done, (StoreRefusal, Self)>;
 }
 
+/// What is below a connection to the database of such files.
+pub(crate) type MediaStore = FileStore<Medium<File, Memory>>;
+
 /// A connection to the database of such files.
-pub(crate) type MediaConnection = Connection<FileStore<Medium<File, Memory>>>;
+pub(crate) type MediaConnection = Connection<MediaStore>;
 
 /// Opens the database of these files, and does the task over it.
 pub(crate) fn over_files<T: Task>(

@@ -2,7 +2,7 @@
 
 ghost use Rattle.std.specs.Prelude.{None};
 
-use crate::connections::{Media, MediaConnection, Task, connection_over, over_files};
+use crate::connections::{Media, MediaConnection, MediaStore, Task, connection_over, over_files};
 use crate::looking::{Found, copied_connection, look};
 use crate::medium::Medium;
 use crate::one_file::taken_for_store;
@@ -119,7 +119,7 @@ fn used_over<U: StoreUser>(
 
 // The settings at the place. If it is refused, what is under the connection is dropped. This is over any store, since a
 // real one would be dropped part by part.
-fn settings_of<S: Alter + Drop, P: StorePlace<Connection<S>> + Drop>(
+fn settings_of<S: Alter + Drop, P: StorePlace<S> + Drop>(
     alloc: Global,
     place: P,
     conn: Connection<S>,
@@ -182,15 +182,23 @@ impl StoreFiles<'_> {
     }
 }
 
-impl StorePlace<MediaConnection> for StoreFiles<'_> {
-    // What is asked of the system is not told.
+impl StorePlace<MediaStore> for StoreFiles<'_> {
+    // What is asked of the system is not told, and what its files hold when they are opened again is not known.
     ghost asked = { λ s. None };
+
+    ghost finds = { λ s db. Unit {0} };
+
+    ghost knows = { λ s. ⊥ };
 
     fn open(&mut self, _alloc: Global, telling: Telling) -> Result<MediaConnection, StoreFault> {
         match private_connection_at(self.rt, self.path) {
             Ok(conn) => Ok(conn),
             Err(refusal) => Err(fault_of(self, telling, refusal)),
         }
+    }
+
+    fn put_back(&mut self, store: MediaStore) {
+        drop(store);
     }
 
     fn close(&self, conn: MediaConnection) {
