@@ -164,7 +164,7 @@ impl Witness {
         };
         let is_taken = took(alloc, table, &event, orders);
         if is_taken && !note(pasts, &event, table.reading()) {
-            *fault = Some("a run was started beside another one of its label");
+            *fault = Some("a run was started while another one of its label was running");
         }
         drop(event);
         note_loads(pasts, table);

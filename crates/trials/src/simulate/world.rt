@@ -48,7 +48,7 @@ static REASONS: [&str; 5] = [
     "cannot open /log: permission denied",
     "cannot go to /home: not a directory",
     "cannot start /bin/x: out of memory",
-    "cannot open web: run 1: cannot tell: no such file or directory",
+    "cannot open web: run 1: cannot lie: no such file or directory",
 ];
 
 /// How much time passes, in milliseconds.
