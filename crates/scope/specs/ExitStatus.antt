@@ -2,6 +2,7 @@
 use Rattle.std.specs.Prelude.{◌≡◌, ◌==◌, ℕ, List, length, Bool, not, Option, Some, None, Result, Ok, Err, String, max}
 use Rattle.std.specs.String.{string_bytes}
 use Rattle.std.specs.IoError.{error_kind}
+use Rattle.std.specs.declared.alloc.Global.{Global}
 use Rattle.std.specs.declared.io.Error.{Error}
 use Rattle.exit_status.specs.declared.TheConstants.{USAGE, NO_MEMORY}
 use Rattle.command_words.specs.declared.command.WordFault.{WordFault}
@@ -29,11 +30,11 @@ status_by (Err error) = status_of_end (error_kind error)
 abbrev pub has_words : List (List ℕ) → Bool
 has_words words = not (length words == 0)
 
-module _ (Names : ScopeCommand → Result (Option String) Error → Type 0)
+module _ (Names : ScopeCommand → Result (Option (String Global)) Error → Type 0)
     (Tells : ScopeCommand → List ℕ → Result Statuses Error → Type 0)
     (Ends : Part → ScopeCommand → Result Statuses Error → Type 0) where
   -- with this file, or with none: the status file at the path was told of, or the journals
-  abbrev pub TellsOf : Result (Option String) Error → ScopeCommand → Result Statuses Error → Type 0
+  abbrev pub TellsOf : Result (Option (String Global)) Error → ScopeCommand → Result Statuses Error → Type 0
   TellsOf (Ok (Some path)) command ended = Tells command (string_bytes path) ended
   TellsOf (Ok None) command ended = Ends Journals command ended
   TellsOf (Err error) command ended = ended ≡ Err error
@@ -41,7 +42,7 @@ module _ (Names : ScopeCommand → Result (Option String) Error → Type 0)
   -- the command's own file, if it names one, was told of, and else the journals
   abbrev pub RunsBySource : ScopeCommand → Result Statuses Error → Type 0
   RunsBySource command ended =
-      (named : Result (Option String) Error) × Names command named × TellsOf named command ended
+      (named : Result (Option (String Global)) Error) × Names command named × TellsOf named command ended
 
   -- the part ran, or where there is none, the file or the journals were told of
   abbrev pub RunsPart : Option Part → ScopeCommand → Result Statuses Error → Type 0
@@ -66,6 +67,6 @@ module _ (Explained : Result ℕ Error → Type 0) (Ran : ScopeCommand → Resul
 
 -- The exit status of a run, if its parts answer so: the words mean something, and the status is that of the one
 -- part which they ask for.
-abbrev pub IsExit : (List String → Result Meaning WordFault → Type 0) → (List String → Result ℕ Error → Type 0) → (ScopeCommand → Result ℕ Error → Type 0) → List String → ℕ → Type 0
+abbrev pub IsExit : (List (String Global) → Result Meaning WordFault → Type 0) → (List (String Global) → Result ℕ Error → Type 0) → (ScopeCommand → Result ℕ Error → Type 0) → List (String Global) → ℕ → Type 0
 IsExit Means Explains Ran words status =
     (meaning : Result Meaning WordFault) × Means words meaning × Answers (Explains words) Ran meaning status

@@ -1,6 +1,7 @@
 //! The subcommands of `jobscope` as parts of one run: what each ends with.
 
 ghost use Rattle.std.specs.Prelude.{◌≡◌, ℕ, List, Option, Result, String as OwnText};
+ghost use Rattle.std.specs.declared.alloc.Global.{Global as Shared};
 ghost use Rattle.std.specs.declared.io.Error.{Error as IoFault};
 ghost use Rattle.command_words.specs.declared.command.WordFault.{WordFault as Fault};
 ghost use Rattle.command_words.specs.declared.scope_command.Meaning.{Meaning as Meant};
@@ -48,13 +49,13 @@ impl Statuses {
 /// What a run of `jobscope` may call. Of each call it is said what it may answer. An error is of memory, or of the standard output.
 pub trait Subcommands {
     /// The arguments may mean this.
-    ghost Means: { Self → List OwnText → Result Meant Fault → Type 0 };
+    ghost Means: { Self → List (OwnText Shared) → Result Meant Fault → Type 0 };
 
     /// To invalid arguments this may be answered.
-    ghost Explains: { Self → List OwnText → Result ℕ IoFault → Type 0 };
+    ghost Explains: { Self → List (OwnText Shared) → Result ℕ IoFault → Type 0 };
 
     /// For the command this status file may be named.
-    ghost Names: { Self → Asked → Result (Option OwnText) IoFault → Type 0 };
+    ghost Names: { Self → Asked → Result (Option (OwnText Shared)) IoFault → Type 0 };
 
     /// With the status file at the path the command may end so.
     ghost Tells: { Self → Asked → List ℕ → Result Both IoFault → Type 0 };
