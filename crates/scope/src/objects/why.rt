@@ -88,7 +88,7 @@ fn put_known(
             known,
         };
         if !around.foretells {
-            put_job(page, label, &job.record, &beside, around);
+            put_job(page, label, &job.record.known(), &beside, around);
             return fault.is_some();
         }
         beside.state = state_name(state_of(&facts.reasons));
