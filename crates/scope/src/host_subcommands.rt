@@ -25,6 +25,7 @@ const COUNT: u64 = 10;
 
 /// The subcommands of this process. Both `host` and `waits` are the runtime of `main`: only what takes it as `waits` may wait. Nothing is said of
 /// what the system gives them, so nothing of what they end with.
+#[derive(Drop)]
 pub struct HostSubcommands<'a, W> {
     pub host: &'a HostRuntime,
     pub waits: &'a W,
