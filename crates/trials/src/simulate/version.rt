@@ -168,7 +168,7 @@ fn note_fault(
             ("since", is_since(note.since, past, at)),
             ("run", note.run == past.run),
             ("starts", note.starts == past.starts),
-            ("failures", note.failures == past.failures),
+            ("unsuccessful", note.unsuccessful == past.failures),
             ("refusals", note.refusals == past.refusals),
             ("started", note.started == past.started),
             ("term", note.term == past.term),

@@ -1,10 +1,12 @@
 -- The answers to the goals of `pattern::first_index`.
 use Rattle.std.proofs.Common.{◌≡◌, ◌∷◌, [], codes, refl, sym, subst}
+use Rattle.std.specs.Fmt.{digits}
 use Rattle.sqlite.specs.Table.{Table}
 use Rattle.sqlite_catalog.specs.Listing.{automatic}
 use Rattle.override_store.proofs.pattern.first_index.Goals as goal
 
 pub key_index-requires : goal.key_index-requires
+unfolding digits
 key_index-requires c = subst (λ (t : Table). codes "sqlite_autoindex_overrides_1" ≡ (automatic t 0 (1 ∷ []) 1).name) (sym c.requires) refl
 
 pub returns : goal.returns

@@ -44,7 +44,7 @@ pub returns-in-Err-fit-clause-left : goal.returns-in-Err-fit-clause-left
 returns-in-Err-fit-clause-left g c known pending knows last db after =
     let finds = g.P.StorePlace.finds c.args.place.now in
     let conn = c.in-Ok.conn in
-    let below = c.put_back-in-Err-fit.ensures in
+    let below = c.put_back.ensures in
     let clean = below.clean knows in
     let early : HasCleanDisk (state g.S.Store conn) = omega (arith, clean, c.in-Err-fit.ensures.was_clean) in
     let found = c.in-Ok.ensures.found (below.old knows) early in
