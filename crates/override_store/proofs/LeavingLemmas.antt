@@ -1,5 +1,5 @@
 -- What a crash may leave at the place of a launcher's store.
-use Rattle.std.proofs.Common.{◌≡◌, ◌⊎◌, inl, inr, ℕ, Bool, List, [], ◌∷◌, Option, Some, None, refl, sym, ap, subst, ◌∙◌, arith, IsSomeAnd, IsTrue}
+use Rattle.std.proofs.Common.{◌≡◌, ◌⊎◌, inl, inr, ℕ, Bool, List, [], ◌∷◌, Option, Some, None, refl, sym, ap, subst, ◌∙◌, arith, IsSomeAnd, IsTrue, Result, Ok, Err, IfErr}
 use Rattle.std.proofs.lemmas.Bool.{cases_Bool}
 use Rattle.sqlite.specs.Effect.{Database}
 use Rattle.sqlite.specs.Held.{Held, state}
@@ -10,7 +10,7 @@ use Rattle.sqlite.specs.Tree.{Trees}
 use Rattle.sqlite_catalog.specs.Listing.{IsSound}
 use Rattle.override_store.specs.StoreTables.{both_schema}
 use Rattle.override_store.specs.declared.known.Known.{Known}
-use Rattle.override_store.specs.KnownSettings.{HasKnown, HasMade, HoldsKnown, HoldsTrees, TellAlike, known_as, settings_of, stamps_of}
+use Rattle.override_store.specs.KnownSettings.{AtHand, HasKnown, HasMade, HoldsKnown, HoldsTrees, TellAlike, known_as, settings_of, stamps_of}
 use Rattle.override_store.specs.OverrideStores.{AreFit, AreOurs, CommitsOpen, HasTables, HoldsAs, HoldsSetting, rows_now, setting_rows}
 use Rattle.override_store.specs.Places.{AreLastOr, IsFound, IsHonest, IsLastOr, LeavesAt}
 use Rattle.override_store.proofs.AgainLemmas.{moves_none}
@@ -129,3 +129,21 @@ module _ {S P : Type 0} (g : Ghosts S) (finds : P → Trees → Type 0) (knows :
   pub shut_at : (store shut : Option (Held S)) (s : Held S) (known : List Known) (pending : Option Known) → store ≡ None → shut ≡ Some s → AreLastOr (state g s).may_leave known pending → AreLastOr (LeavesAt g finds place store shut) known pending
   shut_at store shut s known pending none is last db may =
       last db (subst (λ (it : Option (Held S)). LeavesAt g finds place None it db) is (subst (λ (it : Option (Held S)). LeavesAt g finds place it shut db) none may))
+
+-- what stays is left as before: the place, what there is of a store, and what is known
+pub moved_at : {S P : Type 0} (g : Ghosts S) (finds : P → Trees → Type 0) (old new : P) (store store' shut shut' : Option (Held S)) (known known' : List Known) (pending : Option Known)
+    → new ≡ old → store' ≡ store → shut' ≡ shut → known' ≡ known
+    → AreLastOr (LeavesAt g finds old store shut) known pending → AreLastOr (LeavesAt g finds new store' shut') known' pending
+moved_at g finds old new store store' shut shut' known known' pending place stored shuts knows last =
+    subst (λ p. AreLastOr (LeavesAt g finds p store' shut') known' pending) (sym place)
+    (subst (λ s. AreLastOr (LeavesAt g finds old s shut') known' pending) (sym stored)
+    (subst (λ s. AreLastOr (LeavesAt g finds old store s) known' pending) (sym shuts)
+    (subst (λ k. AreLastOr (LeavesAt g finds old store shut) k pending) (sym knows) last)))
+
+pub known_at_hand : {S : Type 0} (g : Ghosts S) (store store' : Option (Held S)) (known known' : List Known) → store' ≡ store → known' ≡ known → AtHand g store known → AtHand g store' known'
+known_at_hand g store store' known known' stored knows held = subst (λ s. AtHand g s known') (sym stored) (subst (λ k. AtHand g store k) (sym knows) held)
+
+-- with what holds of any refusal
+pub with_any : {T E A B : Type 0} (r : Result T E) → A → IfErr r (λ _. B) → IfErr r (λ _. A × B)
+with_any (Ok value) always it = it
+with_any (Err error) always it = (always, it)
