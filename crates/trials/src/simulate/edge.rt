@@ -14,6 +14,7 @@ use live_loop::{Caller, Origin};
 use mio::{Registry, Token};
 use std::alloc::Global;
 use std::cell::RefCell;
+use std::fs::File;
 use std::io;
 use std::io::{ErrorKind, Write};
 use std::rc::Rc;
