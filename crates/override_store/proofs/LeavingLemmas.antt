@@ -144,6 +144,6 @@ pub known_at_hand : {S : Type 0} (g : Ghosts S) (store store' : Option (Held S))
 known_at_hand g store store' known known' stored knows held = subst (λ s. AtHand g s known') (sym stored) (subst (λ k. AtHand g store k) (sym knows) held)
 
 -- with what holds of any refusal
-pub with_any : {T E A B : Type 0} (r : Result T E) → A → IfErr r (λ _. B) → IfErr r (λ _. A × B)
-with_any (Ok value) always it = it
-with_any (Err error) always it = (always, it)
+pub with_any : {T E A : Type 0} (B : Type 0) (r : Result T E) → A → IfErr r (λ _. B) → IfErr r (λ _. A × B)
+with_any B (Ok value) always it = it
+with_any B (Err error) always it = (always, it)

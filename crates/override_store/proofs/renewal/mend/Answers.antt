@@ -16,4 +16,4 @@ returns-clause-left g c pending knows ours last db after =
     let late : HasCleanDisk (state g.S.Store c.mend-mended.new.self) = subst (λ h. HasCleanDisk (state g.S.Store h)) c.close_on.ensures closed in
     let early : HasCleanDisk (state g.S.Store c.args.store) = omega (arith, late, c.mend-mended.ensures.crash.clean) in
     let left = subst (λ h. (state g.S.Store h).may_leave db) c.close_on.ensures (c.into_store.ensures.quiet.outcomes db (c.put_back.ensures.left knows db after)) in
-    elim (c.mend-mended.ensures.crash late db left) [ inl before ↦ last db before | inr commits ↦ inl (commits.1 (ours early commits.0)) ]
+    elim (c.mend-mended.ensures.crash.crash late db left) [ inl before ↦ last db before | inr commits ↦ inl (commits.1 (ours early commits.0)) ]

@@ -13,5 +13,5 @@ returns-in-None-clause-lasts g c pending knows schema last =
 pub returns-in-None-clause-left : goal.returns-in-None-clause-left
 returns-in-None-clause-left g c pending knows schema last =
     let none = sym c.take.ensures.value ∙ c.in-None.is in
-    with_any c.open_anew.result c.open_anew.ensures.shut (c.open_anew.ensures.left pending knows schema (λ db may. last db (
+    with_any _ c.open_anew.result c.open_anew.ensures.shut (c.open_anew.ensures.left pending knows schema (λ db may. last db (
     subst (λ it. LeavesAt g.S.Store g.P.StorePlace.finds c.args.self.now.place it c.args.self.now.shut db) (sym none) may)))
