@@ -24,14 +24,6 @@ how_many_jobs [] = 0
 how_many_jobs (bind ∷ others) =
     if list_any (λ one. one == bind) others then how_many_jobs others else suc (how_many_jobs others)
 
--- what each of so many jobs can have of the room, one at least
-abbrev pub share_by : ℕ → ℕ → ℕ
-share_by in_all jobs = max 1 (in_all / max 1 jobs)
-
--- the room, where the jobs of these binds share it
-abbrev pub shared_room : CallerRoom → List ℕ → CallerRoom
-shared_room room binds = record room { share = share_by room.in_all (how_many_jobs binds) }
-
 -- the job has the most clients that a job may have
 unfoldable pub is_at_bound : CallerRoom → List Heard → ℕ → Bool
 is_at_bound room callers bind = nat_le room.of_a_job (own callers bind)

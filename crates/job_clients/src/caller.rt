@@ -2,7 +2,6 @@
 
 ghost use Rattle.std.specs.Prelude.{◌≡◌};
 ghost use Rattle.job_clients.specs.Callers.{Hears, Takes, WaitsOrLost};
-ghost use Rattle.job_clients.specs.Crowds.{came_before};
 
 use crate::losses::Loss;
 use crate::sender::Sender;
@@ -59,9 +58,7 @@ pub struct Caller<C = Client> {
 impl<C> Caller<C> {
     /// The `up` at which it counts as come, for a client that comes now by this bind. If it is of the same job and its
     /// request is whole, it counts as come at this `up`.
-    pub(crate) fn came_before(&self, bind: u64, up: u64) -> u64
-        ensures { result ≡ came_before bind up self.now }
-    {
+    pub(crate) fn came_before(&self, bind: u64, up: u64) -> u64 {
         if self.turn.is_some() && self.origin.bind == bind {
             up
         } else {

