@@ -248,6 +248,85 @@ def a_closed_journal_and_labels_like_lines(stage):
     launcher.shut_down()
 
 
+def since_when_idle_jobs_are_as_they_are(stage):
+    """A job without a start is as it is since its load, whenever the file is written next, and whatever other job had its number or left meanwhile."""
+    launcher, path = serve(stage)
+    wait_for(lambda: told(path), "no file is written")
+    begun = time.monotonic()
+    launcher.load(shell_job("a", "exec sleep 600", RunAtLoad=True))
+    launcher.load(shell_job("b", "exec sleep 600"))
+    loaded = time.monotonic() - begun
+    first = job_where(path, "a", lambda job: job["state"] == "running")["since"]
+    other = job_where(path, "b", lambda job: True)
+    # (a pass has one clock reading, and the file of both is written a second after that of the first alone)
+    most = loaded * 1000 + 150
+    check(0 <= other["since"]["up"] - first["up"] <= most, f"loaded within {most:.0f} ms, it is so since {other['since']}, the first since {first}")
+    check(other["started"] is None and other["last_end"] is None and other["starts"] == 0, f"what became of it: {other}")
+    for _ in range(3):
+        launcher.ask({"req": "unload", "job": "a"})
+        wait_for(lambda: "a" not in told(path)[1], "it is not removed")
+        launcher.load(shell_job("a", "exec sleep 600", RunAtLoad=True))
+        job_where(path, "a", lambda job: job["starts"] == 1 and job["last_end"] is None)
+    check(job_where(path, "b", lambda job: True)["since"] == other["since"], "it changed while others came and left")
+    launcher.shut_down()
+
+
+def the_first_job_is_there_at_once(stage):
+    """The first job is in the file of the pass in which it was loaded, though the empty file is younger than a second."""
+    launcher, path = serve(stage)
+    wait_for(lambda: told(path), "no file is written")
+    launcher.load(shell_job("first", "exec sleep 600"))
+    wait_for(lambda: told(path)[1], "the job is not told")
+    at, jobs = told(path)
+    check(at["at"] == jobs["first"]["since"], f"it was loaded at {jobs['first']['since']}, and told at {at['at']}")
+    launcher.shut_down()
+
+
+def a_store_that_takes_settings_again(stage):
+    """What the store refused is told until a later setting is stored; what stores none changes nothing of that."""
+    launcher, path = serve(stage, shell="trap '' XFSZ")
+    check(launcher.ask({"req": "disable", "job": "one"})["code"] == 0, "a setting of a sound disk is refused")
+    limits = resource.prlimit(launcher.pid, resource.RLIMIT_FSIZE)
+
+    def store_where(fact, what):
+        return wait_for(lambda: told(path) and fact(told(path)[0]["store"]), lambda: f"{what}: {text_at(path)!r}")
+    store_where(lambda store: store is None, "it tells a refusal before there was one")
+    resource.prlimit(launcher.pid, resource.RLIMIT_FSIZE, (4096, limits[1]))
+    check(launcher.ask({"req": "disable", "job": "two"})["code"] == 9, "a setting is stored on a full disk")
+    resource.prlimit(launcher.pid, resource.RLIMIT_FSIZE, limits)
+    store_where(lambda store: store, "it tells no refusal")
+    launcher.load(shell_job("job", "exec sleep 600"))
+    launcher.ask({"req": "start", "job": "job"})
+    job_where(path, "job", lambda job: job["state"] == "running")
+    check(told(path)[0]["store"], "a load and a start took it for mended")
+    check(launcher.ask({"req": "enable", "job": "two"})["code"] == 0, "a mended disk takes no setting")
+    store_where(lambda store: store is None, "a refusal stays told once a setting was stored")
+    launcher.shut_down()
+
+
+def a_closing_is_told_by_its_own_pass(stage):
+    """The file of the pass in which the journal closes tells it closed: between the file before and that one is none that tells the event and an open journal."""
+    launcher, path = serve(stage, journal="journal", shell="trap '' XFSZ")
+    wait_for(lambda: told(path), "no file is written")
+    launcher.load(shell_job("a", "exec sleep 600"))
+    job_where(path, "a", lambda job: True)
+    while os.path.getsize(stage.at("journal")) < 65536:
+        launcher.ask({"req": "print", "job": "a"})
+    for _ in range(2):
+        before = told(path)[0]["at"]
+        launcher.ask({"req": "list"})
+        wait_for(lambda: told(path)[0]["at"] != before, "it is not written again")
+    time.sleep(1.2)
+    before = told(path)[0]
+    check(before["journal"] == "open", f"the journal is {before['journal']}")
+    limits = resource.prlimit(launcher.pid, resource.RLIMIT_FSIZE)
+    resource.prlimit(launcher.pid, resource.RLIMIT_FSIZE, (os.path.getsize(stage.at("journal")), limits[1]))
+    launcher.ask({"req": "start", "job": "a"})
+    first = wait_for(lambda: told(path)[0]["at"] != before["at"] and told(path), "it is not written again")
+    check(first[0]["journal"] == "closed" and first[1]["a"]["starts"] == 1, f"the file after the event: {first}")
+    launcher.shut_down()
+
+
 def who_may_read_a_status_file(stage):
     """The group that JOBD_STATUS_GROUP names by its number may read it, and what tells the places; the lock nobody else. One that this user may not give a file
     to is told, and the file is written without; a word that is no number names none."""
@@ -770,6 +849,10 @@ SCENES = [
     which_definition_is_loaded,
     what_tells_a_launchers_places,
     a_closed_journal_and_labels_like_lines,
+    since_when_idle_jobs_are_as_they_are,
+    the_first_job_is_there_at_once,
+    a_store_that_takes_settings_again,
+    a_closing_is_told_by_its_own_pass,
     who_may_read_a_status_file,
     a_journal_that_is_renamed,
     a_status_file_rests, a_large_status_file,

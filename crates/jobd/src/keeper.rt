@@ -3,7 +3,7 @@
 ghost use Rattle.std.specs.Prelude.{◌≡◌, true};
 ghost use Rattle.jobd.specs.Standings.{IsStatusText};
 
-use crate::loaded_definition::load_in;
+use crate::loaded_definition::{load_in, writes_setting};
 use crate::own_process::OwnProcess;
 use history_model::{JobNo, Reading, Refusal, Text};
 use job_table::JobTable;
@@ -43,6 +43,9 @@ pub struct Keeper {
     has_journal: bool,
     is_closed: bool,
     has_refused: bool,
+    // Whether the file has had a job, and whether its text is due. If it is not, the table is only looked at.
+    has_told: bool,
+    is_due: bool,
     pub(crate) notes: RunNotes,
     order: Vec<JobNo>,
     pub(crate) text: StatusText,
@@ -64,20 +67,44 @@ impl Keeper {
             has_journal,
             is_closed: false,
             has_refused: false,
+            has_told: false,
+            is_due: false,
             notes: RunNotes::new(alloc, at),
             order: Vec::new(alloc),
             text: StatusText::new(alloc),
         }
     }
 
-    /// The journal is closed.
-    pub(crate) fn close(&mut self) {
+    /// The journal is closed. True: that was not known.
+    pub(crate) fn close(&mut self) -> bool {
+        let is_new = !self.is_closed;
         self.is_closed = true;
+        is_new
     }
 
-    /// A client was answered: with a refusal, or well.
-    pub(crate) fn replied(&mut self, refusal: Option<Refusal>) {
-        self.has_refused = self.has_refused || refusal == Some(Refusal::StoreRefused);
+    /// A client's line was answered: with a refusal, or well. What the store refused last is in the file until a later setting is stored.
+    pub(crate) fn replied(&mut self, line: &[u8], refusal: Option<Refusal>) {
+        if refusal == Some(Refusal::StoreRefused) {
+            self.has_refused = true;
+        } else if self.has_refused && refusal.is_none() {
+            self.has_refused = !writes_setting(self.alloc, line);
+        }
+    }
+
+    /// Whether the first jobs were loaded, and the file had none so far. Then it is written at once.
+    pub(crate) fn is_urgent(&self) -> bool {
+        !self.has_told && self.notes.has_unseen()
+    }
+
+    /// Whether it has to see the table in this pass: its text is due, or a load was accepted.
+    pub(crate) fn must_see(&mut self, is_due: bool) -> bool {
+        self.is_due = is_due;
+        is_due || self.notes.has_unseen()
+    }
+
+    /// Whether its text was due in this pass.
+    pub(crate) fn was_due(&self) -> bool {
+        self.is_due
     }
 
     /// A load was accepted, which this line asked for.
@@ -91,11 +118,23 @@ impl Keeper {
         }
     }
 
-    /// Writes the text of the file again. False: it found no memory.
+    /// Sees the table, and writes the text of the file again, if that is due. False: it was not, or found no memory.
     pub(crate) fn write(&mut self, table: &JobTable, at: Reading) -> bool
         ensures { result ≡ true → IsStatusText table.now self.new.text.bytes.items }
     {
         self.notes.see_all(table);
+        if self.is_due {
+            self.write_text(table, at)
+        } else {
+            false
+        }
+    }
+
+    fn write_text(&mut self, table: &JobTable, at: Reading) -> bool
+        ensures { result ≡ true → IsStatusText table.now self.new.text.bytes.items }
+    {
+        let jobs = job_count(table);
+        self.has_told = self.has_told || jobs > 0;
         self.text.clear();
         let journal = journal_of(self.has_journal, self.is_closed);
         let store = refused_by(self.has_refused);
@@ -107,7 +146,7 @@ impl Keeper {
             at,
             journal,
             store,
-            jobs: job_count(table),
+            jobs,
         };
         add_launcher(&mut self.text, self.alloc, &launcher);
         add_jobs(

@@ -1,4 +1,4 @@
-//! The label and the digest of a definition that a line asks to load.
+//! What a client's line asked for: the label and the digest of a definition to be loaded, or a setting.
 
 use ctl_protocol::{LineRoom, Request, read_request};
 use definition_digest::{DefinitionDigest, digest_of_value};
@@ -27,6 +27,32 @@ pub(crate) fn load_in(alloc: Global, line: &[u8]) -> Result<Option<LoadedDefinit
     };
     drop(room);
     found
+}
+
+/// Whether the line asks for a setting, alone or with a load or an unload. False also if there was no memory to read it.
+pub(crate) fn writes_setting(alloc: Global, line: &[u8]) -> bool {
+    let Ok(mut room) = LineRoom::new(alloc) else {
+        return false;
+    };
+    let is_setting = match read_request(alloc, line, &mut room) {
+        Ok(request) => {
+            let is_setting = asks_setting(&request);
+            drop(request);
+            is_setting
+        }
+        Err(_) => false,
+    };
+    drop(room);
+    is_setting
+}
+
+fn asks_setting(request: &Request<'_>) -> bool {
+    match request {
+        Request::Load(load) => load.writes_setting,
+        Request::Unload { writes_setting, .. } => *writes_setting,
+        Request::Set { .. } => true,
+        _ => false,
+    }
 }
 
 fn load_of(alloc: Global, request: &Request<'_>) -> Result<Option<LoadedDefinition>, AllocError> {

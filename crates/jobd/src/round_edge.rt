@@ -96,15 +96,16 @@ pub trait RoundEdge: ChildEdge + SleepEdge + PathEdge + SocketEdge {
     /// Why the last start was refused, as the edge puts it; none if it went well.
     fn start_refusal(&self) -> Option<&str>;
 
-    /// A client was answered: with this refusal, or well. `load` is its line, if that is a load and was accepted.
-    fn note_reply(&mut self, load: Option<&[u8]>, refusal: Option<Refusal>)
+    /// A client's line was answered: with this refusal, or well. `has_loaded`: it is a load, and was accepted.
+    fn note_reply(&mut self, line: &[u8], has_loaded: bool, refusal: Option<Refusal>)
         ensures told { Self.told self.new ≡ Self.told self.old };
 
     /// The journal is closed.
     fn note_closing(&mut self)
         ensures told { Self.told self.new ≡ Self.told self.old };
 
-    /// What keeps the status file, if it must be written at this clock reading, for which the launcher had no memory if `is_short`. `hand` gives it back.
+    /// What keeps the status file, if it must be written at this clock reading, or must see what was loaded. The launcher had no memory for the clock
+    /// reading if `is_short`. `hand` gives it back.
     fn lend_keeper(&mut self, at: Reading, is_short: bool, has_changed: bool) -> Option<Keeper>
         ensures told { Self.told self.new ≡ Self.told self.old };
 
@@ -193,7 +194,7 @@ impl<R: System> RoundEdge for OsEdge<R> {
         OsEdge::start_refusal(self)
     }
 
-    fn note_reply(&mut self, _load: Option<&[u8]>, refusal: Option<Refusal>) {
+    fn note_reply(&mut self, _line: &[u8], _has_loaded: bool, refusal: Option<Refusal>) {
         OsEdge::note_answer(self, refusal == Some(Refusal::NoMemory));
     }
 

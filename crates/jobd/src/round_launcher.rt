@@ -174,15 +174,6 @@ impl<T: SettingStore, E: ChildEdge + SocketEdge, W: Write> RoundLauncher<T, E, W
         reply
     }
 
-    // The line that was answered last, if it is a load and was accepted.
-    fn load_in<'a>(&self, line: &'a [u8]) -> Option<&'a [u8]> {
-        if self.host.has_loaded() {
-            Some(line)
-        } else {
-            None
-        }
-    }
-
     // Delivers what happened, and gives why it was refused.
     fn tell(&mut self, alloc: Global, input: Input<'_>) -> Option<Refusal>
         ensures memory { is_memory result ≡ true → wants_memory input.entry ≡ true }
@@ -248,8 +239,8 @@ impl<T: SettingStore, E: RoundEdge, W: Write> Answers for RoundLauncher<T, E, W>
 
     fn answer(&mut self, alloc: Global, line: &[u8]) -> Reply {
         let reply = self.answer_line(alloc, line);
-        let load = self.load_in(line);
-        self.host.edge().note_reply(load, reply.refusal);
+        let has_loaded = self.host.has_loaded();
+        self.host.edge().note_reply(line, has_loaded, reply.refusal);
         reply
     }
 }

@@ -100,6 +100,11 @@ impl<R: System> StandingFile<R> {
         self.has_changed && !is_soon && !self.is_going
     }
 
+    /// The next change is written at once, also within a second.
+    pub(crate) fn hurry(&mut self) {
+        self.tried = None;
+    }
+
     /// What it says has changed since it was written.
     pub(crate) fn note_change(&mut self) {
         self.has_changed = true;

@@ -309,11 +309,11 @@ impl<E: RoundEdge, R: System> RoundEdge for StatusEdge<E, R> {
         self.edge.start_refusal()
     }
 
-    fn note_reply(&mut self, load: Option<&[u8]>, refusal: Option<Refusal>) {
-        self.edge.note_reply(load, refusal);
+    fn note_reply(&mut self, line: &[u8], has_loaded: bool, refusal: Option<Refusal>) {
+        self.edge.note_reply(line, has_loaded, refusal);
         if let Some(keeper) = &mut self.keeper {
-            keeper.replied(refusal);
-            if let Some(line) = load {
+            keeper.replied(line, refusal);
+            if has_loaded {
                 keeper.loaded(line);
             }
         }
@@ -323,11 +323,14 @@ impl<E: RoundEdge, R: System> RoundEdge for StatusEdge<E, R> {
         if let Some(journal) = &mut self.journal {
             journal.end();
         }
-        if let Some(keeper) = &mut self.keeper {
-            keeper.close();
-        }
+        let is_new = match &mut self.keeper {
+            Some(keeper) => keeper.close(),
+            None => false,
+        };
         if let Some(file) = &mut self.file {
-            file.note_change();
+            if is_new {
+                file.note_change();
+            }
         }
     }
 
@@ -340,7 +343,12 @@ impl<E: RoundEdge, R: System> RoundEdge for StatusEdge<E, R> {
             journal.look(at.up);
         }
         let file = self.file.as_mut()?;
-        if file.is_due(at, has_changed) {
+        let keeper = self.keeper.as_mut()?;
+        if keeper.is_urgent() {
+            file.hurry();
+        }
+        let is_due = file.is_due(at, has_changed);
+        if keeper.must_see(is_due) {
             self.keeper.take()
         } else {
             None
@@ -351,7 +359,7 @@ impl<E: RoundEdge, R: System> RoundEdge for StatusEdge<E, R> {
         if let Some(file) = &mut self.file {
             if is_whole {
                 file.begin(keeper.text.as_slice(), at);
-            } else {
+            } else if keeper.was_due() {
                 file.put_off(at);
             }
         }

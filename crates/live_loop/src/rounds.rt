@@ -162,8 +162,17 @@ fn serve_clients<R: System, H: LoopHost>(rt: &R, alloc: Global, live: &mut Live<
         .sockets
         .gather(alloc, &mut live.host, &mut live.rooms.label, &mut time);
     let is_asking = serve_again(rt, alloc, live, time.has_time(), was_asking);
-    let is_taking = live.host.forward();
+    let is_taking = forward(live);
     live.is_busy = is_asking || is_sending || is_taking || live.next_child > 0;
+}
+
+// Sends on what goes out, the status file too. Before it asks whether the journal was closed in this pass, so that the file says it.
+fn forward<H: LoopHost>(live: &mut Live<H>) -> bool
+    ensures asks { Asks H.Asked live.old.host live.new.host }
+    ensures kept { IsKeptBy live.old live.new }
+{
+    live.has_journal_closed = live.has_journal_closed | live.host.report_journal_closing();
+    live.host.forward()
 }
 
 // Serves control clients once more, if there was no time for the others.

@@ -10,6 +10,7 @@ mod drift;
 mod ended;
 mod errors;
 mod journal;
+mod known_runs;
 mod left;
 mod listener;
 mod log;

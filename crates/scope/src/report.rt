@@ -10,11 +10,10 @@ use crate::clock::now;
 use crate::drift::drift_of;
 use crate::errors::{add_errors, put_errors};
 use crate::journal::fault::{JournalFault, tell_fault, tell_long};
-use crate::journal::job::Record;
 use crate::journal::lines::JournalLines;
 use crate::journal::reader::OpenJournal;
-use crate::journal::run::RunEnd;
 use crate::journal::source::{INPUT, journal_paths, read_journal, tell_bad};
+use crate::known_runs::KnownRuns;
 use crate::listener::{JournalListener, zone_shown};
 use crate::log::follow;
 use crate::objects::runs::runs_objects;
@@ -34,7 +33,7 @@ use calendar_due::Zone;
 use definition_files::check::put_seen;
 use definition_files::tell_clockless;
 use exit_status::BAD_FILE;
-use history_model::Text;
+use history_model::{Ended, Text};
 use launchctl_words::{ScopeCommand, Task};
 use run_times::picture::{Beside, Chart, blocks_text, picture_piece};
 use run_times::telling::{put, put_made, put_outcome, tell_of};
@@ -383,14 +382,14 @@ fn put_next(
 
 // Why what a start needs may be missing: its last start was refused, or its last run exited with 126 or 127. A shell or a wrapper command exits with
 // 126 if it can't run the program, and with 127 if the program is missing. None otherwise.
-fn why_sought(record: &Record) -> Option<&'static str> {
-    match (&record.refused, &record.last) {
+fn why_sought(runs: &KnownRuns<'_>) -> Option<&'static str> {
+    match (&runs.refused, &runs.last) {
         (Some(_), _) => Some("whose last start was refused"),
-        (None, Some(run)) => match run.end {
-            RunEnd::Code(126) => {
+        (None, Some(last)) => match last.how {
+            Ended::Code(126) => {
                 Some("whose last run ended with 126, as a program that may not be run")
             }
-            RunEnd::Code(127) => {
+            Ended::Code(127) => {
                 Some("whose last run ended with 127, as a program that is not there")
             }
             _ => None,
@@ -410,7 +409,7 @@ fn put_now(
         let label = label.as_str();
         if let (Some(def), Some(why), true) = (
             &job.def,
-            why_sought(&job.record),
+            why_sought(&job.record.known()),
             is_named(labels, label),
         ) {
             let mut ink = Ink::new(alloc);

@@ -26,8 +26,8 @@ use Rattle.status_file.specs.declared.status.DisabledBy.TheVariants.{Definition,
 use Rattle.status_file.specs.declared.status.JobKeys.{JobKeys}
 use Rattle.status_file.specs.declared.status.JobNote.{JobNote}
 use Rattle.status_file.specs.declared.status.JobStatus.{JobStatus}
-use Rattle.status_file.specs.declared.status.RefusedStart.{RefusedStart}
-use Rattle.status_file.specs.declared.status.RunEnd.{RunEnd}
+use Rattle.run_log.specs.declared.facts.RefusedStart.{RefusedStart}
+use Rattle.run_log.specs.declared.facts.RunEnd.{RunEnd}
 
 -- ---- pieces
 
@@ -210,7 +210,7 @@ loaded_tokens by definition =
 abbrev pub front_tokens : JobStatus → List Token
 front_tokens j =
     name_tokens j.label.now (state_by_reasons j.facts.reasons)
-    ++ (counts_tokens (child_pid j.facts.reasons.child) j.note.run j.note.starts j.note.failures j.note.refusals
+    ++ (counts_tokens (child_pid j.facts.reasons.child) j.note.run j.note.starts j.note.unsuccessful j.note.refusals
     j.facts.reasons.wants.connections
     ++ loaded_tokens j.disabled j.note.definition)
 

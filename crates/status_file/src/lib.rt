@@ -23,9 +23,9 @@ pub use jobs::{add_jobs, job_count};
 pub use line::StatusText;
 pub use names::state_name;
 pub use read::{StatusFault, StatusLine, read_line};
+pub use run_log::{RefusedStart, RunEnd};
 pub use run_notes::RunNotes;
 pub use status::{
-    DisabledBy, JobKeys, JobNote, JobStatus, JournalStatus, KeyPaths, LauncherStatus, RefusedStart,
-    RunEnd, state_of,
+    DisabledBy, JobKeys, JobNote, JobStatus, JournalStatus, KeyPaths, LauncherStatus, state_of,
 };
 pub use write::add_launcher;

@@ -189,7 +189,7 @@ fn note_in<'a>(fields: &mut Fields<'a>) -> JobNote<'a> {
         since: reading_in(fields, "since"),
         run: fields.count("run"),
         starts: fields.count("starts"),
-        failures: fields.count("failures"),
+        unsuccessful: fields.count("failures"),
         refusals: fields.count("refusals"),
         started: reading_if(fields, "started"),
         term: reading_if(fields, "term"),

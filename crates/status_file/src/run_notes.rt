@@ -1,93 +1,33 @@
-//! What is known of the runs of each loaded job: a small record next to the table, which is dropped once its job is removed.
+//! What is known of the runs of each loaded job: a recorder next to the table, which is dropped once its job is removed.
 
 use crate::jobs::{NUMBERS, is_loaded, job_of};
-use crate::status::{JobNote, RefusedStart, RunEnd};
+use crate::status::JobNote;
 use history_model::{Ended, JobNo, Reading, Text};
 use job_table::JobTable;
+use run_log::{RunFacts, RunItem, RunLog};
 use std::alloc::{AllocError, Global};
 use std::mem;
 
-/// What is counted of the runs of a job.
-#[derive(Clone, Copy)]
-struct Counted {
-    since: Reading,
-    run: u64,
-    starts: u64,
-    failures: u64,
-    refusals: u64,
-    started: Option<Reading>,
-    term: Option<Reading>,
-    kill: Option<Reading>,
-    last_end: Option<RunEnd>,
-    succeeded: Option<Reading>,
-    // The run of the last start that was refused, and when that was.
-    refused: Option<(u64, Reading)>,
-}
-
-impl Counted {
-    fn new(at: Reading) -> Counted {
-        Counted {
-            since: at,
-            run: 0,
-            starts: 0,
-            failures: 0,
-            refusals: 0,
-            started: None,
-            term: None,
-            kill: None,
-            last_end: None,
-            succeeded: None,
-            refused: None,
-        }
-    }
-
-    // The start of a run was ordered.
-    fn order(&mut self, run: u64, at: Reading) {
-        self.since = at;
-        self.run = run;
-        self.starts = self.starts.saturating_add(1);
-        self.started = Some(at);
-        self.term = None;
-        self.kill = None;
-    }
-
-    // It was refused.
-    fn refuse(&mut self, run: u64, at: Reading) {
-        self.failures = self.failures.saturating_add(1);
-        self.refusals = self.refusals.saturating_add(1);
-        self.refused = Some((run, at));
-    }
-}
-
-/// What is known of a job since its load.
+/// What is known of one load of a job.
 #[derive(Drop)]
 struct RunNote {
-    counted: Counted,
-    // Why the last refused start was refused, if the edge gave a reason.
-    reason: Option<Text>,
+    log: RunLog,
     // The digest of its definition.
     definition: Option<Text>,
 }
 
 impl RunNote {
-    fn new(at: Reading) -> RunNote {
+    fn new(loaded: Reading) -> RunNote {
         RunNote {
-            counted: Counted::new(at),
-            reason: None,
+            log: RunLog::new(loaded),
             definition: None,
         }
     }
-}
 
-// The digest of the last of the loads that has this label.
-fn last_load<'a>(loads: &'a [Load], label: &str) -> Option<&'a str> {
-    let mut last = None;
-    for load in loads {
-        if load.label.as_str() == label {
-            last = Some(load.definition.as_str());
-        }
+    // Whether a start of this number may be of the same load: run 1 is the first start of a load.
+    fn may_order(&self, run: u64) -> bool {
+        run > 1 || self.log.facts().starts == 0
     }
-    last
 }
 
 fn lent(text: &Option<Text>) -> Option<&str> {
@@ -104,58 +44,80 @@ struct Load {
     definition: Text,
 }
 
+// The digest of the last of the loads that has this label.
+fn last_load<'a>(loads: &'a [Load], label: &str) -> Option<&'a str> {
+    let mut last = None;
+    for load in loads {
+        if load.label.as_str() == label {
+            last = Some(load.definition.as_str());
+        }
+    }
+    last
+}
+
 /// How many loads are kept until their jobs are seen.
 const LOADS: usize = 1_024;
 
-/// What is known of all loaded jobs, by their numbers. It keeps nothing of a job that was removed. Want of memory leaves a job out.
+/// What is known of all loaded jobs, a recorder for each load. The number of a job is another's once the job is removed, so its recorder is dropped with
+/// it. The first start of a load never goes to the recorder of another load. Want of memory leaves a job out.
 #[derive(Drop)]
 pub struct RunNotes {
     alloc: Global,
     jobs: Vec<Option<RunNote>>,
     // In their order, since the jobs were seen last.
     loads: Vec<Load>,
+    // Whether a load was accepted since then.
+    has_loaded: bool,
     /// The present clock reading.
     pub at: Reading,
 }
 
 impl RunNotes {
+    /// Nothing was heard yet.
     pub fn new(alloc: Global, at: Reading) -> RunNotes {
         RunNotes {
             alloc,
             jobs: Vec::new(alloc),
             loads: Vec::new(alloc),
+            has_loaded: false,
             at,
         }
     }
 
-    // The place of a job is made, if there is memory for it.
+    // A job that has no recorder gets one, if there is memory for it. It is taken as loaded at the present clock reading.
     fn make_place(&mut self, job: JobNo) {
-        let place = job as usize;
         if job >= NUMBERS {
             return;
         }
-        for _ in self.jobs.len()..place + 1 {
+        for _ in self.jobs.len()..job as usize + 1 {
             if self.jobs.push(None).is_err() {
                 return;
             }
         }
         let at = self.at;
-        if let Some(slot) = self.jobs.get_mut(place) {
+        if let Some(slot) = self.jobs.get_mut(job as usize) {
             if slot.is_none() {
                 *slot = Some(RunNote::new(at));
             }
         }
     }
 
-    fn note(&mut self, job: JobNo) -> Option<&mut RunNote> {
-        self.make_place(job);
+    // What happened to a job that has its recorder.
+    fn note(&mut self, job: JobNo, item: RunItem) {
+        let at = self.at;
         match self.jobs.get_mut(job as usize) {
-            Some(slot) => slot.as_mut(),
-            None => None,
+            Some(Some(note)) => note.log.note(item, at),
+            _ => drop(item),
         }
     }
 
-    /// Each loaded job of the table has its place. One that had none was loaded since this was called last.
+    /// Whether a load was accepted since the table was seen last.
+    pub fn has_unseen(&self) -> bool {
+        self.has_loaded
+    }
+
+    /// Each loaded job of the table has its recorder. One that had none was loaded since this was called last. So that it is known when, this is called
+    /// at the clock reading of each load.
     pub fn see_all(&mut self, table: &JobTable) {
         for job in 0..NUMBERS {
             if is_loaded(table, job) {
@@ -165,10 +127,12 @@ impl RunNotes {
         if !self.loads.is_empty() {
             self.define_all(table);
         }
+        self.has_loaded = false;
     }
 
     /// A load of this label was accepted. The digest is that of its definition.
     pub fn loaded(&mut self, label: &str, definition: &str) {
+        self.has_loaded = true;
         if self.loads.len() >= LOADS {
             return self.forget_loads();
         }
@@ -180,6 +144,7 @@ impl RunNotes {
 
     /// A load was accepted of which nothing is known. It may be a load of a label that was loaded just before, so those loads are forgotten too.
     pub fn forget_loads(&mut self) {
+        self.has_loaded = true;
         self.loads.clear();
     }
 
@@ -218,62 +183,48 @@ impl RunNotes {
 
     /// A run was started.
     pub fn started(&mut self, job: JobNo, run: u64) {
-        let at = self.at;
-        if let Some(note) = self.note(job) {
-            note.counted.order(run, at);
-        }
+        self.order(job, run);
+        self.note(job, RunItem::Begun);
     }
 
     /// The start of a run was refused, for this reason if the edge gave one.
     pub fn refused(&mut self, job: JobNo, run: u64, reason: Option<&str>) {
-        let (alloc, at) = (self.alloc, self.at);
-        let Some(note) = self.note(job) else {
-            return;
-        };
-        note.counted.order(run, at);
-        note.counted.refuse(run, at);
+        self.order(job, run);
         let kept = match reason {
-            Some(reason) => Text::copy_of(alloc, reason).ok(),
+            Some(reason) => Text::copy_of(self.alloc, reason).ok(),
             None => None,
         };
-        drop(mem::replace(&mut note.reason, kept));
+        self.note(job, RunItem::Refused(run, kept));
+    }
+
+    // What was kept of another load under the number of this job goes at its first start.
+    fn order(&mut self, job: JobNo, run: u64) {
+        if let Some(slot) = self.jobs.get_mut(job as usize) {
+            let is_kept = match slot {
+                Some(note) => note.may_order(run),
+                None => true,
+            };
+            if !is_kept {
+                drop(slot.take());
+            }
+        }
+        self.make_place(job);
+        self.note(job, RunItem::Ordered(run));
     }
 
     /// TERM was ordered.
     pub fn termed(&mut self, job: JobNo) {
-        let at = self.at;
-        if let Some(note) = self.note(job) {
-            note.counted.term = note.counted.term.or(Some(at));
-        }
+        self.note(job, RunItem::Termed);
     }
 
     /// KILL was ordered.
     pub fn killed(&mut self, job: JobNo) {
-        let at = self.at;
-        if let Some(note) = self.note(job) {
-            note.counted.kill = Some(at);
-        }
+        self.note(job, RunItem::Killed);
     }
 
     /// A run ended.
     pub fn ended(&mut self, job: JobNo, run: u64, how: Ended) {
-        let at = self.at;
-        let Some(note) = self.note(job) else {
-            return;
-        };
-        let counted = &mut note.counted;
-        if how == Ended::Code(0) {
-            counted.succeeded = Some(at);
-        } else {
-            counted.failures = counted.failures.saturating_add(1);
-        }
-        counted.since = at;
-        counted.last_end = Some(RunEnd {
-            run,
-            how,
-            began: counted.started.unwrap_or(at),
-            ended: at,
-        });
+        self.note(job, RunItem::Exited(run, how));
     }
 
     /// The job was removed.
@@ -285,27 +236,27 @@ impl RunNotes {
 
     /// What is known of this job since its load.
     pub(crate) fn of(&self, job: JobNo) -> JobNote<'_> {
-        let (counted, reason, definition) = match self.jobs.get(job as usize) {
-            Some(Some(note)) => (note.counted, lent(&note.reason), lent(&note.definition)),
-            _ => (Counted::new(self.at), None, None),
-        };
-        let refused = match counted.refused {
-            Some((run, at)) => Some(RefusedStart { run, reason, at }),
-            None => None,
-        };
-        JobNote {
-            since: counted.since,
-            run: counted.run,
-            starts: counted.starts,
-            failures: counted.failures,
-            refusals: counted.refusals,
-            started: counted.started,
-            term: counted.term,
-            kill: counted.kill,
-            last_end: counted.last_end,
-            succeeded: counted.succeeded,
-            refused,
-            definition,
+        match self.jobs.get(job as usize) {
+            Some(Some(note)) => note_of(note.log.facts(), lent(&note.definition)),
+            _ => note_of(RunFacts::of_load(self.at), None),
         }
+    }
+}
+
+// The part of a line that says it.
+fn note_of<'a>(facts: RunFacts<'a>, definition: Option<&'a str>) -> JobNote<'a> {
+    JobNote {
+        since: facts.since,
+        run: facts.run,
+        starts: facts.starts,
+        unsuccessful: facts.failures.saturating_add(facts.refusals),
+        refusals: facts.refusals,
+        started: facts.started,
+        term: facts.term,
+        kill: facts.kill,
+        last_end: facts.last_end,
+        succeeded: facts.succeeded,
+        refused: facts.refused,
+        definition,
     }
 }

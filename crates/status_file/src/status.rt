@@ -5,7 +5,8 @@ ghost use Rattle.status_file.specs.States.{state_by_reasons};
 
 use crate::facts::JobFacts;
 use history_model::definition::{Def, PathState};
-use history_model::{Act, Ended, JobState, Reading, Reasons, Text};
+use history_model::{Act, JobState, Reading, Reasons, Text};
+pub(crate) use run_log::{RefusedStart, RunEnd};
 
 /// The state of a launcher's journal.
 #[derive(Clone, Copy)]
@@ -38,26 +39,6 @@ pub struct LauncherStatus<'a> {
     pub jobs: u64,
 }
 
-/// How a run ended, and the clock readings at which it began and ended.
-#[derive(Clone, Copy)]
-pub struct RunEnd {
-    pub run: u64,
-    pub how: Ended,
-    /// When its start was ordered.
-    pub began: Reading,
-    pub ended: Reading,
-}
-
-/// A start that the system refused.
-#[derive(Clone, Copy)]
-pub struct RefusedStart<'a> {
-    pub run: u64,
-    /// What the system said, as the launcher prints it on standard error after the run. None if there was no memory for it, or no room among the
-    /// lines to be printed.
-    pub reason: Option<&'a str>,
-    pub at: Reading,
-}
-
 /// By what a label is disabled.
 #[derive(Clone, Copy)]
 pub enum DisabledBy {
@@ -70,14 +51,14 @@ pub enum DisabledBy {
 /// What a launcher knows of a job since its load.
 #[derive(Clone, Copy)]
 pub struct JobNote<'a> {
-    /// When its last run began, was refused or ended, whichever came last. Of a job without a start, when it was written first: at most a second after its load.
+    /// When its last run began, was refused or ended, whichever came last. Of a job without a start, when it was loaded.
     pub since: Reading,
     /// The number of its last start, 0 if there was none.
     pub run: u64,
     /// How many starts were ordered, refused ones too.
     pub starts: u64,
-    /// How many starts were refused, and how many runs did not exit with code 0, together.
-    pub failures: u64,
+    /// How many starts were refused, and how many runs did not exit with code 0, together: the file's `failures`.
+    pub unsuccessful: u64,
     /// How many starts were refused.
     pub refusals: u64,
     /// When its last start was ordered, also if it was refused.

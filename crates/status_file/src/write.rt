@@ -98,7 +98,7 @@ fn put_front(line: &mut Line, job: &JobStatus<'_>)
         child_pid(job.facts.reasons.child),
         job.note.run,
         job.note.starts,
-        job.note.failures,
+        job.note.unsuccessful,
         job.note.refusals,
         job.facts.reasons.wants.connections,
     );

@@ -17,8 +17,8 @@ use Rattle.run_times.specs.Written.{Adds}
 use Rattle.status_file.specs.declared.facts.JobFacts.{JobFacts}
 use Rattle.status_file.specs.declared.status.JobNote.{JobNote}
 use Rattle.status_file.specs.declared.status.JobStatus.{JobStatus}
-use Rattle.status_file.specs.declared.status.RefusedStart.{RefusedStart}
-use Rattle.status_file.specs.declared.status.RunEnd.{RunEnd}
+use Rattle.run_log.specs.declared.facts.RefusedStart.{RefusedStart}
+use Rattle.run_log.specs.declared.facts.RunEnd.{RunEnd}
 use Rattle.status_file.specs.States.{state_by_reasons}
 use Rattle.status_page.specs.declared.clocks.StartWhen.{StartWhen}
 use Rattle.status_page.specs.declared.clocks.StartWhen.TheVariants as starts

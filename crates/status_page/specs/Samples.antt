@@ -6,7 +6,7 @@ use Rattle.history_model.specs.declared.Ended.TheVariants as ends
 use Rattle.history_model.specs.declared.Reading.{Reading}
 use Rattle.status_file.specs.declared.status.JournalStatus.{JournalStatus}
 use Rattle.status_file.specs.declared.status.JournalStatus.TheVariants as journals
-use Rattle.status_file.specs.declared.status.RunEnd.{RunEnd}
+use Rattle.run_log.specs.declared.facts.RunEnd.{RunEnd}
 use Rattle.status_page.specs.declared.clocks.StartWhen.TheVariants.{Never, Since, At}
 use Rattle.status_page.specs.declared.rows.Next.{Next}
 use Rattle.status_page.specs.declared.rows.Next.TheVariants.{Nothing, Clock, Event}

@@ -72,7 +72,7 @@ pub fn row_of<'a>(
     ensures since { result.since ≡ job.now.note.since.wall }
     ensures last { result.last ≡ last_shown job.now.note.last_end }
     ensures starts { result.starts ≡ job.now.note.starts }
-    ensures failures { result.failures ≡ job.now.note.failures - job.now.note.refusals }
+    ensures failures { result.failures ≡ job.now.note.unsuccessful - job.now.note.refusals }
     ensures refusals { result.refusals ≡ job.now.note.refusals }
     ensures next { TellsNext may_live (minute_at zone.now) job.now.facts entries.now at second result.next }
     ensures throttle { EndsThrottle job.now at result.throttle }
@@ -85,7 +85,7 @@ pub fn row_of<'a>(
         since: job.note.since.wall,
         last: last_of(job.note.last_end),
         starts: job.note.starts,
-        failures: job.note.failures.saturating_sub(job.note.refusals),
+        failures: job.note.unsuccessful.saturating_sub(job.note.refusals),
         refusals: job.note.refusals,
         next: next_of(job, entries, zone, may_live, at, second),
         throttle: throttle_of(job, at),

@@ -3,9 +3,11 @@
 use crate::journal::news::What;
 use crate::journal::run::{JobRun, RunEnd};
 use crate::journal::waiting::Wait;
+use crate::known_runs::KnownRuns;
 use history_model::{Answer, DemandKind, Ended, JobItem, Reading, SECOND};
 use job_defs::Def;
 use pace::Signal;
+use run_log::{RunItem, RunLog};
 use status_page::is_crash;
 
 /// After this many exits with code 0, each within a second of its begin, `why` asks whether the program puts itself in the background.
@@ -88,32 +90,22 @@ impl KeptJob {
     }
 }
 
-/// What is kept of a job.
-#[derive(Clone, Copy)]
+/// What is kept of a job: what became of the runs of its last load, as `run_log` records it, and what `jobscope` reports of it too.
+#[derive(Drop)]
 pub(crate) struct Record {
     /// The number by which runs name it.
     pub(crate) serial: u64,
-    /// When it was loaded last.
-    pub(crate) loaded: Reading,
-    /// Starts that were ordered since it was loaded, and how many of them ended.
-    pub(crate) starts: u64,
-    pub(crate) ends: u64,
+    /// The runs of its last load.
+    pub(crate) log: RunLog,
     /// The run whose order is not answered, or that is running.
     pub(crate) current: Option<JobRun>,
-    /// The run of this load that ended last; a refused one does not count.
-    pub(crate) last: Option<JobRun>,
-    /// The last start of this load that was refused, if none succeeded after it.
-    pub(crate) refused: Option<JobRun>,
-    /// When the last start of this load was ordered.
-    pub(crate) ordered: Option<Reading>,
+    // Whether TERM or KILL was ordered for the run that ended last.
+    was_ordered_to_end: bool,
     /// The last stop, `kickstart -k` or unload since the last start was ordered, and its number among such requests to all jobs.
     pub(crate) asked: Option<(JobRequest, Reading)>,
     pub(crate) ask: u64,
-    /// Whether the system refused to wait for the present run.
-    pub(crate) is_lost: bool,
-    /// When the first TERM, and when the last KILL, was ordered for the present run.
-    pub(crate) term: Option<Reading>,
-    pub(crate) kill: Option<Reading>,
+    // Whether the system refused to wait for the present run.
+    is_lost: bool,
     /// Whether this is its first load under its launcher.
     pub(crate) is_first: bool,
     /// Whether it was lost with a launcher before.
@@ -136,18 +128,12 @@ impl Record {
     pub(crate) fn new(serial: u64, at: Reading) -> Record {
         Record {
             serial,
-            loaded: at,
-            starts: 0,
-            ends: 0,
+            log: RunLog::new(at),
             current: None,
-            last: None,
-            refused: None,
-            ordered: None,
+            was_ordered_to_end: false,
             asked: None,
             ask: 0,
             is_lost: false,
-            term: None,
-            kill: None,
             is_first: true,
             was_lost: false,
             is_kept_alive: false,
@@ -177,14 +163,11 @@ impl Record {
 
     /// A start was ordered.
     pub(crate) fn order(&mut self, run: u64, demand: Option<DemandKind>, at: Reading) {
-        self.starts = self.starts.saturating_add(1);
+        self.log.note(RunItem::Ordered(run), at);
         self.totals.starts = self.totals.starts.saturating_add(1);
         self.current = Some(JobRun::ordered(self.serial, run, demand, at));
-        self.ordered = Some(at);
         self.asked = None;
         self.is_lost = false;
-        self.term = None;
-        self.kill = None;
     }
 
     /// A signal was ordered for the present run.
@@ -192,10 +175,30 @@ impl Record {
         if let Some(run) = &mut self.current {
             run.is_ordered_to_end = true;
         }
-        match signal {
-            Signal::Term => self.term = self.term.or(Some(at)),
-            Signal::Kill => self.kill = Some(at),
-        }
+        let item = match signal {
+            Signal::Term => RunItem::Termed,
+            Signal::Kill => RunItem::Killed,
+        };
+        self.log.note(item, at);
+    }
+
+    /// When it was loaded last.
+    pub(crate) fn loaded(&self) -> Reading {
+        self.log.facts().loaded
+    }
+
+    /// What is known of the runs of its last load.
+    pub(crate) fn known(&self) -> KnownRuns<'_> {
+        let began = match &self.current {
+            Some(run) => run.running_since(),
+            None => None,
+        };
+        KnownRuns::recorded(
+            self.log.facts(),
+            began,
+            self.was_ordered_to_end,
+            self.is_lost,
+        )
     }
 
     /// Notes what came to its sockets, an answer to an order, or an exit. It returns what the log reports of that, and the run that is over
@@ -248,7 +251,7 @@ impl Record {
     // The start that was ordered succeeded.
     fn begin(&mut self, at: Reading) {
         self.totals.gap = self.gap_at(at);
-        self.refused = None;
+        self.log.note(RunItem::Begun, at);
         if let Some(run) = &mut self.current {
             run.begun = at;
             run.ended = at;
@@ -263,7 +266,7 @@ impl Record {
         run.ended = at;
         run.end = RunEnd::Refused;
         self.current = None;
-        self.refused = Some(run);
+        self.log.note(RunItem::Refused(run.run, None), at);
         Some(run)
     }
 
@@ -296,24 +299,16 @@ impl Record {
             Ended::Code(0) if lived <= SECOND => self.quick_ends.saturating_add(1),
             _ => 0,
         };
-        self.ends = self.ends.saturating_add(1);
+        self.log.note(RunItem::Exited(run.run, how), at);
+        self.was_ordered_to_end = run.is_ordered_to_end;
         self.idle = at;
         self.current = None;
-        self.last = Some(run);
         Some(run)
     }
 
     /// Whether it looks as if its program put itself in the background.
     pub(crate) fn is_in_background(&self) -> bool {
         self.is_kept_alive && self.quick_ends >= QUICK_ENDS
-    }
-
-    /// When the last start was refused, if none succeeded after it.
-    pub(crate) fn refused_at(&self) -> Option<Reading> {
-        match &self.refused {
-            Some(run) => Some(run.ended),
-            None => None,
-        }
     }
 
     /// Its launcher has exited: the present run counts as far as it is known.

@@ -54,6 +54,14 @@ impl JobRun {
         }
     }
 
+    /// When it began, if it is running.
+    pub(crate) fn running_since(&self) -> Option<Reading> {
+        match self.end {
+            RunEnd::Lives => Some(self.begun),
+            _ => None,
+        }
+    }
+
     /// How many milliseconds it ran, or has run up to this clock reading.
     pub(crate) fn lived(&self, at: Reading) -> u64 {
         match self.end {

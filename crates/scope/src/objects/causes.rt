@@ -113,7 +113,7 @@ fn first_of(told: &ToldJob<'_>, cause: JobCause) -> (&'static str, Value<'static
         JobCause::Removing => ("by", asked_by(told.asked)),
         JobCause::Awaited(act) => ("order", Text(order_of(act).0)),
         JobCause::Throttled(up) => {
-            let end = throttle_of(told.job, told.keys.throttle_interval, up, told.at);
+            let end = throttle_of(&told.runs, told.keys.throttle_interval, up, told.at);
             ("until", Moment(end.told))
         }
         JobCause::Demand => ("by", demand_value(told.facts.demand)),
@@ -156,12 +156,15 @@ fn asked_at(asked: Option<(JobRequest, Reading)>) -> Value<'static> {
 
 // The run that is running, and what was asked and ordered for its end.
 fn child_fields<'a>(told: &ToldJob<'a>, child: StandingChild) -> [Field<'a>; MOST] {
-    let (began, lived) = match &told.job.current {
-        Some(run) => (Moment(run.begun.wall), Number(run.lived(told.at))),
+    let (began, lived) = match told.runs.began {
+        Some(began) => (
+            Moment(began.wall),
+            Number(told.at.up.saturating_sub(began.up)),
+        ),
         None => (Absent, Absent),
     };
-    let kill = match told.job.term {
-        Some(_) if told.job.kill.is_none() => kill_when(&told.facts.moments, told.at.up),
+    let kill = match told.runs.term {
+        Some(_) if told.runs.kill.is_none() => kill_when(&told.facts.moments, told.at.up),
         _ => OrderWhen::Never,
     };
     [
@@ -170,8 +173,8 @@ fn child_fields<'a>(told: &ToldJob<'a>, child: StandingChild) -> [Field<'a>; MOS
         Field("began", began),
         Field("lived_ms", lived),
         Field("is_stopped", Flag(child.is_stopped || child.is_struck)),
-        Field("term", moment_of(told.job.term)),
-        Field("kill", moment_of(told.job.kill)),
+        Field("term", moment_of(told.runs.term)),
+        Field("kill", moment_of(told.runs.kill)),
         Field("kill_from", coming(told, kill)),
         Field(
             "term_from",

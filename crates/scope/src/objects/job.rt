@@ -1,10 +1,9 @@
 //! Why a job is in its state, as an object.
 
 use crate::age::AsOf;
-use crate::journal::job::Record;
 use crate::journal::labels::KnownLabel;
+use crate::known_runs::KnownRuns;
 use crate::objects::lines::{end_of, moment_of};
-use crate::texts::failing::last_end_in;
 use crate::texts::words::refusal_name;
 use crate::writer::Writer;
 use history_model::Reading;
@@ -73,20 +72,20 @@ pub(crate) fn around_file(life: Life, at: Reading) -> Around {
 pub(crate) fn put_job(
     page: &mut Page<'_>,
     label: &str,
-    record: &Record,
+    runs: &KnownRuns<'_>,
     beside: &Beside<'_>,
     around: Around,
 ) {
-    let how = match last_end_in(record) {
+    let how = match &runs.last {
         Some(last) => Some(last.how),
         None => None,
     };
     let [code, signal] = end_of(how);
-    let (crash, ended, lived) = match &record.last {
-        Some(run) => (
-            Flag(run.is_crash),
-            Moment(run.ended.wall),
-            Number(run.lived(page.now)),
+    let (crash, ended, lived) = match &runs.last {
+        Some(last) => (
+            Flag(last.is_crash()),
+            Moment(last.ended.wall),
+            Number(last.lived()),
         ),
         None => (Absent, Absent, Absent),
     };
@@ -96,13 +95,13 @@ pub(crate) fn put_job(
         Field("causes", beside.causes),
         Field("fault", fault_value(beside.fault)),
         Field("minute_passed", minute_of(beside.fault)),
-        Field("starts", Number(record.starts)),
+        Field("starts", Number(runs.starts)),
         code,
         signal,
         Field("last_crash", crash),
         Field("last_end", ended),
         Field("last_lived_ms", lived),
-        Field("start_refused", moment_of(record.refused_at())),
+        Field("start_refused", moment_of(runs.refused_at())),
         Field("reason", beside.reason),
         Field("errors", beside.errors),
         Field("next_start", beside.next),

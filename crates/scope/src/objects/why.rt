@@ -1,9 +1,9 @@
 //! Why each job of a journal or of a status file is in its state, an object a job.
 
 use crate::age::{AsOf, clock_as_of, reading_as_of};
-use crate::journal::job::Record;
 use crate::journal::labels::KnownLabel;
 use crate::journal::reader::OpenJournal;
+use crate::known_runs::KnownRuns;
 use crate::objects::causes::causes_list;
 use crate::objects::job::{Around, Beside, around_file, around_journal, put_job, put_unloaded};
 use crate::objects::left::put_left;
@@ -11,7 +11,7 @@ use crate::objects::left_out::put_left_out;
 use crate::objects::lines::text_of;
 use crate::texts::failing::job_fault;
 use crate::texts::since::start_second;
-use crate::texts::standing::{is_failed_run, line_fault, record_of, told_of};
+use crate::texts::standing::{is_failed_run, line_fault, told_of};
 use crate::texts::told::ToldJob;
 use crate::texts::why::{asked_labels, throttle_shown, told_job};
 use calendar_due::Zone;
@@ -148,7 +148,7 @@ fn put_whole<'x>(
         is_disabled: beside.is_disabled,
         known: beside.known,
     };
-    put_job(page, label, told.job, &whole, around);
+    put_job(page, label, &told.runs, &whole, around);
 }
 
 /// An object for each job of the file, or for each of those named, in order, or only for those that fail; and how many fail.
@@ -232,15 +232,15 @@ fn put_status(
     of: ByFile<'_>,
     around: Around,
 ) {
-    let record = record_of(&job.note, job.facts.reasons.child);
+    let runs = KnownRuns::noted(&job.note, job.facts.reasons.child);
     if !around.may_live {
-        return put_job(page, job.label, &record, &beside, around);
+        return put_job(page, job.label, &runs, &beside, around);
     }
     beside.state = state_name(state_of(&job.facts.reasons));
     match line.calendar(page.alloc) {
         Ok(entries) => {
             let entries_of = entries.as_slice();
-            put_standing(page, job, &record, entries_of, beside, of, around);
+            put_standing(page, job, runs, entries_of, beside, of, around);
             drop(entries);
         }
         Err(_) => page.ink.refuse(),
@@ -251,13 +251,13 @@ fn put_status(
 fn put_standing(
     page: &mut Page<'_>,
     job: &JobStatus<'_>,
-    record: &Record,
+    runs: KnownRuns<'_>,
     entries: &[Entry],
     beside: Beside<'_>,
     of: ByFile<'_>,
     around: Around,
 ) {
-    let told = told_of(page, of.zone, job, record, entries);
+    let told = told_of(page, of.zone, job, runs, entries);
     let of = Clocks {
         entries,
         zone: of.zone,

@@ -1,7 +1,8 @@
 //! What follows the beginning of the line of a cause.
 
-use crate::journal::job::{JobRequest, Record};
+use crate::journal::job::JobRequest;
 use crate::journal::telling::JobCause;
+use crate::known_runs::KnownRuns;
 use crate::texts::by_facts::{OrderWhen, kill_when, term_when};
 use crate::texts::told::{
     MOST_SENTENCES, NONE, SILENCE, Sentence, Sentences, ToldJob, alone, said_if,
@@ -47,15 +48,15 @@ fn removing_said(asked: Option<(JobRequest, Reading)>) -> Sentences<'static> {
 
 // Since when the run is running, and what was asked and ordered for its end.
 fn child_said(told: &ToldJob<'_>, child: StandingChild) -> Sentences<'static> {
-    let mut said = match &told.job.current {
-        Some(run) => alone(
+    let mut said = match told.runs.began {
+        Some(began) => alone(
             ", since $ (for $).",
-            Time(run.begun.wall),
-            Span(run.lived(told.at)),
+            Time(began.wall),
+            Span(told.at.up.saturating_sub(began.up)),
         ),
         None => alone(".", NONE, NONE),
     };
-    said[1] = said_if(told.job.is_lost, " The system refused to wait for it.");
+    said[1] = said_if(told.runs.is_lost, " The system refused to wait for it.");
     said[2] = said_if(child.is_struck, " `jobctl kickstart -k` asked for its end.");
     said[3] = said_if(child.is_stopped, " Its end was asked for.");
     said[4] = signals_said(told);
@@ -67,7 +68,7 @@ fn child_said(told: &ToldJob<'_>, child: StandingChild) -> Sentences<'static> {
 // that `kickstart -k` kills.
 fn signals_said(told: &ToldJob<'_>) -> Sentence<'static> {
     let when = kill_when(&told.facts.moments, told.at.up);
-    let (form, at, up) = match (told.job.kill, told.job.term, when) {
+    let (form, at, up) = match (told.runs.kill, told.runs.term, when) {
         (Some(at), _, _) => (" KILL was ordered at $.", at, 0),
         (None, Some(at), OrderWhen::Never) => (
             " TERM was ordered at $; no KILL follows, since ExitTimeOut is 0.",
@@ -104,8 +105,8 @@ fn term_said(told: &ToldJob<'_>) -> Sentence<'static> {
 // How long it is throttled, and by which start, if that is known.
 fn throttle_said(told: &ToldJob<'_>, up: u64) -> Sentences<'static> {
     let throttle = told.keys.throttle_interval;
-    let refused = told.job.refused_at();
-    let (form, wall) = match throttle_by(told.job.ordered, refused, throttle, up) {
+    let refused = told.runs.refused_at();
+    let (form, wall) = match throttle_by(told.runs.started, refused, throttle, up) {
         ThrottleBy::Order(at) => (
             "$ (in $): its last start was ordered at $, ThrottleInterval is $.",
             at.wall,
@@ -117,7 +118,7 @@ fn throttle_said(told: &ToldJob<'_>, up: u64) -> Sentences<'static> {
         ThrottleBy::Unknown => ("$ (in $).", 0),
     };
     let left = up.saturating_sub(told.at.up);
-    let end = Time(throttle_of(told.job, throttle, up, told.at).told);
+    let end = Time(throttle_of(&told.runs, throttle, up, told.at).told);
     let throttle = Number(u64::from(throttle));
     let mut said = [SILENCE; MOST_SENTENCES];
     said[0] = (form, [end, Span(left), Time(wall), throttle]);
@@ -125,9 +126,14 @@ fn throttle_said(told: &ToldJob<'_>, up: u64) -> Sentences<'static> {
 }
 
 /// The end of a job's throttle at this `up`.
-pub(crate) fn throttle_of(job: &Record, throttle: u32, up: u64, now: Reading) -> ThrottleEnd {
+pub(crate) fn throttle_of(
+    runs: &KnownRuns<'_>,
+    throttle: u32,
+    up: u64,
+    now: Reading,
+) -> ThrottleEnd {
     throttle_end(
-        throttle_by(job.ordered, job.refused_at(), throttle, up),
+        throttle_by(runs.started, runs.refused_at(), throttle, up),
         up,
         now,
     )

@@ -13,7 +13,7 @@ use status_page::FARTHEST;
 
 /// Why its conditions do not want it, and when the clocks will.
 pub(crate) fn unmet_said(told: &ToldJob<'_>) -> Sentences<'static> {
-    let has_ended = told.job.last.is_some();
+    let has_ended = told.runs.last.is_some();
     let mut said = [SILENCE; MOST_SENTENCES];
     said[0] = said_if(has_ended, exit_unmet(told.keys.successful_exit));
     said[1] = said_if(has_ended, crash_unmet(told.keys.crashed));

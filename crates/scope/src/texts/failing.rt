@@ -2,16 +2,16 @@
 
 use crate::age::{AsOf, add_head, reading_as_of};
 use crate::errors::FailedRun;
-use crate::journal::job::{KeptJob, Record};
+use crate::journal::job::KeptJob;
 use crate::journal::reader::OpenJournal;
-use crate::journal::run::RunEnd;
+use crate::known_runs::KnownRuns;
 use crate::texts::standing::{is_failed_run, missed_fault};
 use crate::writer::Writer;
 use calendar_due::Zone;
-use history_model::{Ended, Text};
+use history_model::Text;
 use run_times::Page;
 use status_file::JobFacts;
-use status_page::{Failing, Fault, LastEnd, add_failing, fault_of, is_asked, passed_minute};
+use status_page::{Failing, Fault, add_failing, fault_of, is_asked, passed_minute};
 use std::alloc::{AllocError, Global};
 
 /// A line for each loaded job of the journal, or of those named, that fails, and how many there are.
@@ -52,12 +52,12 @@ fn add_if_failing(
     let Some(facts) = journal.facts(label) else {
         return false;
     };
-    let refused = job.record.refused_at();
+    let runs = job.record.known();
     let Some(fault) = job_fault(journal, job, &facts, may_live) else {
         return false;
     };
-    let ended = match &job.record.last {
-        Some(run) => Some(run.ended),
+    let ended = match &runs.last {
+        Some(last) => Some(last.ended),
         None => None,
     };
     add_failing(
@@ -65,7 +65,7 @@ fn add_if_failing(
         &Failing {
             label,
             fault,
-            refused,
+            refused: runs.refused_at(),
             reason: None,
             ended,
         },
@@ -87,7 +87,7 @@ pub(crate) fn failed_runs<'a>(
             journal.facts(label),
             is_asked(labels, label),
         ) {
-            if is_failed_run(fault_in(&facts, &job.record, true)) {
+            if is_failed_run(fault_in(&facts, &job.record.known(), true)) {
                 failed.push(FailedRun {
                     label,
                     errors: def.standard_error_path(),
@@ -106,7 +106,7 @@ pub(crate) fn job_fault(
     facts: &JobFacts<'_>,
     may_live: bool,
 ) -> Option<Fault> {
-    match fault_in(facts, &job.record, may_live) {
+    match fault_in(facts, &job.record.known(), may_live) {
         Some(fault) => Some(fault),
         None => missed_fault(missed_by(journal, job)),
     }
@@ -115,7 +115,7 @@ pub(crate) fn job_fault(
 /// The minute of its calendar that passed while no launcher ran, if this is the job's first load under the launcher, and it was not started since.
 pub(crate) fn missed_by(journal: &OpenJournal, job: &KeptJob) -> Option<u64> {
     let def = job.def.as_ref()?;
-    let has_started = !job.record.is_first || job.record.starts > 0;
+    let has_started = !job.record.is_first || job.record.known().starts > 0;
     passed_minute(
         def.calendar(),
         &journal.zone,
@@ -125,21 +125,11 @@ pub(crate) fn missed_by(journal: &OpenJournal, job: &KeptJob) -> Option<u64> {
 }
 
 // Why a job is reported as failing, if it is, by what is kept of its past.
-fn fault_in(facts: &JobFacts<'_>, record: &Record, may_live: bool) -> Option<Fault> {
-    let is_refused = record.refused_at().is_some();
-    fault_of(may_live, &facts.reasons, is_refused, last_end_in(record))
-}
-
-/// How its last run ended.
-pub(crate) fn last_end_in(record: &Record) -> Option<LastEnd> {
-    let run = record.last?;
-    let how = match run.end {
-        RunEnd::Code(code) => Ended::Code(code),
-        RunEnd::Signal(signal) => Ended::Signal(signal),
-        RunEnd::Awaited | RunEnd::Lives | RunEnd::Refused => return None,
-    };
-    Some(LastEnd {
-        how,
-        is_ordered: run.is_ordered_to_end,
-    })
+fn fault_in(facts: &JobFacts<'_>, runs: &KnownRuns<'_>, may_live: bool) -> Option<Fault> {
+    fault_of(
+        may_live,
+        &facts.reasons,
+        runs.refused.is_some(),
+        runs.last_end(),
+    )
 }

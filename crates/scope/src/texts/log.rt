@@ -85,7 +85,7 @@ fn until_of(journal: &OpenJournal, news: &News, now: Reading) -> u64 {
                 record,
                 ..
             },
-        ) => throttle_of(record, def.throttle_interval(), up, now).told,
+        ) => throttle_of(&record.known(), def.throttle_interval(), up, now).told,
         _ => coming_second(now, up),
     }
 }

@@ -105,7 +105,7 @@ fn add_starts<'a>(
         of.telling.now,
     );
     let throttle = match facts.reasons.throttled_until {
-        Some(up) => Some(throttle_of(&job.record, def.throttle_interval(), up, last)),
+        Some(up) => Some(throttle_of(&job.record.known(), def.throttle_interval(), up, last)),
         None => None,
     };
     match start_told(can_start, Next::Clock(when), throttle, calendar, interval) {

@@ -41,11 +41,11 @@ fn add_job(page: &mut Page<'_>, label: &str, job: &KeptJob, is_json: bool) {
         return;
     };
     if is_json {
-        return put_loaded(page, label, def, text.as_str(), job.record.loaded);
+        return put_loaded(page, label, def, text.as_str(), job.record.loaded());
     }
     page.add(
         "$ was loaded at $.\n",
-        &[Text(label), Moment(job.record.loaded.wall)],
+        &[Text(label), Moment(job.record.loaded().wall)],
     );
     add_stream(page, "Its output goes", def.standard_out_path());
     add_stream(page, "Its errors go", def.standard_error_path());

@@ -1,21 +1,20 @@
 //! Why each job is in its state, by its launcher's file, and which of them fail.
 
 use crate::errors::FailedRun;
-use crate::journal::job::Record;
-use crate::journal::run::{JobRun, RunEnd};
+use crate::known_runs::KnownRuns;
 use crate::texts::coming::calendar_next;
 use crate::texts::since::add_coming;
 use crate::texts::told::ToldJob;
 use crate::texts::why::{add_last_end, add_refused, add_stand, facts_then, throttle_shown};
 use calendar_due::Zone;
-use history_model::{Ended, Entry, Reading, StandingChild};
+use history_model::{Entry, Reading};
 use leftovers::RunProcess;
 use run_times::Filling::{Number, Text, Time};
 use run_times::Page;
-use status_file::{DisabledBy, JobNote, JobStatus, RunEnd as EndOfRun, StatusLine};
+use status_file::{DisabledBy, JobNote, JobStatus, StatusLine};
 use status_page::{
     Down, Failing, Fault, Standing, add_failing, add_head, add_left_out, fault_of, gone_on,
-    is_asked, is_crash, last_end_of, passed_minute, reading_of, told_as_of, within_limits,
+    is_asked, last_end_of, passed_minute, reading_of, told_as_of, within_limits,
 };
 use std::alloc::{AllocError, Global};
 
@@ -129,7 +128,7 @@ fn add_job(
     job: &JobStatus<'_>,
     clock: Reading,
 ) {
-    let record = record_of(&job.note, job.facts.reasons.child);
+    let runs = KnownRuns::noted(&job.note, job.facts.reasons.child);
     if standing.life.may_live() {
         match line.calendar(page.alloc) {
             Ok(entries) => {
@@ -138,7 +137,7 @@ fn add_job(
                     page,
                     zone,
                     job,
-                    &record,
+                    runs,
                     entries.as_slice(),
                     reading_of(standing),
                     clock,
@@ -150,7 +149,7 @@ fn add_job(
         }
     } else {
         add_gone(page, job);
-        add_past(page, &job.note, &record);
+        add_past(page, &job.note, &runs);
     }
 }
 
@@ -158,15 +157,15 @@ fn add_living(
     page: &mut Page<'_>,
     zone: &Zone,
     job: &JobStatus<'_>,
-    record: &Record,
+    runs: KnownRuns<'_>,
     entries: &[Entry],
     at: Reading,
     clock: Reading,
 ) {
     let facts = &job.facts;
-    let told = told_of(page, zone, job, record, entries);
+    let told = told_of(page, zone, job, runs, entries);
     let is_idle = add_stand(page, job.label, facts, &told);
-    add_past(page, &job.note, record);
+    add_past(page, &job.note, &runs);
     add_disabled(page, job);
     let last = within_limits(at);
     let end = throttle_shown(&told, facts, last);
@@ -178,14 +177,14 @@ pub(crate) fn told_of<'a>(
     page: &Page<'_>,
     zone: &Zone,
     job: &JobStatus<'a>,
-    record: &'a Record,
+    runs: KnownRuns<'a>,
     entries: &[Entry],
 ) -> ToldJob<'a> {
     ToldJob {
         at: page.now,
         facts: facts_then(&job.facts, page.now.up),
         asked: None,
-        job: record,
+        runs,
         keys: job.keys,
         calendar: calendar_next(entries, zone, page.now.wall),
     }
@@ -205,21 +204,17 @@ fn add_gone(page: &mut Page<'_>, job: &JobStatus<'_>) {
 }
 
 // How the last run ended, how many starts there were, and that the last one was refused, with what the system said.
-fn add_past(page: &mut Page<'_>, note: &JobNote<'_>, record: &Record) {
-    add_last_end(page, record, note.failures, "failed");
-    let Some(run) = &record.refused else {
+fn add_past(page: &mut Page<'_>, note: &JobNote<'_>, runs: &KnownRuns<'_>) {
+    add_last_end(page, runs, note.unsuccessful, "failed");
+    let Some(start) = &runs.refused else {
         return;
     };
-    match &note.refused {
-        Some(start) if start.reason.is_some() => page.add(
+    match start.reason {
+        Some(reason) => page.add(
             "  Its last start (run $) was refused, at $: $.\n",
-            &[
-                Number(run.run),
-                Time(run.ended.wall),
-                Text(start.reason.unwrap_or("")),
-            ],
+            &[Number(start.run), Time(start.at.wall), Text(reason)],
         ),
-        _ => add_refused(page, run),
+        None => add_refused(page, start),
     }
 }
 
@@ -232,47 +227,6 @@ fn add_disabled(page: &mut Page<'_>, job: &JobStatus<'_>) {
         None => return,
     };
     page.add(form, &[Text(job.label)]);
-}
-
-/// What a launcher knows of a job, in the form that is kept of a journal.
-pub(crate) fn record_of(note: &JobNote<'_>, child: Option<StandingChild>) -> Record {
-    let mut record = Record::new(0, note.since);
-    record.starts = note.starts;
-    record.ordered = note.started;
-    record.term = note.term;
-    record.kill = note.kill;
-    if let Some(child) = child {
-        record.current = Some(run_since(child.run, note.since, RunEnd::Lives));
-    }
-    if let Some(end) = note.last_end {
-        record.last = Some(run_ended(note, end));
-    }
-    if let Some(start) = &note.refused {
-        if start.run == note.run {
-            record.refused = Some(run_since(start.run, start.at, RunEnd::Refused));
-        }
-    }
-    record
-}
-
-fn run_since(run: u64, at: Reading, end: RunEnd) -> JobRun {
-    let mut told = JobRun::ordered(0, run, None, at);
-    told.end = end;
-    told
-}
-
-fn run_ended(note: &JobNote<'_>, end: EndOfRun) -> JobRun {
-    let how = match end.how {
-        Ended::Code(code) => RunEnd::Code(code),
-        Ended::Signal(signal) => RunEnd::Signal(signal),
-    };
-    let mut told = run_since(end.run, end.began, how);
-    told.ended = end.ended;
-    told.is_crash = match last_end_of(note) {
-        Some(last) => is_crash(last.how, last.is_ordered),
-        None => false,
-    };
-    told
 }
 
 /// Adds that a minute of a job's calendar passed while no launcher ran, if one did.

@@ -1,6 +1,7 @@
 //! What is reported of one job, and the sentences that say it.
 
-use crate::journal::job::{JobRequest, Record};
+use crate::journal::job::JobRequest;
+use crate::known_runs::KnownRuns;
 use history_model::Reading;
 use run_times::Filling;
 use status_file::{JobFacts, JobKeys};
@@ -44,7 +45,8 @@ pub(crate) struct ToldJob<'a> {
     pub(crate) facts: JobFacts<'a>,
     /// What was asked of it last, or of all jobs.
     pub(crate) asked: Option<(JobRequest, Reading)>,
-    pub(crate) job: &'a Record,
+    /// What is known of its runs.
+    pub(crate) runs: KnownRuns<'a>,
     pub(crate) keys: JobKeys<'a>,
     /// The next minute of its calendar.
     pub(crate) calendar: CalendarNext,

@@ -4,7 +4,7 @@ use crate::age::{AsOf, add_head, clock_as_of, reading_as_of};
 use crate::journal::job::{KeptJob, Record};
 use crate::journal::labels::{DisabledBy, KnownLabel};
 use crate::journal::reader::OpenJournal;
-use crate::journal::run::JobRun;
+use crate::known_runs::KnownRuns;
 use crate::texts::cause_lines::add_causes;
 use crate::texts::causes::throttle_of;
 use crate::texts::coming::calendar_next;
@@ -12,10 +12,11 @@ use crate::texts::failing::missed_by;
 use crate::texts::since::{add_coming, reasons_then};
 use crate::texts::standing::add_missed;
 use crate::texts::told::ToldJob;
-use crate::texts::words::{asked_name, end_words, refusal_words};
+use crate::texts::words::{asked_name, how_words, refusal_words};
 use calendar_due::Zone;
 use history_model::{Reading, Reasons, Refusal};
 use job_defs::Def;
+use run_log::RefusedStart;
 use run_times::Filling::{Number, Span, Text, Time};
 use run_times::Page;
 use status_file::{JobFacts, JobKeys};
@@ -170,7 +171,7 @@ pub(crate) fn told_job<'a>(
         at,
         facts: facts_then(facts, at.up),
         asked: journal.past.asked_of(&job.record),
-        job: &job.record,
+        runs: job.record.known(),
         keys: JobKeys::of(def, facts.path),
         calendar: calendar_next(def.calendar(), &journal.zone, at.wall),
     }
@@ -198,7 +199,7 @@ pub(crate) fn throttle_shown(
     last: Reading,
 ) -> Option<ThrottleEnd> {
     let up = facts.reasons.throttled_until?;
-    Some(throttle_of(told.job, told.keys.throttle_interval, up, last))
+    Some(throttle_of(&told.runs, told.keys.throttle_interval, up, last))
 }
 
 /// The facts, but that a throttle which is over by then is left out.
@@ -220,27 +221,33 @@ fn state_words(reasons: &Reasons) -> &'static str {
 
 // How the last run ended, how many there were, and that the last start was refused.
 fn add_past(page: &mut Page<'_>, job: &Record) {
-    add_last_end(page, job, job.ends, "ended");
-    if let Some(run) = &job.refused {
-        add_refused(page, run);
+    let runs = job.known();
+    add_last_end(page, &runs, job.log.facts().ends, "ended");
+    if let Some(start) = &runs.refused {
+        add_refused(page, start);
     }
 }
 
 /// Adds how the last run ended, if one did, and how many of the starts came to what `word` says.
-pub(crate) fn add_last_end(page: &mut Page<'_>, job: &Record, count: u64, word: &'static str) {
-    let Some(last) = &job.last else {
+pub(crate) fn add_last_end(
+    page: &mut Page<'_>,
+    runs: &KnownRuns<'_>,
+    count: u64,
+    word: &'static str,
+) {
+    let Some(last) = &runs.last else {
         return;
     };
-    let (words, number) = end_words(last.end);
-    let crash = if last.is_crash { " (a crash)" } else { "" };
-    let starts = if job.starts == 1 { "start" } else { "starts" };
+    let (words, number) = how_words(last.how);
+    let crash = if last.is_crash() { " (a crash)" } else { "" };
+    let starts = if runs.starts == 1 { "start" } else { "starts" };
     let holes = [
         Text(words),
         Number(u64::from(number)),
         Text(crash),
         Time(last.ended.wall),
-        Span(last.lived(page.now)),
-        Number(job.starts),
+        Span(last.lived()),
+        Number(runs.starts),
         Text(starts),
         Number(count),
         Text(word),
@@ -250,10 +257,10 @@ pub(crate) fn add_last_end(page: &mut Page<'_>, job: &Record, count: u64, word: 
 }
 
 /// Adds that the last start was refused, where the system's reason is not kept.
-pub(crate) fn add_refused(page: &mut Page<'_>, run: &JobRun) {
+pub(crate) fn add_refused(page: &mut Page<'_>, start: &RefusedStart<'_>) {
     let form =
         "  Its last start (run $) was refused, at $. The system's reason stood on the launcher's standard error (journalctl -u jobd).\n";
-    page.add(form, &[Number(run.run), Time(run.ended.wall)]);
+    page.add(form, &[Number(start.run), Time(start.at.wall)]);
 }
 
 // The conditions of `KeepAlive` among the ignored keys.

@@ -2,7 +2,7 @@
 
 use crate::journal::job::JobRequest;
 use crate::journal::run::RunEnd;
-use history_model::{DemandKind, Refusal};
+use history_model::{DemandKind, Ended, Refusal};
 use json_kinds::{key_name, reason_name};
 
 /// What was asked, as the command of `jobctl`.
@@ -52,10 +52,18 @@ pub(crate) fn refusal_name(refusal: Refusal) -> &'static str {
 }
 
 /// How a run ended: the text before the number, and the number.
+pub(crate) fn how_words(how: Ended) -> (&'static str, u8) {
+    match how {
+        Ended::Code(code) => ("with code ", code),
+        Ended::Signal(signal) => ("by signal ", signal),
+    }
+}
+
+/// The same of a run that may have no end.
 pub(crate) fn end_words(end: RunEnd) -> (&'static str, u8) {
     match end {
-        RunEnd::Code(code) => ("with code ", code),
-        RunEnd::Signal(signal) => ("by signal ", signal),
+        RunEnd::Code(code) => how_words(Ended::Code(code)),
+        RunEnd::Signal(signal) => how_words(Ended::Signal(signal)),
         RunEnd::Awaited | RunEnd::Lives | RunEnd::Refused => ("with no end ", 0),
     }
 }

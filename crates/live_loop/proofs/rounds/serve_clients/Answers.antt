@@ -1,6 +1,6 @@
 -- All clients in order.
 use Rattle.live_loop.specs.Rounds.{nobody}
-use Rattle.live_loop.proofs.RoundsLemmas.{asks_one, gathers_append, gathers_same}
+use Rattle.live_loop.proofs.RoundsLemmas.{gathers_append, gathers_same}
 use Rattle.live_loop.proofs.rounds.serve_clients.Goals as goal
 
 pub returns-clause-serves : goal.returns-clause-serves
@@ -15,5 +15,5 @@ returns-clause-serves g c = record {
       c.serve_again-is_asking.ensures.kept.desk;
   last = c.serve_again-is_asking.new.live.host;
   again = c.serve_again-is_asking.ensures.serves;
-  asks = asks_one c.forward-is_taking.ensures;
+  asks = c.forward-is_taking.ensures.asks;
 }

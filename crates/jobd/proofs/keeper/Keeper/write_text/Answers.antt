@@ -1,5 +1,5 @@
 -- What comes before the lines of jobs is the launcher's.
-use Rattle.jobd.proofs.keeper.Keeper.write.Goals as goal
+use Rattle.jobd.proofs.keeper.Keeper.write_text.Goals as goal
 
 pub returns : goal.returns
 returns c = λ whole.

@@ -1,0 +1,5 @@
+pub mod Told
+pub mod Search
+pub mod Kept
+pub mod AfterItem
+pub mod Shown

@@ -1,0 +1,9 @@
+//! One recorder of the runs of a load of a job: its last start, its last exit, its last refused start with the reason, and since when the job is so. It
+//! counts each of them. The launcher has one for each loaded job, for its status file, and `jobscope` has one for each job of a journal.
+#![tactic(auto)]
+
+mod facts;
+mod log;
+
+pub use facts::{RefusedStart, RunEnd, RunFacts, RunItem};
+pub use log::RunLog;
