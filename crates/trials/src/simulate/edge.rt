@@ -256,7 +256,7 @@ impl RoundEdge for SimulatedEdge {
         self.reason
     }
 
-    fn note_reply(&mut self, _load: Option<&[u8]>, _refusal: Option<Refusal>) {}
+    fn note_reply(&mut self, _line: &[u8], _has_loaded: bool, _refusal: Option<Refusal>) {}
 
     fn note_closing(&mut self) {}
 
