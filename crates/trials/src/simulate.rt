@@ -27,8 +27,8 @@ use crate::stores::on_disks::NOTHING;
 use anyhow::{Result, bail};
 use history_model::Reading;
 use std::cell::RefCell;
-use std::fs;
 use std::rc::Rc;
+use std::{fs, process};
 
 /// The cases of this folder.
 pub fn list() -> &'static [Line] {
@@ -142,9 +142,20 @@ fn first_fault(
     None
 }
 
+/// A new folder, in memory if the system has a place for that: thousands of status files are written there.
+fn folder_in_memory(rt: &HostRuntime) -> Option<String> {
+    let id = process::id(rt.process());
+    let folder = format!(in rt.alloc(); "/dev/shm/trials-{id}-simulate").ok()?;
+    if fs::create_dir(rt, folder.as_str()).is_ok() {
+        return Some(folder);
+    }
+    drop(folder);
+    new_folder(rt, "simulate")
+}
+
 /// Whether nothing is wrong in the plays of `count` numbers, from the first on. What is wrong is printed.
 pub fn are_so(rt: &HostRuntime, first: u64, count: u64) -> Option<bool> {
-    let folder = new_folder(rt, "simulate")?;
+    let folder = folder_in_memory(rt)?;
     let fault = match left_by(rt.alloc(), "", &[NOTHING]) {
         Some(from) => {
             let fault = first_fault(rt, folder.as_str(), &from, first, count);
@@ -162,7 +173,7 @@ pub fn are_so(rt: &HostRuntime, first: u64, count: u64) -> Option<bool> {
 }
 
 fn plays(rt: &HostRuntime, plan: &Plan) -> Option<bool> {
-    let folder = new_folder(rt, "simulate")?;
+    let folder = folder_in_memory(rt)?;
     let fault = match left_by(rt.alloc(), "", &[NOTHING]) {
         Some(from) => {
             let fault = fault_of(rt, folder.as_str(), &from, plan);
