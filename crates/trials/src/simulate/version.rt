@@ -45,7 +45,6 @@ pub fn first_fault(
 ) -> Option<Found> {
     let mut jobs: u64 = 0;
     let mut told: u64 = 0;
-    let mut at = None;
     for line in from_utf8(text).unwrap_or("").lines() {
         let Ok(read) = read_line(alloc, line.as_bytes()) else {
             return Some(("a line of the status file can't be read", ""));
@@ -54,12 +53,11 @@ pub fn first_fault(
         if read.is_launcher() {
             if let Ok(launcher) = read.launcher() {
                 told = launcher.jobs;
-                at = Some(launcher.at);
                 found = launcher_fault(&launcher, known);
             }
         } else if let Ok(job) = read.job() {
             jobs = jobs.saturating_add(1);
-            found = job_fault(&job, witness, known, at);
+            found = job_fault(&job, witness, known);
         }
         drop(read);
         if found.is_some() {
@@ -99,21 +97,15 @@ fn launcher_fault(launcher: &LauncherStatus<'_>, known: Known<'_>) -> Option<Fou
 }
 
 // Nothing is known of jobs once the journal is closed.
-fn job_fault(
-    job: &JobStatus<'_>,
-    witness: &Witness,
-    known: Known<'_>,
-    at: Option<Reading>,
-) -> Option<Found> {
+fn job_fault(job: &JobStatus<'_>, witness: &Witness, known: Known<'_>) -> Option<Found> {
     if known.is_closed {
         return None;
     }
     let place = place_of(job.label);
-    let (Some(label), Some(past), Some(table), Some(at)) = (
+    let (Some(label), Some(past), Some(table)) = (
         LABELS.get(place).copied(),
         witness.pasts.get(place),
         &witness.table,
-        at,
     ) else {
         return Some(("a job that was never loaded", ""));
     };
@@ -121,7 +113,7 @@ fn job_fault(
         Some(Some(refused)) => Some(*refused),
         _ => None,
     };
-    note_fault(&job.note, past, reason, at, label).or(facts_fault(job, table, label))
+    note_fault(&job.note, past, reason, label).or(facts_fault(job, table, label))
 }
 
 fn end_of(end: Option<RunEnd>) -> Option<(u64, Ended, Reading, Reading)> {
@@ -134,13 +126,9 @@ fn wanted_end(end: Option<End>) -> Option<(u64, Ended, Reading, Reading)> {
     Some((end.run, end.how, end.began, end.ended))
 }
 
-// Of a job without a start it is a clock reading from its load to this version.
-fn is_since(since: Reading, past: &Past, at: Reading) -> bool {
-    match (past.since, past.loaded) {
-        (Some(wanted), _) => since == wanted,
-        (None, Some(loaded)) => loaded.up <= since.up && since.up <= at.up,
-        (None, None) => false,
-    }
+// Of a job without a start it is that of its load.
+fn is_since(since: Reading, past: &Past) -> bool {
+    Some(since) == past.since.or(past.loaded)
 }
 
 fn is_refused(note: &JobNote<'_>, past: &Past, reason: Option<RefusedRun>) -> bool {
@@ -158,14 +146,13 @@ fn note_fault(
     note: &JobNote<'_>,
     past: &Past,
     reason: Option<RefusedRun>,
-    at: Reading,
     label: &'static str,
 ) -> Option<Found> {
     let is_end = end_of(note.last_end) == wanted_end(past.last_end);
     first_wrong(
         &[
             ("loaded", past.loaded.is_some()),
-            ("since", is_since(note.since, past, at)),
+            ("since", is_since(note.since, past)),
             ("run", note.run == past.run),
             ("starts", note.starts == past.starts),
             ("unsuccessful", note.unsuccessful == past.failures),
