@@ -157,8 +157,9 @@ class Launcher:
         self.pid, self.out = process.pid, b""
 
     def said(self):
-        """What it has logged, but for the line that it has no jobd-wake, where there is none."""
-        return "".join(line for line in text_at(self.said_at).splitlines(True) if "as no jobd-wake reports them: No such file" not in line)
+        """What it has logged, but for the line that it has no jobd-wake, where there is none, or no descriptor for it."""
+        none = ("as no jobd-wake reports them: No such file", "as no jobd-wake reports them: Too many open files")
+        return "".join(line for line in text_at(self.said_at).splitlines(True) if not any(it in line for it in none))
 
     def lines(self, part):
         return [line for line in self.said().splitlines() if part in line]

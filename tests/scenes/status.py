@@ -740,7 +740,7 @@ def why_and_status_of_now(stage):
     status, text, error = asked(stage, path, "why", "run")
     check(status == 65 and "nothing here names run; near it: runs" in error, f"of a label that is not there: {status}, {error!r}")
     coming, error = starting(stage, path)
-    check(coming - {"refused"} == {"throttled"} and " of 8 have no clock" in error, f"coming starts are {coming}, and told is {error!r}")
+    check(coming - {"refused"} == {"throttled"} and " of 8 have no schedule" in error, f"coming starts are {coming}, and told is {error!r}")
 
     pids = [job["pid"] for job in told(path)[1].values() if job["pid"]]
     end_process(launcher.pid)
