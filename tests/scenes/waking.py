@@ -81,7 +81,8 @@ def beside(stage, way=None, folder="bin"):
     real = os.path.join(os.path.dirname(program), "jobd-wake")
     os.makedirs(stage.at("bin"), 0o755, exist_ok=True)
     os.makedirs(stage.at(folder), 0o755, exist_ok=True)
-    shutil.copy(program, stage.at("bin/jobd"))
+    if program != stage.at("bin/jobd"):
+        shutil.copy(program, stage.at("bin/jobd"))
     stage.given = types.SimpleNamespace(jobd=[stage.at("bin/jobd")], jobctl=stage.given.jobctl, jobscope=stage.given.jobscope)
     wake = stage.at(f"{folder}/jobd-wake")
     if way:
@@ -244,8 +245,8 @@ def a_helper_that_others_may_change(stage):
     cases = [
         (lambda: os.chmod(wake, 0o775), "others may write it"),
         (lambda: (os.chmod(wake, 0o755), os.chmod(stage.at("bin"), 0o775)), "others may write in it; chmod 700 mends it"),
-        (lambda: (os.chmod(stage.at("bin"), 0o755), os.rename(wake, wake + "r"), os.symlink("jobd-waker", wake)), "it is no plain file"),
-        (lambda: (os.remove(wake), os.mkfifo(wake)), "it is no plain file"),
+        (lambda: (os.chmod(stage.at("bin"), 0o755), os.rename(wake, wake + "r"), os.symlink("jobd-waker", wake)), "it is not a plain file"),
+        (lambda: (os.remove(wake), os.mkfifo(wake)), "it is not a plain file"),
         (lambda: os.remove(wake), "No such file or directory (os error 2)"),
     ]
     for change, why in cases:
