@@ -81,7 +81,7 @@ def beside(stage, way=None, folder="bin"):
     real = os.path.join(os.path.dirname(program), "jobd-wake")
     os.makedirs(stage.at("bin"), 0o755, exist_ok=True)
     os.makedirs(stage.at(folder), 0o755, exist_ok=True)
-    if program != stage.at("bin/jobd"):
+    if program != os.path.realpath(stage.at("bin/jobd")):
         shutil.copy(program, stage.at("bin/jobd"))
     stage.given = types.SimpleNamespace(jobd=[stage.at("bin/jobd")], jobctl=stage.given.jobctl, jobscope=stage.given.jobscope)
     wake = stage.at(f"{folder}/jobd-wake")
