@@ -17,11 +17,8 @@ pub(crate) trait Task {
     fn over<S: Alter + Drop>(self, conn: Connection<S>) -> Result<Self::Done, (StoreRefusal, Self)>;
 }
 
-/// What is below a connection to the database of such files.
-pub(crate) type MediaStore = FileStore<Medium<File, Memory>>;
-
 /// A connection to the database of such files.
-pub(crate) type MediaConnection = Connection<MediaStore>;
+pub(crate) type MediaConnection = Connection<FileStore<Medium<File, Memory>>>;
 
 /// Opens the database of these files, and does the task over it.
 pub(crate) fn over_files<T: Task>(

@@ -2,7 +2,7 @@
 
 ghost use Rattle.std.specs.Prelude.{None};
 
-use crate::connections::{Media, MediaConnection, MediaStore, Task, connection_over, over_files};
+use crate::connections::{Media, MediaConnection, Task, connection_over, over_files};
 use crate::looking::{Found, copied_connection, look};
 use crate::medium::Medium;
 use crate::one_file::taken_for_store;
@@ -109,7 +109,7 @@ fn used_over<U: StoreUser>(
         Ok(conn) => conn,
         Err(refusal) => return Err((refusal, user)),
     };
-    match settings_of(alloc, place, conn, source) {
+    match settings_of(alloc, PlaceOf { files: place }, conn, source) {
         Ok((store, settings)) => match user.use_store(store, settings) {
             Ok(status) | Err(status) => Ok(status),
         },
@@ -182,7 +182,23 @@ impl StoreFiles<'_> {
     }
 }
 
-impl StorePlace<MediaStore> for StoreFiles<'_> {
+/// Opens connections to the files of a store. A `C` is a connection.
+trait Reopens<C> {
+    fn reopen(&mut self, telling: Telling) -> Result<C, StoreFault>;
+
+    /// Closes the connection. A refusal is reported.
+    fn close(&self, conn: C);
+
+    fn tell(&self, news: StoreNews);
+}
+
+/// The place of a store, by what opens its files.
+#[derive(Drop)]
+struct PlaceOf<R> {
+    files: R,
+}
+
+impl<S: Alter + Drop, R: Reopens<Connection<S>>> StorePlace<S> for PlaceOf<R> {
     // What is asked of the system is not told, and what its files hold when they are opened again is not known.
     ghost asked = { λ s. None };
 
@@ -190,15 +206,29 @@ impl StorePlace<MediaStore> for StoreFiles<'_> {
 
     ghost knows = { λ s. ⊥ };
 
-    fn open(&mut self, _alloc: Global, telling: Telling) -> Result<MediaConnection, StoreFault> {
+    fn open(&mut self, _alloc: Global, telling: Telling) -> Result<Connection<S>, StoreFault> {
+        self.files.reopen(telling)
+    }
+
+    fn put_back(&mut self, store: S) {
+        drop(store);
+    }
+
+    fn close(&self, conn: Connection<S>) {
+        self.files.close(conn);
+    }
+
+    fn tell(&self, news: StoreNews) {
+        self.files.tell(news);
+    }
+}
+
+impl Reopens<MediaConnection> for StoreFiles<'_> {
+    fn reopen(&mut self, telling: Telling) -> Result<MediaConnection, StoreFault> {
         match private_connection_at(self.rt, self.path) {
             Ok(conn) => Ok(conn),
             Err(refusal) => Err(fault_of(self, telling, refusal)),
         }
-    }
-
-    fn put_back(&mut self, store: MediaStore) {
-        drop(store);
     }
 
     fn close(&self, conn: MediaConnection) {
