@@ -4,7 +4,7 @@
 use crate::stores::calls::{all_of, opened, runs};
 use crate::stores::disks::Disks;
 use crate::stores::on_disks::{Listed, is_listed_on};
-use crate::stores::stop_place::StopPlace;
+use crate::stores::stop_place::{PlaceOf, StopPlace};
 use crate::stores::stopped_lives::{Life, lived_on};
 use crate::stores::stops::{Said, may_follow};
 use sqlite::{Alter, Connection, FileStore, Files, Options};
@@ -118,11 +118,13 @@ pub fn lived_over(
         Ok(conn) => conn,
         Err(disks) => return Some((life.nothing(), disks)),
     };
-    let place = StopPlace { files: None, next };
+    let place = PlaceOf {
+        stops: StopPlace { files: None, next },
+    };
     match lived_on(alloc, place, conn, life)? {
         Ok((said, place)) => {
             let mut place = place;
-            let disks = place.files.take()?;
+            let disks = place.stops.files.take()?;
             Some((said, disks))
         }
         Err(store) => Some((life.nothing(), store.close())),

@@ -5,7 +5,7 @@ ghost use Rattle.std.specs.Prelude.{None};
 use crate::stores::disks::{Disks, copies};
 use crate::stores::over_files::connected;
 use override_store::{StoreFault, StoreNews, StorePlace, Telling};
-use sqlite::{Connection, FileStore};
+use sqlite::{Alter, Connection, FileStore};
 use sqlite_disk::{Fuse, Memory};
 use std::alloc::Global;
 
@@ -49,7 +49,29 @@ impl StopPlace {
     }
 }
 
-impl StorePlace<StopStore> for StopPlace {
+/// Opens connections over disks that stop. A `C` is a connection, and an `S` what is below it.
+pub trait Reopens<C, S> {
+    fn reopen(&mut self, alloc: Global) -> Result<C, StoreFault>;
+
+    /// Takes the disks back.
+    fn take_back(&mut self, store: S);
+}
+
+/// The place of a store, by what opens its disks.
+#[derive(Drop)]
+pub struct PlaceOf<R> {
+    pub stops: R,
+}
+
+impl<R: TakenOut> TakenOut for PlaceOf<R> {
+    fn taken_out(&mut self) -> PlaceOf<R> {
+        PlaceOf {
+            stops: self.stops.taken_out(),
+        }
+    }
+}
+
+impl<S: Alter + Drop, R: Reopens<Connection<S>, S>> StorePlace<S> for PlaceOf<R> {
     // It is not proved what the disks hold once they stopped.
     ghost asked = { λ s. None };
 
@@ -57,11 +79,23 @@ impl StorePlace<StopStore> for StopPlace {
 
     ghost knows = { λ s. ⊥ };
 
-    fn open(
-        &mut self,
-        alloc: Global,
-        _telling: Telling,
-    ) -> Result<Connection<StopStore>, StoreFault> {
+    fn open(&mut self, alloc: Global, _telling: Telling) -> Result<Connection<S>, StoreFault> {
+        self.stops.reopen(alloc)
+    }
+
+    fn put_back(&mut self, store: S) {
+        self.stops.take_back(store);
+    }
+
+    fn close(&self, conn: Connection<S>) {
+        drop(conn);
+    }
+
+    fn tell(&self, _news: StoreNews) {}
+}
+
+impl Reopens<Connection<StopStore>, StopStore> for StopPlace {
+    fn reopen(&mut self, alloc: Global) -> Result<Connection<StopStore>, StoreFault> {
         let files = match self.next_files(alloc) {
             Some(files) => files,
             None => return Err(StoreFault::Refused),
@@ -75,13 +109,7 @@ impl StorePlace<StopStore> for StopPlace {
         }
     }
 
-    fn put_back(&mut self, store: StopStore) {
+    fn take_back(&mut self, store: StopStore) {
         self.files = Some(store.close());
     }
-
-    fn close(&self, conn: Connection<StopStore>) {
-        drop(conn);
-    }
-
-    fn tell(&self, _news: StoreNews) {}
 }
