@@ -8,6 +8,7 @@ pub loop-init : goal.loop-init
 loop-init g c = record {
   asks = nothing;
   kept = record { child = refl; sights = refl; desk = refl };
+  ended = refl;
 }
 
 pub returns-in_default-clause-asks : goal.returns-in_default-clause-asks
@@ -24,6 +25,7 @@ loop-preserved g c = record {
     sights = c.next_notice.ensures.kept.sights ∙ c.loop.invariant.kept.sights;
     desk = c.next_notice.ensures.kept.desk ∙ c.loop.invariant.kept.desk;
   };
+  ended = c.next_notice.ensures.ended ∙ c.loop.invariant.ended;
 }
 
 pub returns-then-not-go_on-clause-asks : goal.returns-then-not-go_on-clause-asks
