@@ -31,7 +31,7 @@ module _ {A : Type 0} (Keeps : List Row → A → Type 0) {old new : State} {Com
       (λ clean up. let was = before it holds clean up in (ours clean was.0, newest clean was.0 it was.1), tt)
   answered (Err e) more ours newest same it holds = (tt, kept same it holds)
 
-pub not_open : (b : Bool) → b ≡ false → IsTrue b → ⊥
+not_open : (b : Bool) → b ≡ false → IsTrue b → ⊥
 not_open b e h = let turned = sym e ∙ h in cc
 
 -- a store that was shut by the call was refused, the disk failed, and a crash leaves what it left before or what the call commits

@@ -1,12 +1,18 @@
--- A store that is opened: what a crash leaves once it was read.
-use Rattle.std.proofs.Common.{◌≡◌, ◌⊎◌, inl, inr, List, refl, sym, subst, arith}
+-- A store that is opened: its schema over an empty database, and what a crash leaves once it was read.
+use Rattle.std.proofs.Common.{◌≡◌, ◌⊎◌, inl, inr, [], refl, sym, ap, subst, arith, ◌∙◌}
+use Rattle.sqlite.specs.Effect.{Database}
 use Rattle.sqlite.specs.State.{State, HasCleanDisk, Survives}
 use Rattle.sqlite.specs.Tree.{Trees}
+use Rattle.sqlite.specs.Steps.{IsEmpty}
 use Rattle.sqlite_catalog.specs.Listing.{IsSound}
 use Rattle.override_store.specs.StoreTables.{both_schema}
-use Rattle.override_store.specs.declared.known.Known.{Known}
-use Rattle.override_store.specs.KnownSettings.{HasKnown, HoldsTrees}
-use Rattle.override_store.specs.OverrideStores.{AreFit, Carries, CommitsOpen, HoldsAs, IsOpenedOn, IsOurs, LeavesAll, old_rows_in, rows_now, setting_rows}
+use Rattle.override_store.specs.OverrideStores.{AreFit, Carries, CommitsOpen, HoldsAs, IsOpenedOn, LeavesAll, old_rows_in, setting_rows}
+
+empty_fits : (conn : State) → IsEmpty conn → AreFit conn.committed.trees
+empty_fits conn it = ([], [], inr (inr (subst (λ schema. IsSound schema conn.committed.trees) (ap (λ (db : Database). db.schema) (sym it.0.clean) ∙ it.2) (it.1 it.0.is_open).1, refl, refl)))
+
+pub new_schema : (conn s : State) → IsEmpty conn → IsOpenedOn conn s → HasCleanDisk s → s.now.schema ≡ both_schema
+new_schema conn s empty on clean = (on.opened clean (empty_fits conn empty)).ours.schema
 
 -- the trees of a store are fit to be opened
 pub both_fit : (trees : Trees) → IsSound both_schema trees → AreFit trees
@@ -20,16 +26,5 @@ leaves_held conn opened new on leaves survives late fit db may =
     let ours = on.opened early fit in
     elim (survives.crash late db may) [
       | inl before ↦ let same = leaves early fit db before in inr (opened.now, same, ours.ours, subst (λ (t : Trees). Carries conn.committed.trees t) (sym same) (on.rows early))
-      | inr commits ↦ absurd (commits.1 ours)
-    ]
-
--- and that is what was read
-pub leaves_known : (conn opened new : State) (known : List Known) → IsOpenedOn conn opened → (HasCleanDisk opened → AreFit conn.committed.trees → LeavesAll opened) → Survives opened new (λ _. CommitsOpen opened ⊥) →
-    (HasCleanDisk new → IsOurs opened → HasKnown (rows_now opened) known) → HasCleanDisk new → AreFit conn.committed.trees → (db : Trees) → new.may_leave db → HoldsTrees db known
-leaves_known conn opened new known on leaves survives told late fit db may =
-    let early : HasCleanDisk opened = omega (arith, late, survives.clean) in
-    let ours = on.opened early fit in
-    elim (survives.crash late db may) [
-      | inl before ↦ let same = leaves early fit db before in (opened.now, same, ours.ours, subst (λ (t : Trees). HasKnown (setting_rows t) known) (sym same) (told late ours))
       | inr commits ↦ absurd (commits.1 ours)
     ]

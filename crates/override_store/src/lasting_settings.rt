@@ -1,6 +1,6 @@
 //! The store that a launcher's settings last in: it goes on after its disk failed.
 
-ghost use Rattle.std.specs.Prelude.{◌≡◌, ◌≢◌, ◌⊎◌, ◌<◌, ◌≤◌, ◌∷◌, ◌↔◌, Err, IfErr, IfOk, IsSomeAnd, IsTrue, None, Option, Some, [], reverse, true, false};
+ghost use Rattle.std.specs.Prelude.{◌≡◌, ◌≢◌, ◌⊎◌, ◌<◌, ◌≤◌, ◌∷◌, ◌↔◌, Err, IfErr, IfOk, IsSomeAnd, IsTrue, None, Option, [], reverse, true, false};
 ghost use Rattle.std.specs.Vec.{vec_capacity, vec_len};
 ghost use Rattle.sqlite.specs.Held.{state};
 ghost use Rattle.sqlite.specs.State.{HasCleanDisk};
@@ -10,15 +10,13 @@ ghost use Rattle.history_model.specs.declared.TheConstants.{MAX_WALL};
 ghost use Rattle.history_model.specs.Labels.{is_label};
 ghost use Rattle.override_store.specs.OverrideStores.{AreFit, HoldsAs};
 ghost use Rattle.override_store.specs.StoreTables.{both_schema};
-ghost use Rattle.override_store.specs.declared.known.Known.{Known as OneKnown};
-ghost use Rattle.outside.specs.declared.store.StoreFault.TheVariants as given;
-ghost use Rattle.override_store.specs.Places.{AreLastOr, IsAskedMore, IsHonest, LeavesAt};
+ghost use Rattle.override_store.specs.Places.{IsAskedMore};
 ghost use Rattle.override_store.specs.KnownSettings.{AtHand, HasMade, HoldsKnown, HoldsLast, IsOneTooMany, StampsLast, TellAlike, known_as};
 
 use crate::known::{Known, is_one_too_many, put, rising};
-use crate::pattern::store_schema;
 use crate::place::{StoreNews, StorePlace, Telling};
-use crate::renewal::{open_all, renewed};
+use crate::renewal::{open_all, renewed, store_schema};
+use crate::stored_settings::fault_of;
 use crate::{OverrideStore, StoreFault};
 use history_model::{Setting, Text};
 use outside::{self, SettingStore};
@@ -40,13 +38,13 @@ pub enum NotKept {
 
 /// The store at its place, with the settings that it must hold. A refused setting shuts it. The next setting opens it again, and before
 /// that setting is made, what its database then has otherwise is written back. When it is dropped, it closes its database whole.
-pub struct LastingSettings<S: Alter, P: StorePlace<S>> {
+pub struct LastingSettings<S: Alter, P: StorePlace<Connection<S>>> {
     alloc: Global,
     pub place: P,
     /// The store, if it is not shut.
     pub store: Option<OverrideStore<S>>,
     /// One that a refusal shut. It keeps the place from others.
-    pub shut: Option<OverrideStore<S>>,
+    shut: Option<OverrideStore<S>>,
     pub known: Vec<Known>,
     /// The schema of a store. A store that is opened again is compared with it.
     pub pattern: Schema,
@@ -54,7 +52,7 @@ pub struct LastingSettings<S: Alter, P: StorePlace<S>> {
     is_full: bool,
 }
 
-impl<S: Alter + Drop, P: StorePlace<S> + Drop> Drop for LastingSettings<S, P> {
+impl<S: Alter + Drop, P: StorePlace<Connection<S>> + Drop> Drop for LastingSettings<S, P> {
     fn drop(self) {
         let LastingSettings {
             alloc,
@@ -75,21 +73,8 @@ impl<S: Alter + Drop, P: StorePlace<S> + Drop> Drop for LastingSettings<S, P> {
     }
 }
 
-// Puts a store back that is there.
-fn put_back<S: Alter + Drop, P: StorePlace<S>>(place: &mut P, store: Option<OverrideStore<S>>)
-    ensures asked { P.asked place.new ≡ P.asked place.old }
-    ensures knows { P.knows place.new → IsHonest S.Store P.knows place.old None store }
-    ensures left { P.knows place.new → (db : Trees) → P.finds place.new db →
-        LeavesAt S.Store P.finds place.old None store db }
-{
-    match store {
-        Some(store) => place.put_back(store.close_on().into_store()),
-        None => {}
-    }
-}
-
 // Opens the store again, to see and mend what others did to its files meanwhile, and closes it.
-fn settle<S: Alter + Drop, P: StorePlace<S>>(
+fn settle<S: Alter + Drop, P: StorePlace<Connection<S>>>(
     alloc: Global,
     place: &mut P,
     pattern: &Schema,
@@ -106,7 +91,7 @@ fn settle<S: Alter + Drop, P: StorePlace<S>>(
 
 /// The store on a connection to the database at the place, and the settings that it holds, by rising bytes of their labels. Refused as
 /// `opened` is.
-pub fn lasting<S: Alter + Drop, P: StorePlace<S> + Drop>(
+pub fn lasting<S: Alter + Drop, P: StorePlace<Connection<S>> + Drop>(
     alloc: Global,
     place: P,
     conn: Connection<S>,
@@ -115,9 +100,6 @@ pub fn lasting<S: Alter + Drop, P: StorePlace<S> + Drop>(
         HoldsLast S.Store r.0.pattern r.0.store r.0.known.items (reverse r.1.items)) }
     ensures stamped { IfOk result (λ r. AreFit (state S.Store conn).committed.trees →
         StampsLast S.Store r.0.pattern r.0.store r.0.known.items []) }
-    ensures lasts { IfOk result (λ r. AreFit (state S.Store conn).committed.trees →
-        IsHonest S.Store P.knows r.0.place r.0.store r.0.shut →
-        AreLastOr (LeavesAt S.Store P.finds r.0.place r.0.store r.0.shut) r.0.known.items None) }
     ensures left { IfErr result (λ e. IsClean (S.Store.view e.1) →
         AreFit (state S.Store conn).committed.trees → (db : Trees) → S.Store.recovers e.1 db →
         (state S.Store conn).may_leave db ⊎ HoldsAs (state S.Store conn).committed.trees db) }
@@ -159,7 +141,7 @@ pub fn lasting<S: Alter + Drop, P: StorePlace<S> + Drop>(
     }
 }
 
-impl<S: Alter + Drop, P: StorePlace<S> + Drop> LastingSettings<S, P> {
+impl<S: Alter + Drop, P: StorePlace<Connection<S>> + Drop> LastingSettings<S, P> {
     // The store, taken out. It is opened again if it is shut.
     fn at_hand(&mut self) -> Result<OverrideStore<S>, StoreFault>
         ensures pattern { self.new.pattern ≡ self.old.pattern }
@@ -170,14 +152,6 @@ impl<S: Alter + Drop, P: StorePlace<S> + Drop> LastingSettings<S, P> {
             IfOk result (λ store. HoldsKnown (state S.Store store) self.old.known.items) }
         ensures asked { self.old.store ≡ None →
             IsAskedMore (P.asked self.old.place) (P.asked self.new.place) }
-        ensures lasts { (pending : Option OneKnown) → P.knows self.new.place → self.old.pattern ≡ both_schema →
-            AreLastOr (LeavesAt S.Store P.finds self.old.place self.old.store self.old.shut) self.old.known.items pending →
-            IfOk result (λ store. HasCleanDisk (state S.Store store) →
-            AreLastOr (state S.Store store).may_leave self.old.known.items pending) }
-        ensures left { (pending : Option OneKnown) → P.knows self.new.place → self.old.pattern ≡ both_schema →
-            AreLastOr (LeavesAt S.Store P.finds self.old.place self.old.store self.old.shut) self.old.known.items pending →
-            IfErr result (λ _. (self.new.shut ≡ None) ×
-            AreLastOr (P.finds self.new.place) self.old.known.items pending) }
     {
         match self.store.take() {
             Some(store) => Ok(store),
@@ -192,16 +166,8 @@ impl<S: Alter + Drop, P: StorePlace<S> + Drop> LastingSettings<S, P> {
         ensures holds { self.old.pattern ≡ both_schema →
             IfOk result (λ store. HoldsKnown (state S.Store store) self.old.known.items) }
         ensures asked { IsAskedMore (P.asked self.old.place) (P.asked self.new.place) }
-        ensures shut { self.new.shut ≡ None }
-        ensures lasts { (pending : Option OneKnown) → P.knows self.new.place → self.old.pattern ≡ both_schema →
-            AreLastOr (LeavesAt S.Store P.finds self.old.place None self.old.shut) self.old.known.items pending →
-            IfOk result (λ store. HasCleanDisk (state S.Store store) →
-            AreLastOr (state S.Store store).may_leave self.old.known.items pending) }
-        ensures left { (pending : Option OneKnown) → P.knows self.new.place → self.old.pattern ≡ both_schema →
-            AreLastOr (LeavesAt S.Store P.finds self.old.place None self.old.shut) self.old.known.items pending →
-            IfErr result (λ _. AreLastOr (P.finds self.new.place) self.old.known.items pending) }
     {
-        put_back(&mut self.place, self.shut.take());
+        drop(self.shut.take());
         let telling = Telling::New;
         match renewed(
             self.alloc,
@@ -221,7 +187,6 @@ impl<S: Alter + Drop, P: StorePlace<S> + Drop> LastingSettings<S, P> {
         ensures known { self.new.known ≡ self.old.known }
         ensures store { self.new.store ≡ self.old.store }
         ensures place { self.new.place ≡ self.old.place }
-        ensures shut { self.new.shut ≡ Some store }
     {
         self.place.tell(StoreNews::Refused(fault));
         self.shut = Some(store);
@@ -240,13 +205,6 @@ impl<S: Alter + Drop, P: StorePlace<S> + Drop> LastingSettings<S, P> {
             HasMade (state S.Store store) label.now disabled changed self.old.known.items)) }
         ensures asked { self.old.store ≡ None →
             IsAskedMore (P.asked self.old.place) (P.asked self.new.place) }
-        ensures left { result ≡ false → (pending : Option OneKnown) →
-            IsHonest S.Store P.knows self.new.place self.new.store self.new.shut →
-            self.old.pattern ≡ both_schema → AtHand S.Store self.old.store self.old.known.items →
-            AreLastOr (LeavesAt S.Store P.finds self.old.place self.old.store self.old.shut) self.old.known.items pending →
-            AreLastOr (LeavesAt S.Store P.finds self.new.place self.new.store self.new.shut) self.old.known.items pending
-            ⊎ AreLastOr (LeavesAt S.Store P.finds self.new.place self.new.store self.new.shut) self.old.known.items
-            (Some (known_as label.now disabled changed)) }
     {
         let mut store = match self.at_hand() {
             Ok(store) => store,
@@ -273,7 +231,6 @@ impl<S: Alter + Drop, P: StorePlace<S> + Drop> LastingSettings<S, P> {
         ensures room { IfOk result (λ _. vec_len self.new.known < vec_capacity self.new.known) }
         ensures full { result ≡ Err NotKept.TooMany ↔ IsOneTooMany self.old.known.items label.now }
         ensures place { self.new.place ≡ self.old.place }
-        ensures shut { self.new.shut ≡ self.old.shut }
         ensures memory { result ≢ Err NotKept.Refused }
     {
         if is_one_too_many(self.known.as_slice(), label) {
@@ -307,17 +264,6 @@ impl<S: Alter + Drop, P: StorePlace<S> + Drop> LastingSettings<S, P> {
             HasMade (state S.Store store) label.now disabled changed self.old.known.items))) }
         ensures asked { self.old.store ≡ None → result ≡ Err NotKept.Refused →
             IsAskedMore (P.asked self.old.place) (P.asked self.new.place) }
-        ensures lasts { IfOk result (λ _. IsHonest S.Store P.knows self.new.place self.new.store self.new.shut →
-            self.old.pattern ≡ both_schema → AtHand S.Store self.old.store self.old.known.items →
-            AreLastOr (LeavesAt S.Store P.finds self.new.place self.new.store self.new.shut) self.new.known.items None) }
-        ensures left { (pending : Option OneKnown) →
-            IsHonest S.Store P.knows self.new.place self.new.store self.new.shut →
-            self.old.pattern ≡ both_schema → AtHand S.Store self.old.store self.old.known.items →
-            AreLastOr (LeavesAt S.Store P.finds self.old.place self.old.store self.old.shut) self.old.known.items pending →
-            IfErr result (λ _.
-            AreLastOr (LeavesAt S.Store P.finds self.new.place self.new.store self.new.shut) self.new.known.items pending
-            ⊎ AreLastOr (LeavesAt S.Store P.finds self.new.place self.new.store self.new.shut) self.new.known.items
-            (Some (known_as label.now disabled changed))) }
     {
         match self.make_room(label) {
             Ok(()) => {}
@@ -341,7 +287,7 @@ impl<S: Alter + Drop, P: StorePlace<S> + Drop> LastingSettings<S, P> {
     }
 }
 
-impl<S: Alter + Drop, P: StorePlace<S> + Drop> SettingStore for LastingSettings<S, P> {
+impl<S: Alter + Drop, P: StorePlace<Connection<S>> + Drop> SettingStore for LastingSettings<S, P> {
     ghost holds = { λ s settings. HoldsLast S.Store s.pattern s.store s.known.items settings };
 
     ghost stamped = { λ s stamps. StampsLast S.Store s.pattern s.store s.known.items stamps };
@@ -361,18 +307,6 @@ impl<S: Alter + Drop, P: StorePlace<S> + Drop> SettingStore for LastingSettings<
         match rising(alloc, self.known.as_slice()) {
             Ok(all) => Ok(all),
             Err(fault) => Err(fault_of(fault)),
-        }
-    }
-}
-
-// The fault for the caller. A name that is not a label counts as refused.
-fn fault_of(fault: StoreFault) -> outside::StoreFault
-    ensures memory { result ≡ given.NoMemory ↔ (fault ≡ StoreFault.NoMemory) }
-{
-    match fault {
-        StoreFault::NoMemory => outside::StoreFault::NoMemory,
-        StoreFault::Refused | StoreFault::Full | StoreFault::Foreign => {
-            outside::StoreFault::Refused
         }
     }
 }

@@ -7,8 +7,8 @@ ghost use Rattle.sqlite.specs.Held.{state};
 ghost use Rattle.sqlite.specs.State.{HasCleanDisk, Survives};
 ghost use Rattle.sqlite_disk.specs.Disk.{MoreFaults};
 ghost use Rattle.sqlite.specs.Tree.{Trees};
-ghost use Rattle.sqlite.specs.View.{IsClean, doubt};
-ghost use Rattle.override_store.specs.KnownSettings.{HasKnown, HoldsKnown, HoldsTrees};
+ghost use Rattle.sqlite.specs.View.{IsClean};
+ghost use Rattle.override_store.specs.KnownSettings.{HoldsKnown, HoldsTrees};
 ghost use Rattle.history_model.specs.declared.TheConstants.{MAX_WALL};
 ghost use Rattle.history_model.specs.Labels.{is_label, is_same};
 ghost use Rattle.history_model.specs.declared.event.Setting.{Setting};
@@ -23,11 +23,11 @@ pub mod laws;
 mod lists;
 mod mending;
 mod open;
-mod pattern;
 mod place;
 mod renewal;
 mod sameness;
 mod statements;
+mod stored_settings;
 
 use history_model::Setting;
 pub use known::{Known, MOST_LABELS};
@@ -37,6 +37,7 @@ use sqlite::{Alter, Connection, Error, ErrorCode};
 use sqlite_trees::store::Store;
 use std::alloc::Global;
 use std::marker::Model;
+pub use stored_settings::{StoredSettings, opened, opened_again};
 
 /// Why a store refuses.
 #[derive(Clone, Copy, PartialEq, Eq)]
@@ -96,8 +97,6 @@ impl<S: Alter + Drop> OverrideStore<S> {
         ensures left { IfErr result (λ e. IsClean (S.Store.view e.1) →
             AreFit (state S.Store conn).committed.trees → (db : Trees) → S.Store.recovers e.1 db →
             (state S.Store conn).may_leave db ⊎ HoldsAs (state S.Store conn).committed.trees db) }
-        ensures was_clean { IfErr result (λ e.
-            doubt (state S.Store conn).is_clean ≤ doubt (S.Store.view e.1).is_clean) }
         ensures known { IfErr result (λ e. e.0 ≢ StoreFault.Foreign) }
     {
         let mut conn = match open::renewed(alloc, conn) {
@@ -230,8 +229,6 @@ impl<S: Alter> OverrideStore<S> {
     pub(crate) fn known(&mut self, alloc: Global) -> Result<Vec<Known>, StoreFault>
         ensures tells { Between S.Store self.old self.new (λ old new. (HasCleanDisk old → IsOurs old) →
             IfOk result (λ all. HoldsKnown new all.items)) }
-        ensures told { FromOurs S.Store self.old self.new (λ old _.
-            IfOk result (λ all. HasKnown (rows_now old) all.items)) }
         ensures crash { Between S.Store self.old self.new (λ old new.
             Survives old new (λ _. CommitsOpen old ⊥)) }
     {

@@ -1,16 +1,15 @@
 //! A store that is opened again: its database is made to have what it must hold.
 
-ghost use Rattle.std.specs.Prelude.{◌≡◌, ◌≢◌, ◌⊎◌, ◌≤◌, IfErr, IfOk, IsTrue, List, None, Option};
+ghost use Rattle.std.specs.Prelude.{◌≡◌, ◌⊎◌, IfErr, IfOk, IsTrue, None};
 ghost use Rattle.sqlite_catalog.specs.Listing.{IsSound};
 ghost use Rattle.override_store.specs.StoreTables.{both_schema};
 ghost use Rattle.sqlite.specs.Held.{state};
 ghost use Rattle.sqlite.specs.State.{HasCleanDisk};
 ghost use Rattle.sqlite.specs.Tree.{Trees};
-ghost use Rattle.sqlite.specs.View.{IsClean, doubt};
-ghost use Rattle.override_store.specs.OverrideStores.{AreFit, HoldsAs, IsOurs};
-ghost use Rattle.override_store.specs.KnownSettings.{HoldsKnown, HoldsTrees};
-ghost use Rattle.override_store.specs.declared.known.Known.{Known as OneKnown};
-ghost use Rattle.override_store.specs.Places.{AreLastOr, IsAskedMore};
+ghost use Rattle.sqlite.specs.View.{IsClean};
+ghost use Rattle.override_store.specs.OverrideStores.{AreFit, HoldsAs};
+ghost use Rattle.override_store.specs.KnownSettings.{HoldsKnown};
+ghost use Rattle.override_store.specs.Places.{IsAskedMore};
 
 use crate::known::{Known, are_same};
 use crate::open::open_tables;
@@ -33,16 +32,9 @@ pub(crate) fn open_all<S: Alter + Drop>(
     ensures crash { IfOk result (λ r. HasCleanDisk (state S.Store r.0) →
         AreFit (state S.Store conn).committed.trees → (db : Trees) → (state S.Store r.0).may_leave db →
         (state S.Store conn).may_leave db ⊎ HoldsAs (state S.Store conn).committed.trees db) }
-    ensures lasts { IfOk result (λ r. HasCleanDisk (state S.Store r.0) →
-        AreFit (state S.Store conn).committed.trees → (db : Trees) → (state S.Store r.0).may_leave db →
-        HoldsTrees db r.1.items) }
-    ensures clean { IfOk result (λ r.
-        doubt (state S.Store conn).is_clean ≤ doubt (state S.Store r.0).is_clean) }
     ensures left { IfErr result (λ e. IsClean (S.Store.view e.1) →
         AreFit (state S.Store conn).committed.trees → (db : Trees) → S.Store.recovers e.1 db →
         (state S.Store conn).may_leave db ⊎ HoldsAs (state S.Store conn).committed.trees db) }
-    ensures was_clean { IfErr result (λ e.
-        doubt (state S.Store conn).is_clean ≤ doubt (S.Store.view e.1).is_clean) }
 {
     let mut store = match OverrideStore::open_or_give(alloc, conn) {
         Ok(store) => store,
@@ -55,7 +47,7 @@ pub(crate) fn open_all<S: Alter + Drop>(
 }
 
 // It reports a refusal.
-fn open_at<S: Alter + Drop, P: StorePlace<S>>(
+fn open_at<S: Alter + Drop, P: StorePlace<Connection<S>>>(
     alloc: Global,
     place: &mut P,
     pattern: &Schema,
@@ -64,13 +56,6 @@ fn open_at<S: Alter + Drop, P: StorePlace<S>>(
     ensures holds { pattern.now ≡ both_schema →
         IfOk result (λ r. HoldsKnown (state S.Store r.0) r.1.items) }
     ensures asked { IsAskedMore (P.asked place.old) (P.asked place.new) }
-    ensures knows { P.knows place.new → P.knows place.old }
-    ensures lasts { (known : List OneKnown) (pending : Option OneKnown) → P.knows place.new →
-        AreLastOr (P.finds place.old) known pending → IfOk result (λ r. HasCleanDisk (state S.Store r.0) →
-        AreLastOr (state S.Store r.0).may_leave known pending) }
-    ensures left { (known : List OneKnown) (pending : Option OneKnown) → P.knows place.new →
-        AreLastOr (P.finds place.old) known pending →
-        IfErr result (λ _. AreLastOr (P.finds place.new) known pending) }
 {
     let conn = match place.open(alloc, telling) {
         Ok(conn) => conn,
@@ -79,39 +64,35 @@ fn open_at<S: Alter + Drop, P: StorePlace<S>>(
     let conn = match fit(conn, pattern) {
         Ok(conn) => conn,
         Err((fault, store)) => {
-            place.put_back(store);
+            drop(store);
             return Err(told(place, telling, fault));
         }
     };
     match open_all(alloc, conn) {
         Ok(both) => Ok(both),
         Err((fault, store)) => {
-            place.put_back(store);
+            drop(store);
             Err(told(place, telling, fault))
         }
     }
 }
 
-// The connection with the tables of a store, and with nothing else. One that has them stays as it is.
+// The connection with the tables of a store, and with nothing else.
 fn fit<S: Alter + Drop>(
     conn: Connection<S>,
     pattern: &Schema,
 ) -> Result<Connection<S>, (StoreFault, S)>
-    ensures fits { pattern.now ≡ both_schema →
+    ensures { pattern.now ≡ both_schema →
         IfOk result (λ conn. HasCleanDisk (state S.Store conn) → IsTrue (state S.Store conn).is_open →
         AreFit (state S.Store conn).committed.trees) }
-    ensures stays { (state S.Store conn).now.schema ≡ both_schema → IfOk result (λ fit. fit ≡ conn) }
-    ensures clean { IfOk result (λ fit.
-        doubt (state S.Store conn).is_clean ≤ doubt (state S.Store fit).is_clean) }
-    ensures was_clean { IfErr result (λ e.
-        doubt (state S.Store conn).is_clean ≤ doubt (S.Store.view e.1).is_clean) }
-    ensures left { (state S.Store conn).now.schema ≡ both_schema → IfErr result (λ e.
-        (db : Trees) → S.Store.recovers e.1 db → (state S.Store conn).may_leave db) }
 {
-    let conn = match with_tables(conn) {
-        Ok(conn) => conn,
-        Err(refused) => return Err(refused),
-    };
+    let mut conn = conn;
+    if is_empty(&conn) {
+        match open_tables(&mut conn) {
+            Ok(()) => {}
+            Err(fault) => return Err((fault, conn.into_store())),
+        }
+    }
     if has_schema(&conn, pattern) {
         Ok(conn)
     } else {
@@ -119,31 +100,8 @@ fn fit<S: Alter + Drop>(
     }
 }
 
-// The connection, once an empty database has the tables of a store.
-fn with_tables<S: Alter + Drop>(conn: Connection<S>) -> Result<Connection<S>, (StoreFault, S)>
-    ensures stays { (state S.Store conn).now.schema ≡ both_schema → IfOk result (λ made. made ≡ conn) }
-    ensures clean { IfOk result (λ made.
-        doubt (state S.Store conn).is_clean ≤ doubt (state S.Store made).is_clean) }
-    ensures was_clean { IfErr result (λ e.
-        doubt (state S.Store conn).is_clean ≤ doubt (S.Store.view e.1).is_clean) }
-    ensures left { (state S.Store conn).now.schema ≡ both_schema → IfErr result (λ e.
-        (db : Trees) → S.Store.recovers e.1 db → (state S.Store conn).may_leave db) }
-{
-    if is_empty(&conn) {
-        let mut conn = conn;
-        match open_tables(&mut conn) {
-            Ok(()) => Ok(conn),
-            Err(fault) => Err((fault, conn.into_store())),
-        }
-    } else {
-        Ok(conn)
-    }
-}
-
 // Nothing is written to a database that has other tables.
-fn is_empty<S: Alter>(conn: &Connection<S>) -> bool
-    ensures { IsTrue result → (state S.Store conn.now).now.schema ≢ both_schema }
-{
+fn is_empty<S: Alter>(conn: &Connection<S>) -> bool {
     let schema = conn.schema();
     let has_no_table = schema.tables.is_empty();
     let has_no_index = schema.indexes.is_empty();
@@ -160,7 +118,27 @@ fn has_schema<S: Alter>(conn: &Connection<S>, pattern: &Schema) -> bool
     is_settled && conn.schema().is_same(pattern)
 }
 
-fn told<S: Alter, P: StorePlace<S>>(place: &P, telling: Telling, fault: StoreFault) -> StoreFault
+/// The schema of a store.
+pub(crate) fn store_schema(alloc: Global) -> Result<Schema, StoreFault>
+    ensures { IfOk result (λ schema. schema ≡ both_schema) }
+{
+    let conn = match Connection::open_in_memory(alloc) {
+        Ok(conn) => conn,
+        Err(_) => return Err(StoreFault::NoMemory),
+    };
+    let conn = match OverrideStore::open_on(alloc, conn) {
+        Ok(store) => store.close_on(),
+        Err(fault) => return Err(fault),
+    };
+    let copy = conn.schema().copy(alloc);
+    drop(conn);
+    match copy {
+        Ok(schema) => Ok(schema),
+        Err(_) => Err(StoreFault::NoMemory),
+    }
+}
+
+fn told<C, P: StorePlace<C>>(place: &P, telling: Telling, fault: StoreFault) -> StoreFault
     ensures { result ≡ fault }
 {
     match telling {
@@ -170,7 +148,7 @@ fn told<S: Alter, P: StorePlace<S>>(place: &P, telling: Telling, fault: StoreFau
 }
 
 // The store at its place, and what it has, if that is not what is known.
-fn look<S: Alter + Drop, P: StorePlace<S>>(
+fn look<S: Alter + Drop, P: StorePlace<Connection<S>>>(
     alloc: Global,
     place: &mut P,
     pattern: &Schema,
@@ -179,16 +157,7 @@ fn look<S: Alter + Drop, P: StorePlace<S>>(
 ) -> Result<(OverrideStore<S>, Option<Vec<Known>>), StoreFault>
     ensures holds { pattern.now ≡ both_schema →
         IfOk result (λ r. r.1 ≡ None → HoldsKnown (state S.Store r.0) known.now) }
-    ensures ours { pattern.now ≡ both_schema → IfOk result (λ r. HasCleanDisk (state S.Store r.0) →
-        IsTrue (state S.Store r.0).is_open → IsOurs (state S.Store r.0)) }
     ensures asked { IsAskedMore (P.asked place.old) (P.asked place.new) }
-    ensures knows { P.knows place.new → P.knows place.old }
-    ensures lasts { (known : List OneKnown) (pending : Option OneKnown) → P.knows place.new →
-        AreLastOr (P.finds place.old) known pending → IfOk result (λ r. HasCleanDisk (state S.Store r.0) →
-        AreLastOr (state S.Store r.0).may_leave known pending) }
-    ensures left { (known : List OneKnown) (pending : Option OneKnown) → P.knows place.new →
-        AreLastOr (P.finds place.old) known pending →
-        IfErr result (λ _. AreLastOr (P.finds place.new) known pending) }
 {
     let (store, found) = match open_at(alloc, place, pattern, telling) {
         Ok(both) => both,
@@ -204,7 +173,7 @@ fn look<S: Alter + Drop, P: StorePlace<S>>(
 
 /// The store opened again, with all that is known, and whether that had to be written back. If so, it reads the store again before it
 /// returns.
-pub(crate) fn renewed<S: Alter + Drop, P: StorePlace<S>>(
+pub(crate) fn renewed<S: Alter + Drop, P: StorePlace<Connection<S>>>(
     alloc: Global,
     place: &mut P,
     pattern: &Schema,
@@ -214,13 +183,6 @@ pub(crate) fn renewed<S: Alter + Drop, P: StorePlace<S>>(
     ensures holds { pattern.now ≡ both_schema →
         IfOk result (λ r. HoldsKnown (state S.Store r.0) known.now) }
     ensures asked { IsAskedMore (P.asked place.old) (P.asked place.new) }
-    ensures knows { P.knows place.new → P.knows place.old }
-    ensures lasts { (pending : Option OneKnown) → P.knows place.new → pattern.now ≡ both_schema →
-        AreLastOr (P.finds place.old) known.now pending → IfOk result (λ r. HasCleanDisk (state S.Store r.0) →
-        AreLastOr (state S.Store r.0).may_leave known.now pending) }
-    ensures left { (pending : Option OneKnown) → P.knows place.new → pattern.now ≡ both_schema →
-        AreLastOr (P.finds place.old) known.now pending →
-        IfErr result (λ _. AreLastOr (P.finds place.new) known.now pending) }
 {
     let (store, other) = match look(alloc, place, pattern, known, telling) {
         Ok(both) => both,
@@ -230,7 +192,7 @@ pub(crate) fn renewed<S: Alter + Drop, P: StorePlace<S>>(
         None => Ok((store, false)),
         Some(found) => {
             drop(found);
-            match mend(place, store, known) {
+            match mend(store, known) {
                 Ok(()) => look_again(alloc, place, pattern, known, telling),
                 Err(fault) => Err(told(place, telling, fault)),
             }
@@ -239,7 +201,7 @@ pub(crate) fn renewed<S: Alter + Drop, P: StorePlace<S>>(
 }
 
 // The store, once it was mended.
-fn look_again<S: Alter + Drop, P: StorePlace<S>>(
+fn look_again<S: Alter + Drop, P: StorePlace<Connection<S>>>(
     alloc: Global,
     place: &mut P,
     pattern: &Schema,
@@ -249,13 +211,6 @@ fn look_again<S: Alter + Drop, P: StorePlace<S>>(
     ensures holds { pattern.now ≡ both_schema →
         IfOk result (λ r. HoldsKnown (state S.Store r.0) known.now) }
     ensures asked { IsAskedMore (P.asked place.old) (P.asked place.new) }
-    ensures knows { P.knows place.new → P.knows place.old }
-    ensures lasts { (pending : Option OneKnown) → P.knows place.new → pattern.now ≡ both_schema →
-        AreLastOr (P.finds place.old) known.now pending → IfOk result (λ r. HasCleanDisk (state S.Store r.0) →
-        AreLastOr (state S.Store r.0).may_leave known.now pending) }
-    ensures left { (pending : Option OneKnown) → P.knows place.new → pattern.now ≡ both_schema →
-        AreLastOr (P.finds place.old) known.now pending →
-        IfErr result (λ _. AreLastOr (P.finds place.new) known.now pending) }
 {
     let (store, other) = match look(alloc, place, pattern, known, telling) {
         Ok(both) => both,
@@ -264,29 +219,17 @@ fn look_again<S: Alter + Drop, P: StorePlace<S>>(
     match other {
         None => Ok((store, true)),
         Some(found) => {
+            drop(store);
             drop(found);
-            place.put_back(store.close_on().into_store());
             Err(told(place, telling, StoreFault::Refused))
         }
     }
 }
 
-// Makes the store have what is known, and puts it back.
-fn mend<S: Alter + Drop, P: StorePlace<S>>(
-    place: &mut P,
-    store: OverrideStore<S>,
-    known: &[Known],
-) -> Result<(), StoreFault>
-    ensures asked { P.asked place.new ≡ P.asked place.old }
-    ensures knows { P.knows place.new → P.knows place.old }
-    ensures clean { P.knows place.new → HasCleanDisk (state S.Store store) }
-    ensures left { (pending : Option OneKnown) → P.knows place.new →
-        (HasCleanDisk (state S.Store store) → IsTrue (state S.Store store).is_open → IsOurs (state S.Store store)) →
-        AreLastOr (state S.Store store).may_leave known.now pending →
-        AreLastOr (P.finds place.new) known.now pending }
-{
+// Makes the store have what is known, and drops it.
+fn mend<S: Alter + Drop>(store: OverrideStore<S>, known: &[Known]) -> Result<(), StoreFault> {
     let mut store = store;
     let mended = store.mend(known);
-    place.put_back(store.close_on().into_store());
+    drop(store);
     mended
 }

@@ -109,7 +109,7 @@ fn used_over<U: StoreUser>(
         Ok(conn) => conn,
         Err(refusal) => return Err((refusal, user)),
     };
-    match settings_of(alloc, PlaceOf { files: place }, conn, source) {
+    match settings_of(alloc, place, conn, source) {
         Ok((store, settings)) => match user.use_store(store, settings) {
             Ok(status) | Err(status) => Ok(status),
         },
@@ -119,7 +119,7 @@ fn used_over<U: StoreUser>(
 
 // The settings at the place. If it is refused, what is under the connection is dropped. This is over any store, since a
 // real one would be dropped part by part.
-fn settings_of<S: Alter + Drop, P: StorePlace<S> + Drop>(
+fn settings_of<S: Alter + Drop, P: StorePlace<Connection<S>> + Drop>(
     alloc: Global,
     place: P,
     conn: Connection<S>,
@@ -182,49 +182,11 @@ impl StoreFiles<'_> {
     }
 }
 
-/// Opens connections to the files of a store. A `C` is a connection.
-trait Reopens<C> {
-    fn reopen(&mut self, telling: Telling) -> Result<C, StoreFault>;
-
-    /// Closes the connection. A refusal is reported.
-    fn close(&self, conn: C);
-
-    fn tell(&self, news: StoreNews);
-}
-
-/// The place of a store, by what opens its files.
-#[derive(Drop)]
-struct PlaceOf<R> {
-    files: R,
-}
-
-impl<S: Alter + Drop, R: Reopens<Connection<S>>> StorePlace<S> for PlaceOf<R> {
-    // What is asked of the system is not told, and what its files hold when they are opened again is not known.
+impl StorePlace<MediaConnection> for StoreFiles<'_> {
+    // What is asked of the system is not told.
     ghost asked = { λ s. None };
 
-    ghost finds = { λ s db. Unit {0} };
-
-    ghost knows = { λ s. ⊥ };
-
-    fn open(&mut self, _alloc: Global, telling: Telling) -> Result<Connection<S>, StoreFault> {
-        self.files.reopen(telling)
-    }
-
-    fn put_back(&mut self, store: S) {
-        drop(store);
-    }
-
-    fn close(&self, conn: Connection<S>) {
-        self.files.close(conn);
-    }
-
-    fn tell(&self, news: StoreNews) {
-        self.files.tell(news);
-    }
-}
-
-impl Reopens<MediaConnection> for StoreFiles<'_> {
-    fn reopen(&mut self, telling: Telling) -> Result<MediaConnection, StoreFault> {
+    fn open(&mut self, _alloc: Global, telling: Telling) -> Result<MediaConnection, StoreFault> {
         match private_connection_at(self.rt, self.path) {
             Ok(conn) => Ok(conn),
             Err(refusal) => Err(fault_of(self, telling, refusal)),

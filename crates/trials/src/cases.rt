@@ -26,7 +26,7 @@ pub enum Case {
     RefusedRounds,
     Ends(&'static ends::Ends),
     Lasting(&'static str, &'static [on_disks::Listed<'static>]),
-    Stopping(stops::Run),
+    Stopping(stops::Run, bool),
     Launched(&'static launchers::Turns),
     Journal(&'static journals::Row),
     /// The first number, and how many from it on.
@@ -56,7 +56,7 @@ fn goes(rt: &HostRuntime, case: &Case) -> bool {
         Case::RefusedRounds => matches!(refusals::are_taken(rt), Some(true)),
         Case::Ends(ends) => matches!(ends::is_so(rt, ends), Some(true)),
         Case::Lasting(made, rounds) => files::do_last(alloc, made, rounds),
-        Case::Stopping(run) => stops::are_followed(alloc, run),
+        Case::Stopping(run, is_log) => stops::are_followed(alloc, run, is_log),
         Case::Launched(turns) => matches!(launchers::is_so::<Stage>(alloc, turns), Some(true)),
         Case::Journal(row) => matches!(journals::become_so(alloc, row), Some(true)),
         Case::Simulated(first, count) => matches!(simulate::are_so(rt, first, count), Some(true)),

@@ -5,12 +5,10 @@ pub mod disks;
 pub mod files;
 pub mod on_disks;
 mod over_files;
-mod stop_place;
-mod stopped_lives;
+mod stopped_turns;
 pub mod stops;
 
 use crate::cases::{Case, Line};
-use crate::stores::stopped_lives::Life;
 use crate::stores::stops::Run;
 
 /// The cases of this folder. Nothing else names them: a function is proved over all of a list that it names.
@@ -32,27 +30,17 @@ static LINES: &[Line] = &[
         "an_old_row_beside_a_new_one",
         &[Case::Lasting(files::BOTH_TABLES, files::OLD_BESIDE_NEW)],
     ),
-    (
-        "the_log_stops",
-        &[Case::Stopping(Run::Once(Life::Settings, true))],
-    ),
+    ("the_log_stops", &[Case::Stopping(Run::Settings, true)]),
     (
         "the_database_stops",
-        &[Case::Stopping(Run::Once(Life::Settings, false))],
+        &[Case::Stopping(Run::Settings, false)],
     ),
     (
         "a_setting_lasts_where_the_log_stops",
-        &[Case::Stopping(Run::Once(Life::Turns, true))],
+        &[Case::Stopping(Run::Turns, true)],
     ),
     (
         "a_setting_lasts_where_the_database_stops",
-        &[Case::Stopping(Run::Once(Life::Turns, false))],
-    ),
-    (
-        "settings_last_where_a_renewal_stops",
-        &[
-            Case::Stopping(Run::Renewed(true)),
-            Case::Stopping(Run::Renewed(false)),
-        ],
+        &[Case::Stopping(Run::Turns, false)],
     ),
 ];

@@ -1,21 +1,19 @@
-//! A launcher's store over disks in memory that stop after a number of calls: what was acknowledged is found again. The calls go from the opening of a
-//! first version's file to the second of two settings, or from the opening of a new one through a launcher's turns. If the first setting is refused, the
-//! second opens the store again. Those disks stop after each number of calls, too: while it is read, while it is written back, and at the setting.
+//! Disks in memory that stop after a number of calls: what was acknowledged is found again. The calls go from the opening of a first version's file
+//! to the second of two settings, or from the opening of a new one through a launcher's turns.
 
-use crate::stores::calls::{FIRST_VERSION, Row, SECOND, show_all};
+use crate::stores::calls::{FIRST_VERSION, Row, SECOND, sets, show_all};
 use crate::stores::disks::{Disks, MANY, are_there, copies};
 use crate::stores::files::left_by;
 use crate::stores::on_disks::NOTHING;
-use crate::stores::over_files::{Task, lived_over, so_over};
-use crate::stores::stopped_lives::Life;
+use crate::stores::over_files::{Task, done_on_disks, so_over};
 use history_model::Setting;
+use override_store::OverrideStore;
+use sqlite::{Alter, Connection};
 use std::alloc::Global;
 
-/// The first setting.
-pub const ON: Row<'static> = ("c", true, SECOND);
+const ON: Row<'static> = ("c", true, SECOND);
 
-/// The second.
-pub const OFF: Row<'static> = ("c", false, SECOND);
+const OFF: Row<'static> = ("c", false, SECOND);
 
 /// What may be found: the settings of the first version, and one of the two after them or neither.
 static WITH_NEITHER: [Row<'static>; 2] = [("a", true, 0), ("b", false, 0)];
@@ -38,6 +36,37 @@ pub enum Said {
         disabled: u8,
         loaded: u8,
     },
+}
+
+/// No store was opened.
+const NO_STORE: Said = Said::Settings {
+    opened: false,
+    first: false,
+    second: false,
+};
+
+/// No launcher was made, so `a` was not disabled.
+pub const NO_LAUNCHER: Said = Said::Turns {
+    disabled: 9,
+    loaded: 0,
+};
+
+/// A store is opened and two settings are made.
+pub fn set_over<S: Alter + Drop>(alloc: Global, conn: Connection<S>) -> (Said, S) {
+    match OverrideStore::open_or_give(alloc, conn) {
+        Ok(store) => {
+            let mut store = store;
+            let first = sets(&mut store, ON);
+            let second = sets(&mut store, OFF);
+            let said = Said::Settings {
+                opened: true,
+                first,
+                second,
+            };
+            (said, store.close_on().into_store())
+        }
+        Err((_, store)) => (NO_STORE, store),
+    }
 }
 
 /// Whether what is found may follow what was acknowledged: the last setting, or one that was made and not acknowledged. A launcher's setting
@@ -72,136 +101,63 @@ fn is_followed(alloc: Global, files: Disks, said: Said) -> bool {
     }
 }
 
-/// Which disk stops after how many calls.
+/// What runs over the disks: two settings, or a launcher.
 #[derive(Clone, Copy)]
-pub struct Stop {
-    pub is_log: bool,
-    pub calls: u64,
+pub enum Run {
+    Settings,
+    Turns,
 }
 
-impl Stop {
-    /// The calls of the log, and those of the database.
-    fn calls(self) -> (u64, u64) {
-        if self.is_log {
-            (self.calls, MANY)
-        } else {
-            (MANY, self.calls)
-        }
-    }
-}
-
-/// What was acknowledged over copies of these files, if what is then found follows it. A launcher that is not made acknowledges nothing, and the disks
-/// of its store may be lost.
-fn stopped(
-    alloc: Global,
-    life: Life,
-    from: &Disks,
-    stop: Stop,
-    next: Option<(u64, u64)>,
-) -> Option<Said> {
-    let (log, db) = stop.calls();
+/// Whether the run was acknowledged whole; None if what is found does not follow. A launcher that is not made acknowledges nothing, and the disks of
+/// its store may be lost.
+fn stops(alloc: Global, run: Run, from: &Disks, log: u64, db: u64) -> Option<bool> {
+    let (task, nothing) = match run {
+        Run::Settings => (Task::SetTwice, NO_STORE),
+        Run::Turns => (Task::Turn, NO_LAUNCHER),
+    };
     match (
-        lived_over(alloc, copies(alloc, from, log, db)?, next, life),
-        life,
+        done_on_disks(alloc, copies(alloc, from, log, db)?, 7, task),
+        run,
     ) {
-        (Some((said, files)), _) => {
+        (Some((done, files)), _) => {
+            let said = done.said.unwrap_or(nothing);
+            let is_whole = matches!(
+                said,
+                Said::Settings { second: true, .. } | Said::Turns { disabled: 0, .. }
+            );
             if is_followed(alloc, files, said) {
-                Some(said)
+                Some(is_whole)
             } else {
                 None
             }
         }
-        (None, Life::Turns) => Some(life.nothing()),
-        (None, Life::Settings) => None,
+        (None, Run::Turns) => Some(false),
+        (None, Run::Settings) => None,
     }
 }
 
-/// Whether the last of it was acknowledged.
-fn is_whole(said: Said) -> bool {
-    matches!(
-        said,
-        Said::Settings { second: true, .. } | Said::Turns { disabled: 0, .. }
-    )
-}
-
-/// Whether each stop is followed, up to a life that is acknowledged whole. The disks stay stopped.
-fn each_is_followed(alloc: Global, life: Life, from: &Disks, is_log: bool) -> bool {
+/// Whether each stop of the log, or of the database, is followed, up to a run that is acknowledged whole.
+fn each_is_followed(alloc: Global, run: Run, from: &Disks, is_log: bool) -> bool {
     for calls in 0..200u64 {
-        match stopped(alloc, life, from, Stop { is_log, calls }, None) {
-            Some(said) => {
-                if is_whole(said) {
-                    return calls > 0;
-                }
-            }
+        let (log, db) = if is_log { (calls, MANY) } else { (MANY, calls) };
+        match stops(alloc, run, from, log, db) {
+            Some(true) => return calls > 0,
+            Some(false) => {}
             None => return false,
         }
     }
     false
 }
 
-/// Whether each stop of the disks that are opened again is followed, once the first setting met this stop; up to a life whose second setting was
-/// acknowledged. The first one was not; if it was, or if no store was opened, there is nothing to try.
-fn each_renewal_is_followed(alloc: Global, from: &Disks, stop: Stop, is_log: bool) -> Option<bool> {
-    for calls in 0..400u64 {
-        let again = Stop { is_log, calls };
-        match stopped(alloc, Life::Settings, from, stop, Some(again.calls()))? {
-            Said::Settings {
-                opened: true,
-                first: false,
-                second,
-            } => {
-                if second {
-                    return Some(true);
-                }
-            }
-            _ => return Some(false),
-        }
-    }
-    None
-}
-
-/// Whether each stop in a renewal is followed, for each stop of the log at the first setting.
-fn renewals_are_followed(alloc: Global, from: &Disks, is_log: bool) -> bool {
-    let mut is_renewed = false;
-    for calls in 0..200u64 {
-        let stop = Stop {
-            is_log: true,
-            calls,
-        };
-        match each_renewal_is_followed(alloc, from, stop, is_log) {
-            Some(true) => is_renewed = true,
-            Some(false) => {
-                if is_renewed {
-                    return true;
-                }
-            }
-            None => return false,
-        }
-    }
-    false
-}
-
-/// What is tried.
-#[derive(Clone, Copy)]
-pub enum Run {
-    /// The log stops, or else the database.
-    Once(Life, bool),
-    /// The log stops at the first setting. Once it is opened again the log stops again, or else the database.
-    Renewed(bool),
-}
-
-/// Whether each stop is followed, from files of the first version for settings, and from a store with no setting for a launcher.
-pub fn are_followed(alloc: Global, run: Run) -> bool {
+/// The same, from files of the first version for settings, and from a store with no setting for a launcher.
+pub fn are_followed(alloc: Global, run: Run, is_log: bool) -> bool {
     let from = match run {
-        Run::Once(Life::Turns, _) => left_by(alloc, "", &[NOTHING]),
-        _ => left_by(alloc, FIRST_VERSION, &[]),
+        Run::Settings => left_by(alloc, FIRST_VERSION, &[]),
+        Run::Turns => left_by(alloc, "", &[NOTHING]),
     };
     match from {
         Some(from) => {
-            let is_so = match run {
-                Run::Once(life, is_log) => each_is_followed(alloc, life, &from, is_log),
-                Run::Renewed(is_log) => renewals_are_followed(alloc, &from, is_log),
-            };
+            let is_so = each_is_followed(alloc, run, &from, is_log);
             drop(from);
             is_so
         }

@@ -1,5 +1,5 @@
 -- The answers to the goals of `OverrideStore::known`.
-use Rattle.std.proofs.Common.{IsTrue, arith, refl}
+use Rattle.std.proofs.Common.{IsTrue, arith}
 use Rattle.sqlite.specs.Held.{state}
 use Rattle.sqlite.specs.State.{HasCleanDisk}
 use Rattle.override_store.specs.OverrideStores.{IsOurs}
@@ -18,10 +18,3 @@ returns-clause-tells g c early =
 
 pub returns-clause-crash : goal.returns-clause-crash
 returns-clause-crash g c = rw (← c.self.view_is) c.in-Ok.ensures.crash
-
-pub returns-clause-told : goal.returns-clause-told
-returns-clause-told g c clean ours =
-    let before = state g.S.Store c.self.inside.conn in
-    let was : IsOurs before = rw c.self.view_is ours in
-    let it = known_held before before c.in-Ok.rows.items c.in-Ok-all_known.all.items c.reverse.new.self.items was (c.in-Ok.ensures.ok clean was) (rw c.as_slice.ensures.value at c.in-Ok-all_known.ensures.ok) c.reverse.ensures.items (was, refl) in
-    rw (← c.self.view_is) (it.0.1, it.1.1)

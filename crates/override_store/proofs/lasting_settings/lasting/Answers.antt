@@ -1,5 +1,5 @@
 -- The answers to the goals of `lasting_settings::lasting`.
-use Rattle.std.proofs.Common.{arith, inl, sym, ap, subst, ◌∙◌}
+use Rattle.std.proofs.Common.{arith, sym, ap, subst, ◌∙◌}
 use Rattle.sqlite.specs.Held.{state}
 use Rattle.sqlite.specs.State.{HasCleanDisk}
 use Rattle.override_store.specs.Settings.{setting_in}
@@ -21,6 +21,3 @@ returns-in-Err-rising-clause-left g c clean fit db left =
     let quiet = c.into_store-in-Err-rising.ensures.quiet in
     let after : HasCleanDisk (state g.S.Store c.close_on.result) = omega (arith, clean, quiet.clean) in
     c.in-Ok-open_all.ensures.crash (subst (λ h. HasCleanDisk (state g.S.Store h)) c.close_on.ensures after) fit db (subst (λ h. (state g.S.Store h).may_leave db) c.close_on.ensures (quiet.outcomes db left))
-
-pub returns-in-Ok-rising-clause-lasts : goal.returns-in-Ok-rising-clause-lasts
-returns-in-Ok-rising-clause-lasts g c fit honest db may = inl (c.in-Ok-open_all.ensures.lasts honest.1 fit db may)

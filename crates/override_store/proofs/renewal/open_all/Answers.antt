@@ -1,9 +1,8 @@
 -- The answers to the goals of `renewal::open_all`.
-use Rattle.std.proofs.Common.{◌≤◌, arith, subst}
+use Rattle.std.proofs.Common.{arith, subst}
 use Rattle.sqlite.specs.Held.{state}
 use Rattle.sqlite.specs.State.{HasCleanDisk}
-use Rattle.sqlite.specs.View.{doubt}
-use Rattle.override_store.proofs.RenewalLemmas.{leaves_held, leaves_known}
+use Rattle.override_store.proofs.RenewalLemmas.{leaves_held}
 use Rattle.override_store.proofs.renewal.open_all.Goals as goal
 
 pub returns-in-Ok-known-clause-holds : goal.returns-in-Ok-known-clause-holds
@@ -20,15 +19,3 @@ returns-in-Err-known-clause-left g c clean fit db left =
     let after : HasCleanDisk (state g.S.Store c.close_on.result) = omega (arith, clean, quiet.clean) in
     leaves_held (state g.S.Store c.args.conn) (state g.S.Store c.in-Ok.store) (state g.S.Store c.known.new.self) c.in-Ok.ensures.opened c.in-Ok.ensures.crash c.in-Err-known.ensures.crash
     (subst (λ h. HasCleanDisk (state g.S.Store h)) c.close_on.ensures after) fit db (subst (λ h. (state g.S.Store h).may_leave db) c.close_on.ensures (quiet.outcomes db left))
-
-pub returns-in-Ok-known-clause-lasts : goal.returns-in-Ok-known-clause-lasts
-returns-in-Ok-known-clause-lasts g c =
-    leaves_known (state g.S.Store c.args.conn) (state g.S.Store c.in-Ok.store) (state g.S.Store c.known.new.self) c.in-Ok-known.known.items c.in-Ok.ensures.opened c.in-Ok.ensures.crash c.in-Ok-known.ensures.crash c.in-Ok-known.ensures.told
-
-pub returns-in-Ok-known-clause-clean : goal.returns-in-Ok-known-clause-clean
-returns-in-Ok-known-clause-clean g c = omega (arith, c.in-Ok.ensures.opened.clean, c.in-Ok-known.ensures.crash.clean)
-
-pub returns-in-Err-known-clause-was_clean : goal.returns-in-Err-known-clause-was_clean
-returns-in-Err-known-clause-was_clean g c =
-    let closed = subst (λ h. doubt (state g.S.Store h).is_clean ≤ doubt (g.S.Store.view c.into_store.result).is_clean) c.close_on.ensures c.into_store.ensures.quiet.clean in
-    omega (arith, c.in-Ok.ensures.opened.clean, c.in-Err-known.ensures.crash.clean, closed)
