@@ -147,11 +147,8 @@ def a_status_file_that_is_renewed(stage):
     """Its modification time goes on while its text and its file stay; if it can't be renewed the launcher is reported to hang or not to write, until it can again.
     One of a launcher that renews nothing, as of version 0.3.0, is never reported so."""
     launcher, path = serve(stage)
-    # Once its text was that of 3 s before, nothing is left to write.
-    texts = [""]
-    while texts[-1] != text_at(path):
-        texts.append(text_at(path))
-        time.sleep(3)
+    # The end of the throttle is the last that is written.
+    wait_for(lambda: text_at(path).count('"throttled_until":null') == 2, "the throttle does not end", 30)
     before, text = os.stat(path), text_at(path)
     wait_for(lambda: os.stat(path).st_mtime > before.st_mtime + 5, "the file is not renewed", 30)
     check((os.stat(path).st_ino, text_at(path)) == (before.st_ino, text), "its text was written anew")
