@@ -28,10 +28,9 @@ pub fn samples_text(
     counts: Option<&RunCounts>,
 ) -> Result<String, AllocError> {
     let zone = standing.zone(alloc, false)?;
-    let samples = samples_of(host, alloc, standing, labels, &zone, second);
+    let samples = samples_of(host, alloc, standing, labels, &zone, second, counts);
     drop(zone);
-    let mut samples = samples?;
-    count_all(samples.as_mut_slice(), counts);
+    let samples = samples?;
     let text = match standing.launcher() {
         Some(launcher) => {
             let sample = LauncherSample {
@@ -104,20 +103,18 @@ pub fn sample_of<'a>(row: &Row<'a>, note: &JobNote<'_>, is_disabled: bool) -> Jo
     }
 }
 
-// Each sample of a label that is counted gets its count.
-fn count_all(samples: &mut [JobSample<'_>], counts: Option<&RunCounts>) {
-    let Some(counts) = counts else {
-        return;
-    };
-    for sample in samples {
-        *sample = with_count(*sample, counts.of(sample.label));
+// The count of a label, if labels are counted.
+fn count_in(counts: Option<&RunCounts>, label: &str) -> Option<RunCount> {
+    match counts {
+        Some(counts) => counts.of(label),
+        None => None,
     }
 }
 
 /// The sample with this count in place of that of the job's load, and with the last success before the load, if there was none since. None: it
 /// stays.
 pub fn with_count<'a>(sample: JobSample<'a>, count: Option<RunCount>) -> JobSample<'a>
-    ensures { result ≡ with_count sample count }
+    ensures { result ≡ with_count sample.entry count }
 {
     match count {
         Some(count) => {
@@ -189,6 +186,7 @@ fn samples_of<'a>(
     labels: &[Text],
     zone: &Zone,
     second: u64,
+    counts: Option<&RunCounts>,
 ) -> Result<Vec<JobSample<'a>>, AllocError> {
     let at = reading_of(standing);
     let mut samples = Vec::new(alloc);
@@ -205,7 +203,7 @@ fn samples_of<'a>(
             second,
         )?;
         if let Some(sample) = sample {
-            samples.push(sample)?;
+            samples.push(with_count(sample, count_in(counts, sample.label)))?;
         }
     }
     Ok(samples)
