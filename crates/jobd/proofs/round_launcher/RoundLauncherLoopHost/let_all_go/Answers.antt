@@ -4,5 +4,5 @@ use Rattle.jobd.proofs.round_launcher.RoundLauncherLoopHost.let_all_go.Goals as 
 
 pub returns : goal.returns
 returns g c =
-    let told : g.E.Edge.told c.write_status.ensures.asks.0 ≡ g.E.Edge.told c.args.self.now.host.edge = search rules in
-    inl (c.write_status.ensures.asks.0, inl told, c.write_status.ensures.asks.2)
+    let told : g.E.Edge.told c.write_status-is_written.ensures.asks.0 ≡ g.E.Edge.told c.args.self.now.host.edge = search rules in
+    inl (c.write_status-is_written.ensures.asks.0, inl told, c.write_status-is_written.ensures.asks.2)
