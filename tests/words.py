@@ -88,7 +88,6 @@ FIXED = [
     ("run_times/src/picture/svg.rt", r"(?:\.runs \.|@media ).*", "CSS: the classes of shapes"),
     ("trials/src/rounds/refusals.rt", r"^\{.*", "a line of a journal"),
     ("override_store/src/open.rt", r"CREATE TABLE.*", "SQL: the tables of the store"),
-    ("override_store/src/pattern.rt", r"CREATE TABLE.*", "SQL: the tables of the store"),
     ("startup/src/looking.rt", r"SELECT .* FROM overrides", "SQL: a table of the store"),
     ("trials/src/stores/calls.rt", r"CREATE TABLE.*", "SQL: the tables of the store"),
     ("trials/src/stores/files.rt", r"CREATE TABLE.*", "SQL: the tables of the store"),

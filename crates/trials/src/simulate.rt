@@ -6,7 +6,7 @@ mod chance;
 mod definitions;
 mod edge;
 mod launched;
-mod play;
+mod passes;
 mod settings;
 mod store;
 mod version;

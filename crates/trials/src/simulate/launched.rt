@@ -2,7 +2,7 @@
 
 use crate::memory_stage::header;
 use crate::simulate::edge::{Page, Shared, SimulatedEdge};
-use crate::simulate::play::{Run, Simulated};
+use crate::simulate::passes::{Run, Simulated};
 use crate::simulate::witness::new_witness;
 use crate::simulate::{Play, START};
 use ctl_protocol::{Header, header_line};
