@@ -4,7 +4,6 @@ use crate::edges::{control_stage, refused, system};
 use crate::memory_stage::Stage;
 use crate::parts::{exchange, feed, heap, lines, zones};
 use crate::rounds::{ends, refusals};
-use crate::simulate;
 use crate::stores::{files, on_disks, stops};
 use crate::tables::{rows, visits};
 use crate::turns::{journals, launchers};
@@ -29,8 +28,6 @@ pub enum Case {
     Stopping(stops::Run, bool),
     Launched(&'static launchers::Turns),
     Journal(&'static journals::Row),
-    /// The first number, and how many from it on.
-    Simulated(u64, u64),
 }
 
 /// What is shown, and the cases that it is for.
@@ -59,7 +56,6 @@ fn goes(rt: &HostRuntime, case: &Case) -> bool {
         Case::Stopping(run, is_log) => stops::are_followed(alloc, run, is_log),
         Case::Launched(turns) => matches!(launchers::is_so::<Stage>(alloc, turns), Some(true)),
         Case::Journal(row) => matches!(journals::become_so(alloc, row), Some(true)),
-        Case::Simulated(first, count) => matches!(simulate::are_so(rt, first, count), Some(true)),
     }
 }
 

@@ -7,8 +7,6 @@
 //! - `short`: the calls that take memory. It starts itself with that argument and its memory limited by the shell.
 //! - `runs`: the first runs of a launcher and its clients (`data/first_runs.py`). They start this file again through links that are named as the
 //!   programs are.
-//! - `simulate`: the numbers of the next argument, `FIRST..COUNT`, each a world with a launcher. `simulate show NUMBER` prints what happens in one, and
-//!   `simulate events FILE` plays such a list.
 //!
 //! By any other argument, or none, it is the program that its name means: `jobd` or `jobctl`.
 #![tactic(auto)]
@@ -20,7 +18,6 @@ mod little_memory;
 mod memory_stage;
 mod parts;
 mod rounds;
-mod simulate;
 mod stores;
 mod tables;
 mod turns;
@@ -45,7 +42,6 @@ enum List {
     Stores,
     Turns,
     Journals,
-    Worlds,
 }
 
 fn lines_of(list: List) -> &'static [Line] {
@@ -58,7 +54,6 @@ fn lines_of(list: List) -> &'static [Line] {
         List::Stores => stores::list(),
         List::Turns => turns::launchers::list(),
         List::Journals => turns::journal_lines(),
-        List::Worlds => simulate::list(),
     }
 }
 
@@ -72,7 +67,6 @@ const CALLS: &[List] = &[
     List::Stores,
     List::Turns,
     List::Journals,
-    List::Worlds,
 ];
 
 #[derive(Clone, Copy)]
@@ -81,7 +75,6 @@ enum Task {
     Calls(&'static [List]),
     Short,
     Runs,
-    Simulate,
 }
 
 static TASKS: &[(&str, Task)] = &[
@@ -95,8 +88,6 @@ static TASKS: &[(&str, Task)] = &[
     ("turns", Task::Calls(&[List::Turns, List::Journals])),
     ("short", Task::Short),
     ("runs", Task::Runs),
-    ("simulate", Task::Simulate),
-    ("worlds", Task::Calls(&[List::Worlds])),
 ];
 
 /// What the first argument asks for, if it is one of these.
@@ -130,26 +121,6 @@ fn try_calls(rt: &HostRuntime, lists: &[List]) -> Result<()> {
     Ok(())
 }
 
-/// Simulates what the second and the third argument say.
-fn simulate_by_words(rt: &HostRuntime) -> Result<()> {
-    let mut words = env::args(rt)?;
-    let second = words.nth(2);
-    let third = words.next();
-    drop(words);
-    let first = match &second {
-        Some(word) => word.as_str(),
-        None => "",
-    };
-    let next = match &third {
-        Some(word) => word.as_str(),
-        None => "",
-    };
-    let done = simulate::by_words(rt, first, next);
-    drop(second);
-    drop(third);
-    done
-}
-
 fn do_task(rt: &HostRuntime, task: Task) -> Result<()> {
     match task {
         Task::All => {
@@ -160,7 +131,6 @@ fn do_task(rt: &HostRuntime, task: Task) -> Result<()> {
         Task::Calls(lists) => try_calls(rt, lists),
         Task::Short => little_memory::try_all(rt),
         Task::Runs => again::run_by(rt, PYTHON, RUNS),
-        Task::Simulate => simulate_by_words(rt),
     }
 }
 
