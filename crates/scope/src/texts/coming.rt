@@ -1,5 +1,8 @@
 //! What can come to want a job that nothing wants now, in sentences.
 
+ghost use Rattle.calendar_due.specs.ZoneRules.{minute_at};
+ghost use Rattle.scope.specs.Told.{IsCalendarNext};
+
 use crate::texts::by_facts::{StartWord, start_word};
 use crate::texts::told::{
     CalendarNext, MOST_SENTENCES, NONE, SILENCE, Sentence, Sentences, ToldJob, said_if,
@@ -123,7 +126,9 @@ fn crash_unmet(crashed: Option<bool>) -> &'static str {
 }
 
 /// The next minute that one of the entries matches in the zone after this second of `wall`.
-pub(crate) fn calendar_next(entries: &[Entry], zone: &Zone, after: u64) -> CalendarNext {
+pub(crate) fn calendar_next(entries: &[Entry], zone: &Zone, after: u64) -> CalendarNext
+    ensures { IsCalendarNext (minute_at zone.now) entries.now after result }
+{
     if entries.is_empty() {
         return CalendarNext::Absent;
     }

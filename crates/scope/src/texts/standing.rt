@@ -1,5 +1,9 @@
 //! Why each job is in its state, by its launcher's file, and which of them fail.
 
+ghost use Rattle.std.specs.Prelude.{◌≡◌};
+ghost use Rattle.calendar_due.specs.ZoneRules.{minute_at};
+ghost use Rattle.scope.specs.Told.{IsCalendarNext, facts_then};
+
 use crate::errors::FailedRun;
 use crate::journal::job::Record;
 use crate::journal::run::{JobRun, RunEnd};
@@ -180,7 +184,14 @@ pub(crate) fn told_of<'a>(
     job: &JobStatus<'a>,
     record: &'a Record,
     entries: &[Entry],
-) -> ToldJob<'a> {
+) -> ToldJob<'a>
+    ensures at { result.at ≡ page.now.now }
+    ensures facts { result.facts ≡ facts_then job.now.facts page.now.now.up }
+    ensures asked { result.asked ≡ None }
+    ensures job { result.job.now ≡ record.now }
+    ensures keys { result.keys ≡ job.now.keys }
+    ensures calendar { IsCalendarNext (minute_at zone.now) entries.now page.now.now.wall result.calendar }
+{
     ToldJob {
         at: page.now,
         facts: facts_then(&job.facts, page.now.up),

@@ -1,5 +1,9 @@
 //! Why each job is in its state, at the journal's end or at an earlier time.
 
+ghost use Rattle.std.specs.Prelude.{◌≡◌};
+ghost use Rattle.calendar_due.specs.ZoneRules.{minute_at};
+ghost use Rattle.scope.specs.Told.{IsCalendarNext, asked_in, facts_then};
+
 use crate::age::{AsOf, add_head, clock_as_of, reading_as_of};
 use crate::journal::job::{KeptJob, Record};
 use crate::journal::labels::{DisabledBy, KnownLabel};
@@ -165,7 +169,13 @@ pub(crate) fn told_job<'a>(
     def: &'a Def,
     facts: &JobFacts<'a>,
     at: Reading,
-) -> ToldJob<'a> {
+) -> ToldJob<'a>
+    ensures at { result.at ≡ at }
+    ensures facts { result.facts ≡ facts_then facts.now at.up }
+    ensures asked { result.asked ≡ asked_in journal.now.past job.now.record }
+    ensures job { result.job.now ≡ job.now.record }
+    ensures calendar { IsCalendarNext (minute_at journal.now.zone) def.now.calendar at.wall result.calendar }
+{
     ToldJob {
         at,
         facts: facts_then(facts, at.up),
@@ -202,7 +212,9 @@ pub(crate) fn throttle_shown(
 }
 
 /// The facts, but that a throttle which is over by then is left out.
-pub(crate) fn facts_then<'a>(facts: &JobFacts<'a>, up: u64) -> JobFacts<'a> {
+pub(crate) fn facts_then<'a>(facts: &JobFacts<'a>, up: u64) -> JobFacts<'a>
+    ensures { result ≡ facts_then facts.now up }
+{
     let mut then = *facts;
     then.reasons = reasons_then(&facts.reasons, up);
     then
