@@ -1,5 +1,10 @@
 //! The lines of a file, read.
 
+ghost use Rattle.std.specs.Prelude.{◌≡◌, Some, None, IfOk, IfSome, codes};
+ghost use Rattle.serde_json.specs.View.{view};
+ghost use Rattle.status_file.specs.Reads.{IsReading, object_of, value_at};
+ghost use Rattle.status_file.specs.Readings.{JournalAt, LauncherAt};
+
 use crate::facts::JobFacts;
 use crate::fields::Fields;
 use crate::names::{DEMANDS, demand_name, disabled_name, order_name};
@@ -49,7 +54,10 @@ impl StatusLine {
     }
 
     /// What a line says of the launcher. Missing and Wrong, with the key of the first fault.
-    pub fn launcher(&self) -> Result<LauncherStatus<'_>, StatusFault> {
+    pub fn launcher(&self) -> Result<LauncherStatus<'_>, StatusFault>
+        ensures { IfOk result (λ launcher.
+            LauncherAt (value_at (codes "launcher") (Some (view self.now.value))) launcher) }
+    {
         let mut line = Fields::of(&self.value);
         let mut fields = line.inside("launcher");
         let launcher = LauncherStatus {
@@ -116,7 +124,11 @@ fn entries_in(alloc: Global, list: &[Value]) -> Result<Vec<Entry>, StatusFault> 
     Ok(entries)
 }
 
-fn journal_in<'a>(fields: &mut Fields<'a>) -> JournalStatus<'a> {
+fn journal_in<'a>(fields: &mut Fields<'a>) -> JournalStatus<'a>
+    ensures object { fields.new.object ≡ fields.old.object }
+    ensures kept { fields.new.fault ≡ None → fields.old.fault ≡ None }
+    ensures value { fields.new.fault ≡ None → JournalAt (object_of fields.old) result }
+{
     let word = fields.text("journal");
     let reason = fields.text_if("journal_reason");
     if word == "open" {
@@ -170,7 +182,11 @@ fn disabled_in(fields: &mut Fields<'_>) -> Option<DisabledBy> {
 }
 
 // The clock reading under the key; both clocks are 0 after a fault.
-fn reading_in(fields: &mut Fields<'_>, key: &'static str) -> Reading {
+fn reading_in(fields: &mut Fields<'_>, key: &'static str) -> Reading
+    ensures object { fields.new.object ≡ fields.old.object }
+    ensures kept { fields.new.fault ≡ None → fields.old.fault ≡ None }
+    ensures value { fields.new.fault ≡ None → IsReading (value_at key.now (object_of fields.old)) result }
+{
     let mut inside = fields.inside(key);
     let at = inside.reading();
     fields.with(inside);
