@@ -49,8 +49,9 @@ class Place:
         check(line == b"jobd: ready\n", f"the ready line is {line!r}; it said {self.told()!r}")
 
     def told(self):
+        """What the launcher logged, but for the line that it has no jobd-wake, which is not there."""
         with open(f"{self.folder}/said", encoding="utf-8", errors="replace") as it:
-            return it.read()
+            return "".join(line for line in it if "as no jobd-wake reports them: No such file" not in line)
 
     def jobctl(self, words, status, printed, told=""):
         """Runs `jobctl`, and compares all that comes of it. Before what it tells may stand of what."""
