@@ -935,8 +935,9 @@ def counts_over_restarts(stage):
             os.rename(last, f"{last}.{number}")
     launcher.ask({"req": "unload", "job": "fails"})
     launcher.load(fails)
-    job_where(path, "fails", lambda job: job["last_end"] and job["starts"] == 1)
     all_three = [f"{last}.2", f"{last}.1", last]
+    # The status file says of this load what it said of the one before, so the journal is asked.
+    wait_for(lambda: counted(all_three, "fails")[:2] == (4, 4), lambda: f"the fourth run does not end: {counted(all_three, 'fails')}")
     if len({month(begun(it)) for it in all_three}) > 1:
         return
     for label, wanted in (("fails", (4, 4, 0)), ("refused", (3, 0, 3)), ("works", (1, 0, 0))):
