@@ -50,7 +50,7 @@ def by_both(stage, path):
 
 # What one that was killed is called, its sentences by the file and by the journal, and its `jobd_up`.
 GONE = "gone" if sees_all() else "not_seen"
-GONE_BY_FILE = "is gone: it ended or was killed" if sees_all() else "is not seen here"
+GONE_BY_FILE = "exited or was killed" if sees_all() else "is not seen here"
 GONE_BY_JOURNAL = "it was killed, or its journal closed, after" if sees_all() else "is not seen here"
 DOWN = "jobd_up 0\n" if sees_all() else "jobd_journal_open 1\n"
 LOG_ENDS = "the journal ends without a shutdown" if sees_all() else "the journal ends here"
@@ -82,7 +82,7 @@ def a_launcher_that_is_stopped_or_killed(stage):
     """One that runs foretells. One that a signal stopped does not, until it goes on. One that was killed does not, while it is a zombie and after that."""
     launcher, path = serve(stage)
     for words in by_both(stage, path):
-        says(stage, ("next", *words), f"lives (process {launcher.pid})", "hourly  in")
+        says(stage, ("next", *words), f"is running (PID {launcher.pid})", "hourly  in")
         says(stage, ("why", *words), "web is running")
         check(names_of(stage, words) == {"lives"}, f"{words}: {names_of(stage, words)}")
         for line in scope(stage, "next", "--json", *words).splitlines():
@@ -95,7 +95,7 @@ def a_launcher_that_is_stopped_or_killed(stage):
     check("jobd_up 1\n" in scope(stage, "metrics", "--status-file", path), "a stopped launcher is down")
     os.kill(launcher.pid, signal.SIGCONT)
     for words in by_both(stage, path):
-        says(stage, ("next", *words), f"lives (process {launcher.pid})", "hourly  in")
+        says(stage, ("next", *words), f"is running (PID {launcher.pid})", "hourly  in")
     os.kill(launcher.pid, signal.SIGKILL)
     wait_for(lambda: text_at(f"/proc/{launcher.pid}/stat").rpartition(")")[2][:3] == " Z ", "the launcher is no zombie")
     for _ in range(2):
@@ -120,7 +120,7 @@ def an_end_in_order(stage):
     says(stage, ("log", "--journal", stage.at("journal")), "shutdown was asked", without=("without a shutdown",))
     check("jobd_up 0\n" in scope(stage, "metrics", "--status-file", path), "a launcher that exited is up")
     again, path = serve(stage)
-    says(stage, ("next", "--status-file", path), f"lives (process {again.pid})", "hourly  in")
+    says(stage, ("next", "--status-file", path), f"is running (PID {again.pid})", "hourly  in")
     again.shut_down()
 
 
@@ -169,12 +169,12 @@ def a_status_file_that_is_renewed(stage):
     os.utime(first, (old, old))
     check(names_of(stage, ("--status-file", first)) == {"lives"}, f"of version 0.3.0: {scope(stage, 'status', '--status-file', first)}")
     os.chmod(stage.at("standing"), 0o700)
-    says(stage, ("next", "--status-file", path), f"lives (process {launcher.pid})", "hourly  in")
+    says(stage, ("next", "--status-file", path), f"is running (PID {launcher.pid})", "hourly  in")
 
     # A clock that was set, or a sleep, makes a file old for a moment: it is looked at again before it is called so.
     os.utime(path, (old, old))
     late = subprocess.Popen(["sh", "-c", 'sleep 0.7; touch "$1"', "sh", path])
-    check("lives (process" in scope(stage, "status", "--status-file", path), "a file that is renewed meanwhile is old")
+    check("is running (PID" in scope(stage, "status", "--status-file", path), "a file that is renewed meanwhile is old")
     late.wait()
     launcher.shut_down()
 
@@ -182,7 +182,7 @@ def a_status_file_that_is_renewed(stage):
 def a_journal_that_closes(stage):
     """Its lock is let go, and no other: the launcher lives by its status file, and the journal says that nobody writes it, and foretells nothing."""
     launcher, path = serve(stage, shell="trap '' XFSZ")
-    says(stage, ("why", "--journal", stage.at("journal")), f"lives (process {launcher.pid})")
+    says(stage, ("why", "--journal", stage.at("journal")), f"is running (PID {launcher.pid})")
     limits = resource.prlimit(launcher.pid, resource.RLIMIT_FSIZE)
     resource.prlimit(launcher.pid, resource.RLIMIT_FSIZE, (os.path.getsize(stage.at("journal")), limits[1]))
     launcher.ask({"req": "start", "job": "hourly"})
@@ -190,7 +190,7 @@ def a_journal_that_closes(stage):
     resource.prlimit(launcher.pid, resource.RLIMIT_FSIZE, limits)
     says(stage, ("why", "--journal", stage.at("journal")), GONE_BY_JOURNAL, without=("web is running", *FORETOLD))
     says(stage, ("next", "--journal", stage.at("journal")), "its journal closed", without=FORETOLD)
-    says(stage, ("next", "--status-file", path), f"lives (process {launcher.pid})", "hourly  in")
+    says(stage, ("next", "--status-file", path), f"is running (PID {launcher.pid})", "hourly  in")
     with open(stage.at("journal"), encoding="utf-8") as journal:
         fcntl.flock(journal, fcntl.LOCK_EX | fcntl.LOCK_NB)
     locks = [path for path in (stage.at("socket.lock"), f"{path}.lock", stage.at("spool/jobd.lock")) if os.path.exists(path)]
