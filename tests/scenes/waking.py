@@ -13,7 +13,6 @@ import time
 import types
 
 from harness import check, children_of, in_time, make, shell_job, text_at, wait_for
-from pace import Late
 
 # A new helper is started ten seconds after the last one was given up; all children are asked about once in ten seconds.
 PEACE = 10
@@ -220,8 +219,6 @@ def a_helper_that_lies(stage):
         launcher.tells("once", "last exit = code 3", 3 * PEACE)
         comes_back(launcher, "one", 3 * PEACE)
         check("runs = 2\n" in launcher.print("one"), f"{way}: {launcher.print('one')}")
-        if len(helpers(launcher)) != 1:
-            raise Late(f"{way}: the helper answered late, and was ended")
         launcher.shut_down()
         os.remove(stage.at("told"))
         os.remove(stage.at("go"))
