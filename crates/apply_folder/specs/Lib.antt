@@ -1,1 +1,1 @@
-pub mod Wishes
+pub mod FlagWords

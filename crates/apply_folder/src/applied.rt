@@ -3,8 +3,8 @@
 
 use json_kinds::json_value;
 use json_lines::put_quoted;
-use run_times::Ink;
 use run_times::Piece::Text;
+use run_times::TextWriter;
 use serde_json::Value;
 use std::alloc::{AllocError, Global};
 use std::fs::OpenOptions;
@@ -44,7 +44,7 @@ impl Applied {
     }
 
     /// The index of this file of this folder. It is looked for at the given index first: it is there if files are asked for in their order.
-    pub(crate) fn place_of(&self, at: usize, folder: &str, name: &str) -> Option<usize> {
+    pub(crate) fn index_of_file(&self, at: usize, folder: &str, name: &str) -> Option<usize> {
         if let Some(file) = self.files.get(at) {
             if is_file(file, folder, name) {
                 return Some(at);
@@ -165,34 +165,34 @@ fn add_file(
 }
 
 /// Adds the line of a folder with these of the files.
-pub(crate) fn put_folder(ink: &mut Ink, folder: &str, files: &[AppliedFile]) {
-    ink.put("{\"folder\":");
-    put_quoted(ink, folder);
-    ink.put(",\"files\":[");
+pub(crate) fn put_folder(writer: &mut TextWriter, folder: &str, files: &[AppliedFile]) {
+    writer.put("{\"folder\":");
+    put_quoted(writer, folder);
+    writer.put(",\"files\":[");
     let mut between = "";
     for file in files {
         if file.folder.as_str() == folder {
-            ink.put(between);
-            put_file(ink, file);
+            writer.put(between);
+            put_file(writer, file);
             between = ",";
         }
     }
-    ink.put("]}\n");
+    writer.put("]}\n");
 }
 
-fn put_file(ink: &mut Ink, file: &AppliedFile) {
-    ink.put("{\"file\":");
-    put_quoted(ink, file.name.as_str());
-    ink.put(",\"label\":");
-    put_quoted(ink, file.label.as_str());
-    ink.put("}");
+fn put_file(writer: &mut TextWriter, file: &AppliedFile) {
+    writer.put("{\"file\":");
+    put_quoted(writer, file.name.as_str());
+    writer.put(",\"label\":");
+    put_quoted(writer, file.label.as_str());
+    writer.put("}");
 }
 
 /// Adds the line of a definition.
-pub(crate) fn put_definition(ink: &mut Ink, digest: &str, text: &str) {
-    ink.put_all(&[Text(DEFINITION), Text(digest), Text("\",\"text\":")]);
-    put_quoted(ink, text);
-    ink.put("}\n");
+pub(crate) fn put_definition(writer: &mut TextWriter, digest: &str, text: &str) {
+    writer.put_all(&[Text(DEFINITION), Text(digest), Text("\",\"text\":")]);
+    put_quoted(writer, text);
+    writer.put("}\n");
 }
 
 /// Puts the text in the place of the file. Only this user may read and write it.

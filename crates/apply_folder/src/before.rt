@@ -2,7 +2,7 @@
 
 use crate::applied::Applied;
 use crate::gathered::{Filed, Gathered};
-use crate::loaded::{Job, place_of};
+use crate::loaded::{ReportedJob, index_of_job};
 use crate::recorded::add_recorded;
 use json_kinds::json_value;
 use launcher_places::{Places, check_own_file};
@@ -16,7 +16,7 @@ pub(crate) fn mark_applied(
     alloc: Global,
     gathered: &mut Gathered,
     applied: &Applied,
-    jobs: &mut [Job],
+    jobs: &mut [ReportedJob],
 ) -> Result<(), AllocError> {
     for file in &applied.files {
         if has_folder(gathered.folders.as_slice(), file.folder.as_str()) {
@@ -43,8 +43,8 @@ fn has_folder(folders: &[String], path: &str) -> bool {
     false
 }
 
-fn mark_job(jobs: &mut [Job], label: &str) {
-    if let Some(place) = place_of(jobs, label) {
+fn mark_job(jobs: &mut [ReportedJob], label: &str) {
+    if let Some(place) = index_of_job(jobs, label) {
         if let Some(job) = jobs.get_mut(place) {
             job.was_applied = true;
         }
@@ -58,7 +58,7 @@ fn place_in(file: &Filed, folders: &[String], applied: &Applied, next: usize) ->
         (None, Some(parent)) => parent,
         (None, None) => return None,
     };
-    applied.place_of(next, folder.as_str(), file.name())
+    applied.index_of_file(next, folder.as_str(), file.name())
 }
 
 fn mark_file(
@@ -67,7 +67,7 @@ fn mark_file(
     file: &mut Filed,
     applied: &Applied,
     place: usize,
-    jobs: &mut [Job],
+    jobs: &mut [ReportedJob],
 ) -> Result<(), AllocError> {
     let Some(known) = applied.files.get(place) else {
         return Ok(());
@@ -109,7 +109,7 @@ pub(crate) fn find_before(
     applied: &Applied,
     places: &Option<Places>,
     user: u32,
-    jobs: &mut [Job],
+    jobs: &mut [ReportedJob],
 ) -> Result<(), AllocError> {
     let mut wants_more = false;
     for file in files {
@@ -138,9 +138,9 @@ fn want(
     alloc: Global,
     file: &Filed,
     applied: &Applied,
-    jobs: &mut [Job],
+    jobs: &mut [ReportedJob],
 ) -> Result<bool, AllocError> {
-    let Some(place) = place_of(jobs, file.label.as_str()) else {
+    let Some(place) = index_of_job(jobs, file.label.as_str()) else {
         return Ok(false);
     };
     let Some(job) = jobs.get_mut(place) else {
@@ -160,12 +160,12 @@ fn want_former(
     alloc: Global,
     file: &Filed,
     applied: &Applied,
-    jobs: &mut [Job],
+    jobs: &mut [ReportedJob],
 ) -> Result<bool, AllocError> {
     let Some(former) = &file.former else {
         return Ok(false);
     };
-    let Some(place) = place_of(jobs, former.as_str()) else {
+    let Some(place) = index_of_job(jobs, former.as_str()) else {
         return Ok(false);
     };
     let Some(job) = jobs.get_mut(place) else {
@@ -179,7 +179,7 @@ fn want_former(
     Ok(job.before.is_none())
 }
 
-fn note_disabled(alloc: Global, jobs: &mut [Job]) -> Result<(), AllocError> {
+fn note_disabled(alloc: Global, jobs: &mut [ReportedJob]) -> Result<(), AllocError> {
     for job in jobs.iter_mut() {
         if let Some(text) = &job.before {
             let is_disabled = has_disabled(alloc, text.as_str())?;

@@ -1,7 +1,7 @@
 //! What a boot asks of a file before it loads it.
 
-use run_times::Ink;
 use run_times::Piece::{Number, Text};
+use run_times::TextWriter;
 use std::alloc::{AllocError, Global};
 use std::fs::Metadata;
 use std::os::unix::fs::{MetadataExt, PermissionsExt};
@@ -21,19 +21,19 @@ pub(crate) fn left_at_boot(
     user: u32,
     front: &str,
 ) -> Result<String, AllocError> {
-    let mut ink = Ink::new(alloc);
+    let mut writer = TextWriter::new(alloc);
     let mode = data.permissions().mode();
     if is_left_at_boot(mode, data.uid(), user) {
-        put_reason(mode, data.uid(), front, &mut ink);
+        put_reason(mode, data.uid(), front, &mut writer);
     }
-    ink.into_text()
+    writer.into_text()
 }
 
-fn put_reason(mode: u32, owner: u32, front: &str, ink: &mut Ink) {
-    ink.put(front);
+fn put_reason(mode: u32, owner: u32, front: &str, writer: &mut TextWriter) {
+    writer.put(front);
     if mode & OTHERS_WRITE != 0 {
-        ink.put("writable by others");
+        writer.put("writable by others");
     } else {
-        ink.put_all(&[Text("owned by user "), Number(u64::from(owner))]);
+        writer.put_all(&[Text("owned by user "), Number(u64::from(owner))]);
     }
 }

@@ -41,7 +41,7 @@ pub(crate) enum Outcome {
 
 /// A step, and what it takes to carry it out.
 #[derive(Clone, Copy)]
-pub(crate) struct Task<'a> {
+pub(crate) struct StepTask<'a> {
     pub(crate) label: &'a str,
     pub(crate) operation: Operation<'a>,
     /// The definition that is loaded, and the path of its file.
@@ -70,7 +70,7 @@ pub(crate) fn carry_out(
     host: &HostRuntime,
     alloc: Global,
     client: &mut Client,
-    task: &Task<'_>,
+    task: &StepTask<'_>,
     ended: &mut Vec<EndedJob>,
 ) -> Result<Outcome, Fault> {
     let mut is_unloaded = false;
@@ -110,7 +110,7 @@ fn seen_for(
     host: &HostRuntime,
     alloc: Global,
     client: &mut Client,
-    task: &Task<'_>,
+    task: &StepTask<'_>,
 ) -> Result<JobSeen, Fault> {
     match task.operation {
         Operation::Load(_) | Operation::Leave(_) => Ok(JobSeen::Gone),
@@ -123,7 +123,7 @@ fn unload(
     host: &HostRuntime,
     alloc: Global,
     client: &mut Client,
-    task: &Task<'_>,
+    task: &StepTask<'_>,
 ) -> Result<Option<Outcome>, Fault> {
     let replied = client.unload(host, alloc, task.label)?;
     let is_ending = replied.code == Refusal::Removing.code()
@@ -137,7 +137,7 @@ fn unload(
 }
 
 // Whether a job that ends was waited for long enough; if not, it is waited for once more.
-fn is_late(host: &HostRuntime, task: &Task<'_>, waiting: &mut Waiting) -> bool {
+fn is_late(host: &HostRuntime, task: &StepTask<'_>, waiting: &mut Waiting) -> bool {
     let seconds = waited(host, waiting);
     let most = u64::from(task.exit_time_out).saturating_add(MORE);
     if task.exit_time_out != 0 && seconds > most {
@@ -170,7 +170,7 @@ fn waited(host: &HostRuntime, waiting: &mut Waiting) -> u64 {
     }
 }
 
-fn tell_wait(host: &HostRuntime, task: &Task<'_>, most: u64) {
+fn tell_wait(host: &HostRuntime, task: &StepTask<'_>, most: u64) {
     let label = task.label;
     let _written = if task.exit_time_out == 0 {
         eprintln!(host; "jobctl: apply: waits without limit until {label} exits (ExitTimeOut 0)")
@@ -184,7 +184,7 @@ fn load(
     host: &HostRuntime,
     alloc: Global,
     client: &mut Client,
-    task: &Task<'_>,
+    task: &StepTask<'_>,
     is_unloaded: bool,
 ) -> Result<Outcome, Fault> {
     let replied = client.load(host, alloc, task.text)?;
@@ -226,7 +226,7 @@ fn restore(
     host: &HostRuntime,
     alloc: Global,
     client: &mut Client,
-    task: &Task<'_>,
+    task: &StepTask<'_>,
     replied: Replied,
 ) -> Result<Outcome, Fault> {
     let Replied { code, text } = replied;

@@ -6,7 +6,7 @@ use definition_digest::digest_of_value;
 use files_and_process::path_files::{Found, Kind, files_at, read_file};
 use history_model::Text;
 use json_kinds::json_value;
-use load_plan::Standing;
+use load_plan::FileState;
 use serde_json::Value;
 use std::alloc::{AllocError, Global};
 use std::fs;
@@ -26,7 +26,7 @@ pub(crate) struct Filed {
     pub(crate) label: String,
     /// The digest of its definition; empty, if the file is not JSON.
     pub(crate) digest: String,
-    pub(crate) standing: Standing,
+    pub(crate) standing: FileState,
     /// The definition, as it was read.
     pub(crate) text: String,
     /// What keeps it from being loaded; empty, if nothing does.
@@ -63,7 +63,7 @@ pub(crate) struct Gathered {
 struct Contents {
     label: Option<String>,
     digest: String,
-    standing: Standing,
+    standing: FileState,
     text: String,
     why: String,
 }
@@ -288,10 +288,10 @@ fn leave_at_boot(
     filed: &mut Option<Filed>,
 ) -> Result<(), AllocError> {
     match filed {
-        Some(filed) if matches!(filed.standing, Standing::Good) => {
+        Some(filed) if matches!(filed.standing, FileState::Good) => {
             let why = why_left(host, alloc, over, user, filed.path.as_str())?;
             if !why.is_empty() {
-                filed.standing = Standing::LeftAtBoot;
+                filed.standing = FileState::LeftAtBoot;
                 filed.why = why;
             }
             Ok(())
@@ -320,7 +320,7 @@ fn unread<D: std::fmt::Display>(alloc: Global, why: &D) -> Result<Contents, Allo
     Ok(Contents {
         label: None,
         digest: String::new(alloc),
-        standing: Standing::Unread,
+        standing: FileState::Unread,
         text: String::new(alloc),
         why: why.to_string(alloc)?,
     })
@@ -348,7 +348,7 @@ fn contents_of(alloc: Global, text: String) -> Result<Contents, AllocError> {
             Ok(Contents {
                 label,
                 digest,
-                standing: Standing::Good,
+                standing: FileState::Good,
                 text,
                 why: String::new(alloc),
             })
@@ -356,7 +356,7 @@ fn contents_of(alloc: Global, text: String) -> Result<Contents, AllocError> {
         None => Ok(Contents {
             label: None,
             digest: String::new(alloc),
-            standing: Standing::Unread,
+            standing: FileState::Unread,
             text,
             why: String::from_str(alloc, "not JSON")?,
         }),

@@ -1,13 +1,15 @@
 //! What a load would say of the files that differ from what is loaded, and what is warned of.
 
 use crate::gathered::Filed;
-use crate::loaded::{Job, job_of};
-use definition_files::check::{Change, Checked, Grade, Place, Remark, check_def, finding_line};
+use crate::loaded::{ReportedJob, job_of};
+use definition_files::check::{
+    Change, Checked, Finding, Position, Severity, check_def, finding_line,
+};
 use history_model::{KeyName, Reason};
 use json_kinds::{key_name, reason_name};
-use load_plan::Standing;
-use run_times::Ink;
+use load_plan::FileState;
 use run_times::Piece::{Number, Text};
+use run_times::TextWriter;
 use std::alloc::{AllocError, Global};
 
 /// Looks at each file that is not JSON, or that differs from what is loaded. It returns whether there is a warning, and reports each if
@@ -16,7 +18,7 @@ pub(crate) fn judge_all(
     host: &HostRuntime,
     alloc: Global,
     files: &mut [Filed],
-    jobs: &[Job],
+    jobs: &[ReportedJob],
     changes: &[Change],
 ) -> Result<bool, AllocError> {
     let mut has_warning = false;
@@ -28,7 +30,7 @@ pub(crate) fn judge_all(
 }
 
 /// Whether one of the files is to be looked at.
-pub(crate) fn has_open(files: &[Filed], jobs: &[Job]) -> bool {
+pub(crate) fn has_open(files: &[Filed], jobs: &[ReportedJob]) -> bool {
     for file in files {
         if is_open(file, jobs) {
             return true;
@@ -38,7 +40,7 @@ pub(crate) fn has_open(files: &[Filed], jobs: &[Job]) -> bool {
 }
 
 // Whether a file says something else than what is loaded.
-fn is_open(file: &Filed, jobs: &[Job]) -> bool {
+fn is_open(file: &Filed, jobs: &[ReportedJob]) -> bool {
     if file.text.is_empty() {
         return false;
     }
@@ -52,7 +54,7 @@ fn judge(
     host: &HostRuntime,
     alloc: Global,
     file: &mut Filed,
-    jobs: &[Job],
+    jobs: &[ReportedJob],
     changes: &[Change],
 ) -> Result<bool, AllocError> {
     if !is_open(file, jobs) {
@@ -62,13 +64,13 @@ fn judge(
         Checked::Loads {
             def,
             mistakes,
-            remarks,
+            finding_list,
         } => {
             drop(mistakes);
             let is_disabled = def.disabled();
             drop(def);
-            let is_warned = tell_warnings(host, alloc, file.path.as_str(), remarks.as_slice());
-            drop(remarks);
+            let is_warned = tell_warnings(host, alloc, file.path.as_str(), finding_list.as_slice());
+            drop(finding_list);
             heed_setting(alloc, file, jobs, is_disabled)?;
             is_warned
         }
@@ -94,28 +96,28 @@ fn judge(
 
 // A file that is not JSON stays unread, but gets this better reason.
 fn refuse(file: &mut Filed, why: String) {
-    if !matches!(file.standing, Standing::Unread) {
-        file.standing = Standing::Refused;
+    if !matches!(file.standing, FileState::Unread) {
+        file.standing = FileState::Refused;
     }
     file.why = why;
 }
 
 // As the launcher says it.
 fn why_refused(alloc: Global, reason: Reason, key: KeyName) -> Result<String, AllocError> {
-    let mut ink = Ink::new(alloc);
-    ink.put_all(&[
+    let mut writer = TextWriter::new(alloc);
+    writer.put_all(&[
         Text("bad definition: "),
         Text(reason_name(reason)),
         Text(" "),
         Text(key_name(key)),
     ]);
-    ink.into_text()
+    writer.into_text()
 }
 
-fn why_unread(alloc: Global, place: Option<Place>, text: &str) -> Result<String, AllocError> {
-    let mut ink = Ink::new(alloc);
+fn why_unread(alloc: Global, place: Option<Position>, text: &str) -> Result<String, AllocError> {
+    let mut writer = TextWriter::new(alloc);
     if let Some(place) = place {
-        ink.put_all(&[
+        writer.put_all(&[
             Text("line "),
             Number(place.line as u64),
             Text(", column "),
@@ -123,25 +125,25 @@ fn why_unread(alloc: Global, place: Option<Place>, text: &str) -> Result<String,
             Text(": "),
         ]);
     }
-    ink.put_plain(text);
-    ink.into_text()
+    writer.put_plain(text);
+    writer.into_text()
 }
 
 // The load of a file whose job is loaded would be refused, if its label is disabled by then.
 fn heed_setting(
     alloc: Global,
     file: &mut Filed,
-    jobs: &[Job],
+    jobs: &[ReportedJob],
     is_disabled: bool,
 ) -> Result<(), AllocError> {
     let Some(job) = job_of(jobs, file.label.as_str()) else {
         return Ok(());
     };
-    if !matches!(file.standing, Standing::Good) {
+    if !matches!(file.standing, FileState::Good) {
         return Ok(());
     }
     if job.is_disabled || (is_disabled && !job.was_disabled) {
-        file.standing = Standing::Disabled;
+        file.standing = FileState::Disabled;
         file.why = String::from_str(
             alloc,
             if job.is_disabled {
@@ -159,13 +161,13 @@ fn tell_warnings(
     host: &HostRuntime,
     alloc: Global,
     path: &str,
-    remarks: &[Remark],
+    finding_list: &[Finding],
 ) -> Result<bool, AllocError> {
     let mut is_warned = false;
-    for remark in remarks {
-        if let Grade::Warning = remark.grade {
+    for finding in finding_list {
+        if let Severity::Warning = finding.severity {
             is_warned = true;
-            tell_warning(host, alloc, path, remark)?;
+            tell_warning(host, alloc, path, finding)?;
         }
     }
     Ok(is_warned)
@@ -175,15 +177,15 @@ fn tell_warning(
     host: &HostRuntime,
     alloc: Global,
     path: &str,
-    remark: &Remark,
+    finding: &Finding,
 ) -> Result<(), AllocError> {
     let line = finding_line(
         alloc,
         path,
-        remark.place,
+        finding.place,
         "",
-        Grade::Warning,
-        remark.text.as_str(),
+        Severity::Warning,
+        finding.text.as_str(),
     )?;
     let _written = eprint!(host; "{line}");
     drop(line);

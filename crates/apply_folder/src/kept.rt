@@ -2,10 +2,10 @@
 
 use crate::applied::{Applied, AppliedFile, digest_in, put_definition, put_folder, write_applied};
 use crate::gathered::{Filed, Gathered};
-use crate::loaded::{Job, job_of};
+use crate::loaded::{ReportedJob, job_of};
 use crate::planned::Progress;
-use files_and_process::own_process::Standing;
-use run_times::Ink;
+use files_and_process::own_process::ProcessState;
+use run_times::TextWriter;
 use std::alloc::{AllocError, Global};
 use std::io;
 
@@ -17,7 +17,7 @@ pub(crate) fn keep(
     path: &str,
     user: u32,
     gathered: &Gathered,
-    jobs: &[Job],
+    jobs: &[ReportedJob],
     applied: &Applied,
     progress: &Progress,
 ) -> io::Result<()> {
@@ -38,7 +38,7 @@ fn write_own(
     text: &str,
     user: u32,
 ) -> io::Result<()> {
-    if Standing::read(host).user != Some(user) {
+    if ProcessState::read(host).user != Some(user) {
         return Err(io::Error::new(
             io::ErrorKind::PermissionDenied,
             "only the launcher's own user writes it",
@@ -50,21 +50,21 @@ fn write_own(
 fn text_of(
     alloc: Global,
     gathered: &Gathered,
-    jobs: &[Job],
+    jobs: &[ReportedJob],
     applied: &Applied,
     progress: &Progress,
 ) -> Result<String, AllocError> {
-    let mut ink = Ink::new(alloc);
-    put_others(gathered, applied, &mut ink);
+    let mut writer = TextWriter::new(alloc);
+    put_others(gathered, applied, &mut writer);
     let files = files_of(alloc, gathered, jobs, applied, progress)?;
     for (number, folder) in gathered.folders.iter().enumerate() {
         if is_first(gathered.folders.as_slice(), number) {
-            put_folder(&mut ink, folder.as_str(), files.as_slice());
+            put_folder(&mut writer, folder.as_str(), files.as_slice());
         }
     }
     drop(files);
-    put_definitions(alloc, gathered, jobs, applied, progress, &mut ink)?;
-    ink.into_text()
+    put_definitions(alloc, gathered, jobs, applied, progress, &mut writer)?;
+    writer.into_text()
 }
 
 // Whether no folder before it is the same.
@@ -83,12 +83,12 @@ fn is_first(folders: &[String], number: usize) -> bool {
 }
 
 // The lines of folders that were not asked for stay as they are.
-fn put_others(gathered: &Gathered, applied: &Applied, ink: &mut Ink) {
+fn put_others(gathered: &Gathered, applied: &Applied, writer: &mut TextWriter) {
     let mut last = "";
     for file in &applied.files {
         let folder = file.folder.as_str();
         if folder != last && !is_asked(gathered, folder) {
-            put_folder(ink, folder, applied.files.as_slice());
+            put_folder(writer, folder, applied.files.as_slice());
         }
         last = folder;
     }
@@ -107,7 +107,7 @@ fn is_asked(gathered: &Gathered, folder: &str) -> bool {
 fn files_of(
     alloc: Global,
     gathered: &Gathered,
-    jobs: &[Job],
+    jobs: &[ReportedJob],
     applied: &Applied,
     progress: &Progress,
 ) -> Result<Vec<AppliedFile>, AllocError> {
@@ -160,7 +160,7 @@ fn copied(alloc: Global, file: &AppliedFile) -> Result<AppliedFile, AllocError> 
 }
 
 // Whether a job was loaded, and not unloaded permanently.
-fn is_left(jobs: &[Job], progress: &Progress, label: &str) -> bool {
+fn is_left(jobs: &[ReportedJob], progress: &Progress, label: &str) -> bool {
     if job_of(jobs, label).is_none() {
         return false;
     }
@@ -176,15 +176,15 @@ fn is_left(jobs: &[Job], progress: &Progress, label: &str) -> bool {
 fn put_definitions(
     alloc: Global,
     gathered: &Gathered,
-    jobs: &[Job],
+    jobs: &[ReportedJob],
     applied: &Applied,
     progress: &Progress,
-    ink: &mut Ink,
+    writer: &mut TextWriter,
 ) -> Result<(), AllocError> {
     let mut put = Vec::new(alloc);
     for place in &progress.in_effect {
         if let Some(file) = gathered.files.get(*place) {
-            put_definition(ink, file.digest.as_str(), file.text.as_str());
+            put_definition(writer, file.digest.as_str(), file.text.as_str());
             put.push(file.digest.as_str())?;
         }
     }
@@ -197,8 +197,8 @@ fn put_definitions(
     for line in applied.text.lines() {
         if let Some(digest) = digest_in(line) {
             if loaded.binary_search(&digest).is_ok() && put.binary_search(&digest).is_err() {
-                ink.put(line);
-                ink.put("\n");
+                writer.put(line);
+                writer.put("\n");
             }
         }
     }

@@ -25,4 +25,4 @@ mod words;
 pub use boot::is_left_at_boot;
 pub use program::jobctl_apply;
 pub use status::Ending;
-pub use words::{ApplyFlags, Wish};
+pub use words::{ApplyFlag, ApplyFlags};

@@ -6,7 +6,7 @@ use exit_status::NO_ANSWER;
 use history_model::{JobState, Text};
 use launcher_places::{Places, check_own_file};
 use status_file::{DisabledBy, JobStatus, LauncherStatus, StatusFault, StatusLine, state_of};
-use status_page::{Standing, Trouble, named_path, read_standing};
+use status_page::{Diagnostic, StatusRead, named_path, read_standing};
 use std::alloc::{AllocError, Global};
 use std::io::ErrorKind;
 use std::time::{Duration, SystemTime};
@@ -24,9 +24,9 @@ const BETWEEN: u64 = 50;
 /// After this many looks a job counts even if the file does not have its definition, as just after a load.
 const UNTOLD: u32 = 40;
 
-/// A loaded job.
+/// A loaded job, as the status file reports it.
 #[derive(Drop)]
-pub(crate) struct Job {
+pub(crate) struct ReportedJob {
     pub(crate) label: String,
     /// Empty, if the launcher does not report it.
     pub(crate) digest: String,
@@ -52,8 +52,8 @@ pub(crate) struct Job {
 /// What is loaded, by rising bytes of labels, and the file that says so.
 #[derive(Drop)]
 pub(crate) struct Look {
-    pub(crate) jobs: Vec<Job>,
-    pub(crate) standing: Standing,
+    pub(crate) jobs: Vec<ReportedJob>,
+    pub(crate) standing: StatusRead,
 }
 
 /// What is loaded, as it was when the clock showed `asked` or later.
@@ -97,7 +97,7 @@ fn checked(host: &HostRuntime, path: &str, look: Look) -> Result<Look, Stop> {
     }
 }
 
-fn all_told(jobs: &[Job]) -> bool {
+fn all_told(jobs: &[ReportedJob]) -> bool {
     for job in jobs {
         if job.digest.is_empty() {
             return false;
@@ -128,17 +128,17 @@ fn look_once(
     Ok(Some(Look { jobs, standing }))
 }
 
-fn standing_at(host: &HostRuntime, alloc: Global, path: &str) -> Result<Standing, Stop> {
+fn standing_at(host: &HostRuntime, alloc: Global, path: &str) -> Result<StatusRead, Stop> {
     match read_standing(host, alloc, path, &[]) {
         Ok(standing) => Ok(standing),
-        Err(trouble) => Err(tell_trouble(host, path, trouble)),
+        Err(diagnostic) => Err(print_diagnostic(host, path, diagnostic)),
     }
 }
 
-fn tell_trouble(host: &HostRuntime, path: &str, trouble: Trouble) -> Stop {
-    let _written = match trouble {
-        Trouble::NoMemory | Trouble::Line(_, StatusFault::NoMemory) => return Stop::NoMemory,
-        Trouble::Read(error) => eprintln!(host; "jobctl: apply: {path}: {error}"),
+fn print_diagnostic(host: &HostRuntime, path: &str, diagnostic: Diagnostic) -> Stop {
+    let _written = match diagnostic {
+        Diagnostic::NoMemory | Diagnostic::Line(_, StatusFault::NoMemory) => return Stop::NoMemory,
+        Diagnostic::Read(error) => eprintln!(host; "jobctl: apply: {path}: {error}"),
         _ => eprintln!(host; "jobctl: apply: {path}: it is not a complete status file"),
     };
     Stop::Told(NO_ANSWER)
@@ -171,7 +171,7 @@ fn is_current(host: &HostRuntime, path: &str, asked: &io::Result<SystemTime>) ->
 fn check_launcher(
     host: &HostRuntime,
     path: &str,
-    standing: &Standing,
+    standing: &StatusRead,
     places: &Option<Places>,
 ) -> Result<(), Stop> {
     let Some(launcher) = standing.launcher() else {
@@ -200,14 +200,14 @@ fn stale(host: &HostRuntime, path: &str, why: &str) -> Result<(), Stop> {
 }
 
 // Whether the lines of a list, each with its label after the last tab, are those of these jobs.
-fn have_labels(jobs: &[Job], list: &str) -> bool {
+fn have_labels(jobs: &[ReportedJob], list: &str) -> bool {
     let mut count: usize = 0;
     for line in list.lines().skip(1) {
         let label = match line.rsplit_once('\t') {
             Some((_, label)) => label,
             None => line,
         };
-        if place_of(jobs, label).is_none() {
+        if index_of_job(jobs, label).is_none() {
             return false;
         }
         count = count.saturating_add(1);
@@ -215,8 +215,8 @@ fn have_labels(jobs: &[Job], list: &str) -> bool {
     count == jobs.len()
 }
 
-/// The place of the job of this label.
-pub(crate) fn place_of(jobs: &[Job], label: &str) -> Option<usize> {
+/// The index of the job of this label.
+pub(crate) fn index_of_job(jobs: &[ReportedJob], label: &str) -> Option<usize> {
     let place = jobs.partition_point(|job| job.label.as_str() < label);
     match jobs.get(place) {
         Some(job) if job.label.as_str() == label => Some(place),
@@ -225,11 +225,11 @@ pub(crate) fn place_of(jobs: &[Job], label: &str) -> Option<usize> {
 }
 
 /// The job of this label.
-pub(crate) fn job_of<'a>(jobs: &'a [Job], label: &str) -> Option<&'a Job> {
-    jobs.get(place_of(jobs, label)?)
+pub(crate) fn job_of<'a>(jobs: &'a [ReportedJob], label: &str) -> Option<&'a ReportedJob> {
+    jobs.get(index_of_job(jobs, label)?)
 }
 
-fn jobs_of(alloc: Global, lines: &[StatusLine]) -> Result<Vec<Job>, AllocError> {
+fn jobs_of(alloc: Global, lines: &[StatusLine]) -> Result<Vec<ReportedJob>, AllocError> {
     let mut jobs = Vec::new(alloc);
     for line in lines {
         add_job(alloc, line, &mut jobs)?;
@@ -237,7 +237,11 @@ fn jobs_of(alloc: Global, lines: &[StatusLine]) -> Result<Vec<Job>, AllocError> 
     Ok(jobs)
 }
 
-fn add_job(alloc: Global, line: &StatusLine, jobs: &mut Vec<Job>) -> Result<(), AllocError> {
+fn add_job(
+    alloc: Global,
+    line: &StatusLine,
+    jobs: &mut Vec<ReportedJob>,
+) -> Result<(), AllocError> {
     let (Ok(status), Ok(entries)) = (line.job(), line.calendar(alloc)) else {
         return Err(AllocError);
     };
@@ -248,13 +252,17 @@ fn add_job(alloc: Global, line: &StatusLine, jobs: &mut Vec<Job>) -> Result<(), 
     Ok(())
 }
 
-fn job_with(alloc: Global, status: &JobStatus<'_>, has_calendar: bool) -> Result<Job, AllocError> {
+fn job_with(
+    alloc: Global,
+    status: &JobStatus<'_>,
+    has_calendar: bool,
+) -> Result<ReportedJob, AllocError> {
     let state = state_of(&status.facts.reasons);
     let since = match status.note.started {
         Some(at) => at.wall,
         None => 0,
     };
-    Ok(Job {
+    Ok(ReportedJob {
         label: String::from_str(alloc, status.label)?,
         digest: String::from_str(alloc, status.note.definition.unwrap_or(""))?,
         is_running: !matches!(state, JobState::Idle),

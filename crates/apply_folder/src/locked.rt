@@ -3,7 +3,7 @@
 use crate::stop::Stop;
 use exit_status::NO_ANSWER;
 use files_and_process::own_files::LockFile;
-use files_and_process::own_process::Standing;
+use files_and_process::own_process::ProcessState;
 use std::alloc::Global;
 use std::io::ErrorKind;
 use std::thread;
@@ -26,7 +26,7 @@ pub(crate) fn lock_beside(
     socket: &str,
     user: u32,
 ) -> Result<Option<LockFile>, Stop> {
-    let is_foreign = Standing::read(host).user != Some(user);
+    let is_foreign = ProcessState::read(host).user != Some(user);
     let tries = if is_foreign { FOREIGN_TRIES } else { u64::MAX };
     for turn in 0..tries {
         let path = format!(in alloc; "{socket}{BEHIND}")?;

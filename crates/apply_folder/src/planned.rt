@@ -1,12 +1,12 @@
 //! The plan, shown and carried out.
 
-use crate::carried::{Awaited, Outcome, Task, carry_out};
+use crate::carried::{Awaited, Outcome, StepTask, carry_out};
 use crate::client::Client;
 use crate::gathered::Filed;
 use crate::left::EndedJob;
-use crate::loaded::{Job, job_of};
-use crate::reasons::{Around, file_of, keys_of, outcome_text, planned_text};
-use crate::shown::{Line, show};
+use crate::loaded::{ReportedJob, job_of};
+use crate::reasons::{StepContext, file_of, keys_of, outcome_text, planned_text};
+use crate::shown::{StepLine, show};
 use crate::status::Ending;
 use crate::stop::Stop;
 use crate::words::ApplyFlags;
@@ -14,17 +14,17 @@ use calendar_due::Zone;
 use history_model::Refusal;
 use json_lines::put_texts;
 use load_plan::{
-    FileVerdict, Flags, LoadedJob, Operation, Reason, Standing, Step, operation_in, operation_word,
-    plan,
+    FileState, FileVerdict, Flags, LoadedJob, Operation, PlannedStep, Reason, operation_in,
+    operation_word, plan,
 };
-use run_times::Ink;
+use run_times::TextWriter;
 use std::alloc::{AllocError, Global};
 
 /// What a plan is made of, and how it is carried out.
 #[derive(Clone, Copy)]
 pub(crate) struct Scene<'a> {
     pub(crate) files: &'a [Filed],
-    pub(crate) jobs: &'a [Job],
+    pub(crate) jobs: &'a [ReportedJob],
     pub(crate) zone: &'a Zone,
     pub(crate) flags: ApplyFlags,
     pub(crate) has_warning: bool,
@@ -139,7 +139,7 @@ fn verdict_of(place: usize, file: &Filed) -> FileVerdict<'_> {
     }
 }
 
-fn loaded_of<'a>(alloc: Global, jobs: &'a [Job]) -> Result<Vec<LoadedJob<'a>>, AllocError> {
+fn loaded_of<'a>(alloc: Global, jobs: &'a [ReportedJob]) -> Result<Vec<LoadedJob<'a>>, AllocError> {
     let mut loaded = Vec::new(alloc);
     for job in jobs {
         loaded.push(loaded_job(job))?;
@@ -147,7 +147,7 @@ fn loaded_of<'a>(alloc: Global, jobs: &'a [Job]) -> Result<Vec<LoadedJob<'a>>, A
     Ok(loaded)
 }
 
-fn loaded_job(job: &Job) -> LoadedJob<'_> {
+fn loaded_job(job: &ReportedJob) -> LoadedJob<'_> {
     LoadedJob {
         label: job.label.as_str(),
         digest: job.digest.as_str(),
@@ -161,7 +161,7 @@ fn loaded_job(job: &Job) -> LoadedJob<'_> {
 // The files that are loaded as they are: they have no step.
 fn note_same(
     scene: &Scene<'_>,
-    steps: &[Step<'_>],
+    steps: &[PlannedStep<'_>],
     progress: &mut Progress,
 ) -> Result<(), AllocError> {
     progress.same = 0;
@@ -174,7 +174,7 @@ fn note_same(
     Ok(())
 }
 
-fn is_same(scene: &Scene<'_>, steps: &[Step<'_>], file: &Filed) -> bool {
+fn is_same(scene: &Scene<'_>, steps: &[PlannedStep<'_>], file: &Filed) -> bool {
     let label = file.label.as_str();
     let is_loaded = match job_of(scene.jobs, label) {
         Some(job) => job.digest.as_str() == file.digest.as_str() && !file.digest.is_empty(),
@@ -186,7 +186,7 @@ fn is_same(scene: &Scene<'_>, steps: &[Step<'_>], file: &Filed) -> bool {
 // The job that stays with another label: the file that had this one.
 fn heir_of<'a>(files: &'a [Filed], label: &str) -> Option<&'a Filed> {
     for file in files {
-        if let (Some(former), Standing::Good) = (&file.former, file.standing) {
+        if let (Some(former), FileState::Good) = (&file.former, file.standing) {
             if former.as_str() == label {
                 return Some(file);
             }
@@ -213,7 +213,7 @@ fn heeded<'a>(scene: &Scene<'_>, operation: Operation<'a>) -> Operation<'a> {
 }
 
 // Whether the line of the job under the former label covers this load too.
-fn is_told_before(scene: &Scene<'_>, step: &Step<'_>, file: Option<&Filed>) -> bool {
+fn is_told_before(scene: &Scene<'_>, step: &PlannedStep<'_>, file: Option<&Filed>) -> bool {
     let former = match (step.operation, file) {
         (
             Operation::Load(_),
@@ -242,8 +242,8 @@ fn is_named_by(files: &[Filed], label: &str) -> bool {
 fn shown_label(
     alloc: Global,
     scene: &Scene<'_>,
-    step: &Step<'_>,
-    around: &Around<'_>,
+    step: &PlannedStep<'_>,
+    around: &StepContext<'_>,
     file: Option<&Filed>,
 ) -> Result<String, AllocError> {
     let is_unread = matches!(step.operation, Operation::Leave(Reason::Unread));
@@ -262,14 +262,14 @@ fn take_step<'x>(
     alloc: Global,
     client: &mut Client,
     scene: &Scene<'x>,
-    step: &Step<'x>,
+    step: &PlannedStep<'x>,
     progress: &mut Progress,
 ) -> Result<(), Stop> {
     if is_among(progress.tried.as_slice(), step.label) {
         return Ok(());
     }
     let operation = heeded(scene, step.operation);
-    let step = &Step {
+    let step = &PlannedStep {
         label: step.label,
         operation,
     };
@@ -279,7 +279,7 @@ fn take_step<'x>(
         Operation::Unload => heir_of(scene.files, step.label),
         _ => None,
     };
-    let around = Around {
+    let around = StepContext {
         alloc,
         files: scene.files,
         zone: scene.zone,
@@ -309,8 +309,8 @@ fn show_step(
     host: &HostRuntime,
     alloc: Global,
     scene: &Scene<'_>,
-    step: &Step<'_>,
-    around: &Around<'_>,
+    step: &PlannedStep<'_>,
+    around: &StepContext<'_>,
     file: Option<&Filed>,
     keys: &[String],
     reason: &str,
@@ -322,7 +322,7 @@ fn show_step(
         host,
         alloc,
         scene.flags.json,
-        &Line {
+        &StepLine {
             word: operation_word(&step.operation, around.heir.is_some()),
             label: label.as_str(),
             file: match file.or(around.heir) {
@@ -342,10 +342,10 @@ fn show_step(
 // The keys as a list of JSON.
 fn keys_text(alloc: Global, keys: &[String]) -> Result<String, AllocError> {
     let names = lent(alloc, keys)?;
-    let mut ink = Ink::new(alloc);
-    put_texts(&mut ink, names.as_slice());
+    let mut writer = TextWriter::new(alloc);
+    put_texts(&mut writer, names.as_slice());
     drop(names);
-    ink.into_text()
+    writer.into_text()
 }
 
 fn lent<'a>(alloc: Global, keys: &'a [String]) -> Result<Vec<&'a str>, AllocError> {
@@ -361,8 +361,8 @@ fn show_each(
     host: &HostRuntime,
     alloc: Global,
     scene: &Scene<'_>,
-    step: &Step<'_>,
-    around: &Around<'_>,
+    step: &PlannedStep<'_>,
+    around: &StepContext<'_>,
     reason: &str,
 ) -> Result<(), Stop> {
     for file in scene.files {
@@ -388,9 +388,9 @@ fn leave(
     host: &HostRuntime,
     alloc: Global,
     scene: &Scene<'_>,
-    step: &Step<'_>,
+    step: &PlannedStep<'_>,
     why: Reason,
-    around: &Around<'_>,
+    around: &StepContext<'_>,
     file: Option<&Filed>,
     keys: &[String],
     told: &String,
@@ -445,7 +445,7 @@ fn await_job(
     alloc: Global,
     label: &str,
     is_run: bool,
-    job: Option<&Job>,
+    job: Option<&ReportedJob>,
     progress: &mut Progress,
 ) -> Result<(), AllocError> {
     let exit_time_out = match job {
@@ -466,8 +466,8 @@ fn act<'x>(
     alloc: Global,
     client: &mut Client,
     scene: &Scene<'x>,
-    step: &Step<'x>,
-    around: &Around<'x>,
+    step: &PlannedStep<'x>,
+    around: &StepContext<'x>,
     file: Option<&'x Filed>,
     keys: &[String],
     told: &String,
@@ -504,7 +504,7 @@ fn act<'x>(
         return Ok(());
     }
     let operation = became(&step.operation, &outcome);
-    let told_as = Step {
+    let told_as = PlannedStep {
         label: step.label,
         operation,
     };
@@ -521,7 +521,7 @@ fn act<'x>(
 }
 
 // A job that was unloaded, since its file has another label now, may be loaded again.
-fn note_back(outcome: &Outcome, moved: Option<&Job>, progress: &mut Progress) {
+fn note_back(outcome: &Outcome, moved: Option<&ReportedJob>, progress: &mut Progress) {
     match (outcome, moved) {
         (Outcome::Restored(_, _), Some(job)) => {
             let label = job.label.as_str();
@@ -543,10 +543,10 @@ fn became<'a>(operation: &Operation<'a>, outcome: &Outcome) -> Operation<'a> {
 // The job that was unloaded for the file, since it has another label now.
 fn moved_job<'a>(
     scene: &Scene<'a>,
-    step: &Step<'_>,
+    step: &PlannedStep<'_>,
     file: Option<&Filed>,
     progress: &Progress,
-) -> Option<&'a Job> {
+) -> Option<&'a ReportedJob> {
     let former = match (step.operation, file) {
         (Operation::Load(_), Some(file)) => file.former.as_ref()?.as_str(),
         _ => return None,
@@ -560,22 +560,22 @@ fn moved_job<'a>(
 
 fn task_of<'a>(
     scene: &Scene<'a>,
-    step: &Step<'a>,
-    job: Option<&'a Job>,
+    step: &PlannedStep<'a>,
+    job: Option<&'a ReportedJob>,
     file: Option<&'a Filed>,
-    moved: Option<&'a Job>,
-) -> Task<'a> {
+    moved: Option<&'a ReportedJob>,
+) -> StepTask<'a> {
     let operation = step.operation;
     let before = match moved.or(job) {
         Some(
-            Job {
+            ReportedJob {
                 before: Some(before),
                 ..
             },
         ) => Some(before.as_str()),
         _ => None,
     };
-    Task {
+    StepTask {
         label: step.label,
         operation,
         text: match file {
@@ -602,7 +602,7 @@ fn task_of<'a>(
 fn note_outcome(
     alloc: Global,
     scene: &Scene<'_>,
-    step: &Step<'_>,
+    step: &PlannedStep<'_>,
     outcome: &Outcome,
     progress: &mut Progress,
 ) -> Result<(), AllocError> {
@@ -630,7 +630,11 @@ fn note_outcome(
     }
 }
 
-fn note_done(alloc: Global, step: &Step<'_>, progress: &mut Progress) -> Result<(), AllocError> {
+fn note_done(
+    alloc: Global,
+    step: &PlannedStep<'_>,
+    progress: &mut Progress,
+) -> Result<(), AllocError> {
     progress.has_changed = true;
     match step.operation {
         Operation::Load(file) | Operation::Replace(file) => progress.in_effect.push(file.place)?,

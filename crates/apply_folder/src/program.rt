@@ -8,14 +8,14 @@ use crate::gathered::{Filed, Gathered, NextBoot, gather};
 use crate::judged::{has_open, judge_all};
 use crate::kept::keep;
 use crate::left::report_left;
-use crate::loaded::{Job, Look, job_of, look_at, status_path};
+use crate::loaded::{Look, ReportedJob, job_of, look_at, status_path};
 use crate::locked::lock_beside;
 use crate::planned::{Progress, Scene, apply_once, awaited_in};
-use crate::shown::{Line, show, show_same};
+use crate::shown::{StepLine, show, show_same};
 use crate::stop::Stop;
 use crate::words::{ApplyWords, Meant, meaning_of};
 use calendar_due::Zone;
-use control_client::{Fault, PACKAGED, SOCKET, Settings, settings_of, tell_setting};
+use control_client::{Environment, Fault, PACKAGED, SOCKET, settings_of, tell_setting};
 use definition_files::check::{Change, changes_ahead};
 use exit_status::{NO_ANSWER, NO_MEMORY, READER_GONE, USAGE};
 use files_and_process::own_files::LockFile;
@@ -109,7 +109,7 @@ fn run(host: &HostRuntime, alloc: Global, words: &ApplyWords) -> u8 {
     ended
 }
 
-fn run_beside(host: &HostRuntime, alloc: Global, words: &ApplyWords, settings: &Settings) -> u8 {
+fn run_beside(host: &HostRuntime, alloc: Global, words: &ApplyWords, settings: &Environment) -> u8 {
     let named = socket_of(host, words, settings);
     let socket = match Text::copy_of(alloc, named) {
         Ok(socket) => socket,
@@ -126,7 +126,7 @@ fn run_beside(host: &HostRuntime, alloc: Global, words: &ApplyWords, settings: &
 }
 
 // The socket of the arguments, else of the environment; else the one here, else the package's.
-fn socket_of<'a>(host: &HostRuntime, words: &'a ApplyWords, settings: &'a Settings) -> &'a str {
+fn socket_of<'a>(host: &HostRuntime, words: &'a ApplyWords, settings: &'a Environment) -> &'a str {
     match (&words.socket, &settings.socket) {
         (Some(socket), _) => socket.as_str(),
         (None, Some(socket)) => socket.as_str(),
@@ -166,12 +166,12 @@ fn apply(
         lock_beside(host, alloc, socket.as_str(), user)?
     };
     let ended = apply_beside(host, alloc, words, client, socket.as_str(), user);
-    let_go(host, lock);
+    release(host, lock);
     drop(socket);
     ended
 }
 
-fn let_go(host: &HostRuntime, lock: Option<LockFile>) {
+fn release(host: &HostRuntime, lock: Option<LockFile>) {
     if let Some(lock) = lock {
         lock.remove(host);
         drop(lock);
@@ -432,7 +432,7 @@ fn is_shutting_down(
     host: &HostRuntime,
     alloc: Global,
     client: &mut Client,
-    jobs: &[Job],
+    jobs: &[ReportedJob],
 ) -> Result<bool, Fault> {
     if jobs.is_empty() {
         return Ok(false);
@@ -564,7 +564,7 @@ fn show_goes_on(
     scene: &Scene<'_>,
     file: &Filed,
 ) -> Result<(), Stop> {
-    let line = Line {
+    let line = StepLine {
         word: "disabled",
         label: file.label.as_str(),
         file: file.path.as_str(),
@@ -594,7 +594,7 @@ fn show_left_out(
         if !file.is_named() && named.binary_search(&label).is_ok() {
             progress.has_twice = true;
             let reason = format!(in alloc; "{label}.json is used; {} is ignored", file.name())?;
-            let line = Line {
+            let line = StepLine {
                 word: "twice",
                 label,
                 file: file.path.as_str(),

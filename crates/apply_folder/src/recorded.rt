@@ -1,6 +1,6 @@
 //! Definitions that a journal has.
 
-use crate::loaded::{Job, place_of};
+use crate::loaded::{ReportedJob, index_of_job};
 use definition_digest::digest_of_value;
 use json_kinds::json_value;
 use serde_json::Value;
@@ -21,7 +21,7 @@ pub(crate) fn add_recorded(
     host: &HostRuntime,
     alloc: Global,
     journal: &str,
-    jobs: &mut [Job],
+    jobs: &mut [ReportedJob],
 ) -> Result<(), AllocError> {
     match metadata(host, journal) {
         Ok(data) if data.is_file() && data.len() <= LONGEST => {}
@@ -33,7 +33,12 @@ pub(crate) fn add_recorded(
     }
 }
 
-fn read_all(host: &HostRuntime, alloc: Global, journal: &str, jobs: &mut [Job]) -> io::Result<()> {
+fn read_all(
+    host: &HostRuntime,
+    alloc: Global,
+    journal: &str,
+    jobs: &mut [ReportedJob],
+) -> io::Result<()> {
     let file = File::open(host, journal)?;
     let mut reader = BufReader::new(alloc, file)?;
     let mut line = Vec::new(alloc);
@@ -48,7 +53,7 @@ fn read_all(host: &HostRuntime, alloc: Global, journal: &str, jobs: &mut [Job]) 
 }
 
 // Takes the definition of a line, if the line is a load.
-fn take_line(alloc: Global, line: &[u8], jobs: &mut [Job]) -> Result<(), AllocError> {
+fn take_line(alloc: Global, line: &[u8], jobs: &mut [ReportedJob]) -> Result<(), AllocError> {
     let Ok(text) = str::from_utf8(line) else {
         return Ok(());
     };
@@ -66,12 +71,12 @@ fn take_line(alloc: Global, line: &[u8], jobs: &mut [Job]) -> Result<(), AllocEr
     taken
 }
 
-fn take_definition(alloc: Global, def: &str, jobs: &mut [Job]) -> Result<(), AllocError> {
+fn take_definition(alloc: Global, def: &str, jobs: &mut [ReportedJob]) -> Result<(), AllocError> {
     let Some(value) = json_value(alloc, def.as_bytes())? else {
         return Ok(());
     };
     let place = match value.get("Label") {
-        Some(Value::String(label)) => place_of(jobs, label.as_str()),
+        Some(Value::String(label)) => index_of_job(jobs, label.as_str()),
         _ => None,
     };
     let taken = match place {
@@ -87,7 +92,7 @@ fn give(
     def: &str,
     value: &Value,
     place: usize,
-    jobs: &mut [Job],
+    jobs: &mut [ReportedJob],
 ) -> Result<(), AllocError> {
     let Some(job) = jobs.get_mut(place) else {
         return Ok(());

@@ -3,9 +3,9 @@
 use crate::stop::Stop;
 use control_client::Fault;
 use history_model::Reading;
-use json_lines::Value::{Absent, Flag, Json, Text as Said};
+use json_lines::Value::{Absent, Flag, Json, Text as TextValue};
 use json_lines::{Field, put_line};
-use run_times::{Ink, Page, utc};
+use run_times::{Page, TextWriter, utc};
 use std::alloc::{AllocError, Global};
 
 /// How wide the name and the label of a line are at least.
@@ -15,7 +15,7 @@ const LABEL_WIDTH: usize = 11;
 
 /// What the line of a step says.
 #[derive(Clone, Copy)]
-pub(crate) struct Line<'a> {
+pub(crate) struct StepLine<'a> {
     pub(crate) word: &'a str,
     pub(crate) label: &'a str,
     /// Empty, if no file is meant.
@@ -31,7 +31,7 @@ pub(crate) fn show(
     host: &HostRuntime,
     alloc: Global,
     is_json: bool,
-    line: &Line<'_>,
+    line: &StepLine<'_>,
 ) -> Result<(), Stop> {
     let text = if is_json {
         object_of(alloc, line)?
@@ -50,37 +50,37 @@ fn put(host: &HostRuntime, text: String) -> Result<(), Stop> {
     }
 }
 
-fn text_of(alloc: Global, line: &Line<'_>) -> Result<String, AllocError> {
-    let mut ink = Ink::new(alloc);
-    put_padded(&mut ink, line.word, WORD_WIDTH);
-    put_padded(&mut ink, line.label, LABEL_WIDTH);
-    ink.put_plain(line.reason);
-    ink.put("\n");
-    ink.into_text()
+fn text_of(alloc: Global, line: &StepLine<'_>) -> Result<String, AllocError> {
+    let mut writer = TextWriter::new(alloc);
+    put_padded(&mut writer, line.word, WORD_WIDTH);
+    put_padded(&mut writer, line.label, LABEL_WIDTH);
+    writer.put_plain(line.reason);
+    writer.put("\n");
+    writer.into_text()
 }
 
 // Adds the text, and the blanks that it lacks of the width; one at least.
-fn put_padded(ink: &mut Ink, text: &str, width: usize) {
-    ink.put_plain(text);
+fn put_padded(writer: &mut TextWriter, text: &str, width: usize) {
+    writer.put_plain(text);
     let count = text.chars().count();
     for _ in count..width.max(count.saturating_add(1)) {
-        ink.put(" ");
+        writer.put(" ");
     }
 }
 
-fn object_of(alloc: Global, line: &Line<'_>) -> Result<String, AllocError> {
+fn object_of(alloc: Global, line: &StepLine<'_>) -> Result<String, AllocError> {
     let zone = utc();
     let mut page = Page::new(alloc, &zone, Reading { up: 0, wall: 0 });
     let file = if line.file.is_empty() {
         Absent
     } else {
-        Said(line.file)
+        TextValue(line.file)
     };
     let fields = [
-        Field("label", Said(line.label)),
+        Field("label", TextValue(line.label)),
         Field("file", file),
         Field("keys", Json(line.keys)),
-        Field("reason", Said(line.reason)),
+        Field("reason", TextValue(line.reason)),
         Field("done", Flag(line.done)),
     ];
     put_line(&mut page, "step", line.word, &fields);
@@ -97,19 +97,19 @@ pub(crate) fn show_same(
     count: u64,
     has_changed: bool,
 ) -> Result<(), Stop> {
-    let mut ink = Ink::new(alloc);
+    let mut writer = TextWriter::new(alloc);
     if is_json {
-        ink.put("{\"same\":");
-        ink.put_number(count);
-        ink.put(if has_changed {
+        writer.put("{\"same\":");
+        writer.put_number(count);
+        writer.put(if has_changed {
             ",\"changed\":true}\n"
         } else {
             ",\"changed\":false}\n"
         });
     } else {
-        put_padded(&mut ink, "same", WORD_WIDTH);
-        ink.put_number(count);
-        ink.put(if count == 1 { " job\n" } else { " jobs\n" });
+        put_padded(&mut writer, "same", WORD_WIDTH);
+        writer.put_number(count);
+        writer.put(if count == 1 { " job\n" } else { " jobs\n" });
     }
-    put(host, ink.into_text()?)
+    put(host, writer.into_text()?)
 }

@@ -1,7 +1,7 @@
 //! The arguments of `jobctl apply`.
 
 ghost use Rattle.std.specs.Prelude.{◌≡◌, ◌||◌, false};
-ghost use Rattle.apply_folder.specs.Wishes.{is_dry_run, is_prune, is_now, is_strict, is_wait, is_json};
+ghost use Rattle.apply_folder.specs.FlagWords.{is_dry_run, is_prune, is_now, is_strict, is_wait, is_json};
 
 use files_and_process::own_process::MARK;
 use history_model::Text;
@@ -12,7 +12,7 @@ const WORD: &str = "apply";
 
 /// An option that takes no value.
 #[derive(Clone, Copy)]
-pub enum Wish {
+pub enum ApplyFlag {
     DryRun,
     Prune,
     Now,
@@ -52,33 +52,33 @@ impl ApplyFlags {
     }
 
     /// These options and this one: their order makes no difference.
-    pub fn with(self, wish: Wish) -> ApplyFlags
-        ensures dry_run { result.dry_run ≡ self.dry_run || is_dry_run wish }
-        ensures prune { result.prune ≡ self.prune || is_prune wish }
-        ensures at_once { result.at_once ≡ self.at_once || is_now wish }
-        ensures strict { result.strict ≡ self.strict || is_strict wish }
-        ensures wait { result.wait ≡ self.wait || is_wait wish }
-        ensures json { result.json ≡ self.json || is_json wish }
+    pub fn with(self, flag: ApplyFlag) -> ApplyFlags
+        ensures dry_run { result.dry_run ≡ self.dry_run || is_dry_run flag }
+        ensures prune { result.prune ≡ self.prune || is_prune flag }
+        ensures at_once { result.at_once ≡ self.at_once || is_now flag }
+        ensures strict { result.strict ≡ self.strict || is_strict flag }
+        ensures wait { result.wait ≡ self.wait || is_wait flag }
+        ensures json { result.json ≡ self.json || is_json flag }
     {
-        match wish {
-            Wish::DryRun => ApplyFlags {
+        match flag {
+            ApplyFlag::DryRun => ApplyFlags {
                 dry_run: true,
                 ..self
             },
-            Wish::Prune => ApplyFlags {
+            ApplyFlag::Prune => ApplyFlags {
                 prune: true,
                 ..self
             },
-            Wish::Now => ApplyFlags {
+            ApplyFlag::Now => ApplyFlags {
                 at_once: true,
                 ..self
             },
-            Wish::Strict => ApplyFlags {
+            ApplyFlag::Strict => ApplyFlags {
                 strict: true,
                 ..self
             },
-            Wish::Wait => ApplyFlags { wait: true, ..self },
-            Wish::Json => ApplyFlags { json: true, ..self },
+            ApplyFlag::Wait => ApplyFlags { wait: true, ..self },
+            ApplyFlag::Json => ApplyFlags { json: true, ..self },
         }
     }
 }
@@ -158,14 +158,14 @@ fn place_of_word(words: &[String]) -> Option<usize> {
     None
 }
 
-fn wish_of(word: &str) -> Option<Wish> {
+fn flag_of(word: &str) -> Option<ApplyFlag> {
     match word {
-        "--dry-run" => Some(Wish::DryRun),
-        "--prune" => Some(Wish::Prune),
-        "--now" => Some(Wish::Now),
-        "--strict" => Some(Wish::Strict),
-        "--wait" => Some(Wish::Wait),
-        "--json" => Some(Wish::Json),
+        "--dry-run" => Some(ApplyFlag::DryRun),
+        "--prune" => Some(ApplyFlag::Prune),
+        "--now" => Some(ApplyFlag::Now),
+        "--strict" => Some(ApplyFlag::Strict),
+        "--wait" => Some(ApplyFlag::Wait),
+        "--json" => Some(ApplyFlag::Json),
         _ => None,
     }
 }
@@ -196,17 +196,17 @@ impl WordReader {
             "--" => self.is_behind_dashes = true,
             "--socket" => self.wants_socket = true,
             "--help" | "-h" => self.is_help = true,
-            _ => return self.take_wish(alloc, word),
+            _ => return self.take_flag(alloc, word),
         }
         Ok(())
     }
 
-    fn take_wish(&mut self, alloc: Global, word: &str) -> Result<(), AllocError> {
+    fn take_flag(&mut self, alloc: Global, word: &str) -> Result<(), AllocError> {
         if let Some(path) = word.strip_prefix("--socket=") {
             return self.take_socket(alloc, path);
         }
-        match wish_of(word) {
-            Some(wish) => self.words.flags = self.words.flags.with(wish),
+        match flag_of(word) {
+            Some(flag) => self.words.flags = self.words.flags.with(flag),
             None => return self.refuse(alloc, "unknown option: ", word),
         }
         Ok(())

@@ -36,7 +36,7 @@ any_of p (x ∷ xs) m found passes = elim (cases_Bool (x == m)) [
   | inr other ↦ ap (λ b. p x || b) (any_of p xs m (ap (λ b. b || list_any (λ c. c == m) xs) (sym other) ∙ found) passes) ∙ or-true (p x)
 ]
 
--- what stands in a list that a function made is made of an element
+-- what is in a list that a function made is made of an element
 pub mapped_from : {A B : Type 0} (f : A → B) (xs : List A) (y : B) → Contains (map f xs) y → (x : A) × (f x ≡ y)
 mapped_from f [] y (k, below, is) = absurd (omega arith)
 mapped_from f (x ∷ xs) y (zero, below, is) = (x, is)

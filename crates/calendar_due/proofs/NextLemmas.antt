@@ -1,4 +1,4 @@
--- The least minute that a calendar matches, and what it says of the readings that fire it.
+-- The least minute that a calendar matches, and what it says of the clock readings that fire it.
 use Rattle.std.proofs.Common.{◌≡◌, ℕ, ◌+◌, ◌*◌, ◌/◌, ◌==◌, ◌<◌, ◌≤◌, Bool, true, false, ◌||◌, List, [], ◌∷◌, Option, Some, None, refl, sym, ap, ◌∙◌, nat_le, arith}
 use Rattle.std.proofs.lemmas.Bool.{eq-eqb}
 use Rattle.std.proofs.lemmas.Bool.Decides.{nat_tests}
@@ -13,7 +13,7 @@ use Rattle.calendar_due.specs.Next.{is_matched, IsDueIn, IsFirstDue}
 use Rattle.calendar_due.proofs.CalendarLemmas.{any_of}
 
 module _ (zone : Zone) (entries : List Entry) (after until : ℕ) where
-  -- every minute that is due comes behind the k-th
+  -- every minute that is due comes after the k-th
   abbrev pub AreBehind : ℕ → Type 0
   AreBehind k = (n : ℕ) → IsDueIn zone entries after until n → 60 * k < n
 
@@ -39,7 +39,7 @@ module _ (zone : Zone) (entries : List Entry) (after until : ℕ) where
   first-found k behind from below is =
       ((omega arith, omega (arith, from), omega (arith, below), is), (λ n due. let so_far = behind n due in let whole = due.0 in omega (arith, so_far, whole)))
 
--- what passes stands in the list
+-- what passes is in the list
 found-in : (p : ℕ → Bool) (xs : List ℕ) → list_any p xs ≡ true → (m : ℕ) × (list_any (λ c. c == m) xs ≡ true) × (p m ≡ true)
 found-in p [] some = cc
 found-in p (x ∷ xs) some = go (p x) refl (found-in p xs) some where
@@ -48,7 +48,7 @@ found-in p (x ∷ xs) some = go (p x) refl (found-in p xs) some where
   go true e later some = (x, ap (λ b. b || list_any (λ c. c == x) xs) (eq-eqb x x refl), e)
   go false e later some = let (m, there, passes) = later some in (m, ap (λ b. (x == m) || b) there ∙ or-true (x == m), passes)
 
--- a reading fires the calendar exactly if it is not before the first minute that is due
+-- a clock reading fires the calendar exactly if it is not before the first minute that is due
 pub first-fires : (zone : Zone) (entries : List Entry) (after until wall : ℕ) (o : Option ℕ) → IsFirstDue zone entries after until o → wall ≤ until → wall ≤ after + CALENDAR_REACH →
     calendar_fires zone entries after wall ≡ has_come o wall
 first-fires zone entries after until wall o first inside near = go (calendar_fires zone entries after wall) o refl first where

@@ -25,7 +25,7 @@ counted : (ts : List Transition) (second : ℤ) → prefix_len (λ t. int_le t.s
 counted [] second = refl
 counted (t ∷ ts) second = ap (λ n. cond (int_le t.second second) (1 + n) 0) (counted ts second)
 
--- a stand-in for a row past the end
+-- in place of a row past the end
 abbrev no_row : TypeText → TransitionText
 no_row first = record { second = pos 0; before = first.seconds; after = first }
 

@@ -23,8 +23,7 @@ pub record IsSkipped (change : ℕ) (before after : ℤ) (at : CivilMinute) : Ty
   pub low : (pos change +ℤ before) ≤ℤ start_of at
   pub high : (start_of at +ℤ pos 60) ≤ℤ (pos change +ℤ after)
 
--- the whole civil minute lies in the fold: the clock is set back over it. The calendar has such a
--- minute
+-- the whole civil minute lies in the DST overlap: the clock is set back over it. The calendar has such a minute
 pub record IsRepeated (change : ℕ) (before after : ℤ) (at : CivilMinute) : Type 0 where
   pub real : shown_minute (start_of at) ≡ at
   pub low : (pos change +ℤ after) ≤ℤ start_of at

@@ -32,7 +32,7 @@ pub record IsOfTable (bytes : List ℕ) (ahead : Offsets) : Type 0 where
   pub agrees : RuleAgrees table
   pub offsets : ahead ≡ offsets_of_table table
 
--- the bytes are no zone file, by the first fault in them
+-- the bytes are not a zone file, by the first fault in them
 pub record IsUnreadable (bytes : List ℕ) : Type 0 where
   pub fault : TzifFault
   pub is_fault : read_tzif bytes ≡ Err fault

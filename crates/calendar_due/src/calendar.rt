@@ -39,8 +39,8 @@ impl Calendar {
     }
 
     /// The least whole minute of Unix time after `after` and not after `until`, both in seconds, whose civil minute some entry
-    /// matches; none if no such minute is matched. It is the minute from which on a reading fires the calendar, if the clock
-    /// goes on from `after` by at most 400 days. The caller's condition: `until` is at most 250,000,000,000. Takes no
+    /// matches; none if no such minute is matched. It is the minute from which on a clock reading fires the calendar, if the
+    /// clock goes on from `after` by at most 400 days. The caller's condition: `until` is at most 250,000,000,000. Takes no
     /// memory. It looks at each day in turn, and at the minutes of the days about which an entry is: `until` bounds the time.
     pub fn next(entries: &[Entry], zone: &Zone, after: u64, until: u64) -> Option<u64>
         requires { until ≤ MAX_WALL }
@@ -52,9 +52,9 @@ impl Calendar {
     }
 }
 
-// That minute. Days are those of UTC, counted from 1970. No clock is 26 hours from UTC, so on a day of UTC it shows no other days than
-// that one, the two before it and the two after it. If no entry is on any of these five, the minutes of the day are passed over.
-// This asks nothing of the zone: it may change its clock whenever it likes.
+// That minute. Days are those of UTC, counted from 1970. Every clock is less than 26 hours from UTC. So on a day of UTC it shows
+// no other days than that one, the two before it and the two after it. If no entry is on any of these five, the minutes of the
+// day are passed over. This asks nothing of the zone: it may change its clock whenever it likes.
 fn first_due(entries: &[Entry], zone: &Zone, after: u64, until: u64) -> Option<u64>
     requires { until ≤ MAX_WALL }
     ensures { IsFirstDue (minute_at zone.now) entries.now after until result }
@@ -76,8 +76,8 @@ fn first_due(entries: &[Entry], zone: &Zone, after: u64, until: u64) -> Option<u
     None
 }
 
-// The first day, from the one on, that some entry is on. If there is none before the end, and before the last day that a reading may come
-// to, then the day up to which no entry is on any.
+// The first day, from the one on, that some entry is on. If there is none before the end, and before the last day that a clock
+// reading may come to, then the day up to which no entry is on any.
 fn next_day_on(entries: &[Entry], from: u64, end: u64) -> u64
     ensures { AreIdle entries.now from result }
 {
@@ -210,7 +210,7 @@ fn is_weekday_allowed(wanted: Option<u8>, found: u8) -> bool
     }
 }
 
-// The day and the weekday suit the minute; if both stand, one of the two suffices.
+// The day and the weekday suit the minute; if both are set, one of the two suffices.
 fn is_day_allowed(day: Option<u8>, weekday: Option<u8>, minute: &CivilMinute) -> bool
     ensures { result ≡ allows_day day weekday minute.now }
 {

@@ -41,8 +41,8 @@ pub fn a_minute_in_a_gap_never_fires()
         (previous now : ℕ) → ¬ Contains (map (shown_by ahead) (crossed previous now)) at }
 {}
 
-/// A civil minute in a fold is shown from two seconds on, and at no third whole minute. An entry that matches it fires
-/// if a step of the clock crosses the first, and again if one crosses the second.
+/// A civil minute in a DST overlap is shown from two seconds on, and at no third whole minute. An entry that matches it fires if
+/// a step of the clock crosses the first, and again if one crosses the second.
 pub fn a_minute_in_a_fold_fires_twice()
     ensures two { (ahead : Offsets) (change first second : ℕ) (before after : ℤ)
         (at : CivilMinute) →

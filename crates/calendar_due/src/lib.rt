@@ -1,5 +1,5 @@
-//! Civil time for calendar jobs: what a clock shows in a zone that is handed in, which civil minutes a step of the clock
-//! crosses, and which calendar entries match one. No zone is looked up and no clock is read here.
+//! Civil time for calendar jobs: what a clock shows in a zone that the caller gives, which civil minutes a step of the clock
+//! crosses, and which calendar entries match. This crate looks up no zone and reads the time from nowhere.
 #![tactic(auto)]
 
 mod calendar;

@@ -1,4 +1,4 @@
-//! A zone that is handed in, the civil minute that its clock shows, and the minutes that a step of the clock crosses.
+//! A zone that the caller gives, the civil minute that its clock shows, and the minutes that a step of the clock crosses.
 ghost use Rattle.std.specs.Prelude.{◌≡◌, ◌≤◌, ◌↔◌, ◌+ℤ◌, ◌⊎◌, ◌<◌, ◌++◌, ◌∷◌, [], Err, map, length, IsOk, IsErr, IsSome, IfOk, IfErr, OnOk};
 ghost use Rattle.jiff_core.specs.Calendar.{IsWithin};
 ghost use Rattle.jiff_core.specs.DateTime.{civil_seconds};
@@ -18,8 +18,8 @@ use jiff::tz::{Offset, TimeZone, Tzif};
 use jiff::{Error, Timestamp};
 use std::alloc::{AllocError, Global};
 
-/// The rules of a civil clock. Contracts see a zone by `offsets`, the seconds by which its clock is ahead of UTC, and by
-/// `minute_at`, the civil minute that it shows, both at each second of Unix time.
+/// The rules of a civil clock. Contracts see a zone by `offsets` and `minute_at`, both at each second of Unix time. `offsets` are
+/// the seconds by which its clock is ahead of UTC, and `minute_at` is the civil minute that it shows.
 #[derive(Drop)]
 pub struct Zone {
     rules: Rules,
@@ -36,7 +36,7 @@ enum Rules {
 pub enum ZoneFault {
     /// Memory ran out.
     NoMemory,
-    /// What was handed in is past a limit, or describes no zone.
+    /// What the caller gave is past a limit, or does not describe a zone.
     BadZone,
 }
 
@@ -62,8 +62,8 @@ impl Zone {
         }
     }
 
-    /// The zone of a POSIX rule, as `EST5EDT,M3.2.0,M11.1.0` (POSIX, Base Definitions, 8.3, variable TZ). BadZone if
-    /// the text is no such rule: a name of a zone, as `Europe/Paris`, is none. Takes no memory.
+    /// The zone of a POSIX rule, as `EST5EDT,M3.2.0,M11.1.0` (POSIX, Base Definitions, 8.3, variable TZ). BadZone if the text is
+    /// not such a rule; the name of a zone, as `Europe/Paris`, is not one. Takes no memory.
     pub fn posix(text: &str) -> Result<Zone, ZoneFault>
         ensures succeeds { IsOk result ↔ IsSome (read_whole text.now) }
         ensures zone { IfOk result (λ zone. IsOfRule text.now (offsets zone)) }
@@ -77,8 +77,8 @@ impl Zone {
         }
     }
 
-    /// The zone of the bytes of a zone file (RFC 9636). BadZone past 65,536 bytes, if the bytes are no zone file, and
-    /// if the file's footer does not agree with its last row. NoMemory if the table found no room.
+    /// The zone of the bytes of a zone file (RFC 9636). BadZone past 65,536 bytes, if the bytes are not a zone file, and if the
+    /// file's footer does not agree with its last row. NoMemory if the table found no room.
     pub fn tzif(alloc: Global, bytes: &[u8]) -> Result<Zone, ZoneFault>
         ensures long { LONGEST_FILE < length bytes.now → result ≡ Err ZoneFault.BadZone }
         ensures unreadable { IsUnreadable bytes.now → result ≡ Err ZoneFault.BadZone }
@@ -155,7 +155,7 @@ impl Zone {
     }
 }
 
-// The minute after which a step's minutes are crossed, counted from 1970: that of the reading before, or 400 days ago.
+// The minute after which a step's minutes are crossed, counted from 1970: that of the clock reading before, or 400 days ago.
 fn minute_before(previous: u64, now: u64) -> u64
     ensures { result ≡ last_before previous now }
 {

@@ -10,7 +10,7 @@ use Rattle.std.specs.BTreeMap.{BTreeMap, is_at}
 use Rattle.std.specs.Map.{lookup}
 use Rattle.std.proofs.lemmas.Map.Lookups.{exact_pairs, exact_unsigned}
 use Rattle.child_edge.specs.declared.connection.Connection.{Connection}
-use Rattle.child_edge.specs.Places.{IsSpent, LetsGoSpent, TakesOne, held_at, key_cmp}
+use Rattle.child_edge.specs.Places.{IsSpent, ReleasesSpent, TakesOne, held_at, key_cmp}
 
 -- keys that compare as equal are one
 same_key : (one other : ℕ × ℕ) → key_cmp one other ≡ Equal → one ≡ other
@@ -19,7 +19,7 @@ same_key = exact_pairs nat_cmp nat_cmp exact_unsigned exact_unsigned
 module _ {C F : Type 0} where
   -- of these the one under the key goes, which is spent
   pub spent_goes : (old new : BTreeMap (ℕ × ℕ) (Connection C F)) (key : ℕ × ℕ) → IsSomeAnd (held_at old key) IsSpent →
-      ((q : ℕ × ℕ) → held_at new q ≡ cond (is_eq (key_cmp key q)) None (held_at old q)) → LetsGoSpent old new
+      ((q : ℕ × ℕ) → held_at new q ≡ cond (is_eq (key_cmp key q)) None (held_at old q)) → ReleasesSpent old new
   spent_goes old new key spent updates = λ q. go q (key_cmp key q) refl where
     go : (q : ℕ × ℕ) (o : Ordering) → key_cmp key q ≡ o → (held_at new q ≡ held_at old q) ⊎ ((held_at new q ≡ None) × IsSomeAnd (held_at old q) IsSpent)
     go q Less eq = inl (updates q ∙ ap (λ o. cond (is_eq o) None (held_at old q)) eq)
@@ -29,11 +29,11 @@ module _ {C F : Type 0} where
       subst (λ k. IsSomeAnd (held_at old k) IsSpent) (same_key key q eq) spent,
     )
 
-  pub nobody_goes : (held : BTreeMap (ℕ × ℕ) (Connection C F)) → LetsGoSpent held held
+  pub nobody_goes : (held : BTreeMap (ℕ × ℕ) (Connection C F)) → ReleasesSpent held held
   nobody_goes held = λ key. inl refl
 
   -- what is not there does not come
-  pub stays_free : (old new : BTreeMap (ℕ × ℕ) (Connection C F)) (key : ℕ × ℕ) → LetsGoSpent old new → held_at old key ≡ None → held_at new key ≡ None
+  pub stays_free : (old new : BTreeMap (ℕ × ℕ) (Connection C F)) (key : ℕ × ℕ) → ReleasesSpent old new → held_at old key ≡ None → held_at new key ≡ None
   stays_free old new key goes none = by (goes key) where
     by : (held_at new key ≡ held_at old key) ⊎ ((held_at new key ≡ None) × IsSomeAnd (held_at old key) IsSpent) → held_at new key ≡ None
     by (inl same) = same ∙ none
@@ -43,7 +43,7 @@ module _ {C F : Type 0} where
   takes_nobody held = λ key connection is. inl is
 
   -- first the spent go, then one comes
-  pub takes_then : (old mid new : BTreeMap (ℕ × ℕ) (Connection C F)) → LetsGoSpent old mid → TakesOne mid new → TakesOne old new
+  pub takes_then : (old mid new : BTreeMap (ℕ × ℕ) (Connection C F)) → ReleasesSpent old mid → TakesOne mid new → TakesOne old new
   takes_then old mid new goes takes = λ key connection is. by key connection is (goes key) where
     by : (key : ℕ × ℕ) (connection : Connection C F) → held_at old key ≡ Some connection →
         (held_at mid key ≡ held_at old key) ⊎ ((held_at mid key ≡ None) × IsSomeAnd (held_at old key) IsSpent) →

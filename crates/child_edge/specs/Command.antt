@@ -5,17 +5,17 @@ use Rattle.files_and_process.specs.RunNames.{name_of_run}
 use Rattle.history_model.specs.declared.definition.parts.Variable.{Variable}
 
 -- what is said of a name, if anything: its value, or that it has none
-abbrev pub Said : Type 0
-Said = Option (Option (List ℕ))
+abbrev pub VariableValue : Type 0
+VariableValue = Option (Option (List ℕ))
 
 -- What is said of a name once these variables were set in order, if `before` was said. The last variable of the name
 -- counts, and nothing is said of a name that none has.
-abbrev pub said_after : List ℕ → Said → List Variable → Said
+abbrev pub said_after : List ℕ → VariableValue → List Variable → VariableValue
 said_after name before variables =
     fold (λ said v. if bytes_eq v.name name then Some (Some v.value) else said) before variables
 
 -- of each name is said what these variables say, set in order
-abbrev pub SetsVariables : List Variable → (List ℕ → Said) → (List ℕ → Said) → Type 0
+abbrev pub SetsVariables : List Variable → (List ℕ → VariableValue) → (List ℕ → VariableValue) → Type 0
 SetsVariables variables old new =
     (name : List ℕ) → new name ≡ said_after name (old name) variables
 

@@ -4,7 +4,7 @@ pub mod Listeners
 pub mod MemoryEdges
 pub mod Places
 pub mod Rooms
-pub mod Sights
+pub mod Observations
 pub mod Replies
 pub mod Spool
 pub mod Waking

@@ -22,8 +22,8 @@ module _ {C F : Type 0} where
   held_at held key = get key_cmp held key
 
   -- What was held is held still, but what was spent.
-  abbrev pub LetsGoSpent : BTreeMap (ℕ × ℕ) (Connection C F) → BTreeMap (ℕ × ℕ) (Connection C F) → Type 0
-  LetsGoSpent old new = (key : ℕ × ℕ) → (held_at new key ≡ held_at old key)
+  abbrev pub ReleasesSpent : BTreeMap (ℕ × ℕ) (Connection C F) → BTreeMap (ℕ × ℕ) (Connection C F) → Type 0
+  ReleasesSpent old new = (key : ℕ × ℕ) → (held_at new key ≡ held_at old key)
       ⊎ ((held_at new key ≡ None) × IsSomeAnd (held_at old key) IsSpent)
 
   -- The same, and one may have come under a number that was free.

@@ -5,7 +5,7 @@ use crate::held::Held;
 use crate::start::Start;
 use history_model::Text;
 use history_model::definition::{Address, Def, Socket};
-use look_out::{Answer, Asked, Asks, Hung, Openings, Question, no_answer, stream_asked};
+use look_out::{Answer, Asks, Hung, Openings, Question, QuestionOutcome, no_answer, stream_asked};
 use std::alloc::{AllocError, Global};
 use std::fs::Files;
 use std::io;
@@ -96,6 +96,22 @@ pub(crate) fn hold<
     held
 }
 
+/// This start is expected after the next one: what it needs is asked about once the next one's questions were answered.
+pub(crate) fn expect(alloc: Global, openings: &mut Openings, start: Start<'_>) {
+    let Ok((program, asks)) = program_asked(alloc, start.def) else {
+        return;
+    };
+    let mut asking = Asking {
+        questions: Vec::new(alloc),
+        parts: Vec::new(alloc),
+    };
+    if asking.add_all(start, program.as_str(), asks).is_ok() {
+        openings.expect(asking.questions.as_slice());
+    }
+    drop(asking);
+    drop(program);
+}
+
 fn of_program(error: io::Error) -> Failure {
     let part = Part::Program;
     Failure { part, error }
@@ -112,9 +128,9 @@ fn ask<P: OpenProcess + Drop, R: AllocGlobal + Clock + Files + Net + Processes<S
     let mut answers = Vec::new(alloc);
     let asked = openings.ask(rt, hung, asking.questions.as_slice(), &mut answers, up);
     let held = match asked {
-        Asked::Answered => held_in(openings.id(), asking, answers.as_slice()),
-        Asked::Unasked(error) | Asked::Refused(error) => Err(of_program(error)),
-        Asked::Unstarted => Ok(Held::nothing()),
+        QuestionOutcome::Answered => held_in(openings.id(), asking, answers.as_slice()),
+        QuestionOutcome::Unasked(error) | QuestionOutcome::Refused(error) => Err(of_program(error)),
+        QuestionOutcome::Unstarted => Ok(Held::nothing()),
         silent => {
             let part = asking.part_at(silent.silent_at().unwrap_or(usize::MAX));
             let error = no_answer();
@@ -132,7 +148,7 @@ fn held_in(id: Option<u32>, asking: &Asking<'_>, answers: &[Answer]) -> Result<H
     let mut of_folder = None;
     for (part, answer) in asking.parts.iter().zip(answers.iter()) {
         let part = *part;
-        if let Some(error) = take_in(&mut held, part, *answer) {
+        if let Some(error) = apply(&mut held, part, *answer) {
             if matches!(part, Part::Folder) {
                 of_folder = Some(error);
             } else {
@@ -150,11 +166,11 @@ fn held_in(id: Option<u32>, asking: &Asking<'_>, answers: &[Answer]) -> Result<H
 }
 
 // What the answer says of the part: that it is held, or why not.
-fn take_in(held: &mut Held, part: Part, answer: Answer) -> Option<io::Error> {
+fn apply(held: &mut Held, part: Part, answer: Answer) -> Option<io::Error> {
     if matches!(part, Part::Program) && answer != Answer::Shut {
         return None;
     }
-    match number_in(answer) {
+    match held_number(answer) {
         Some(number) => {
             held.keep(part, number);
             None
@@ -163,7 +179,7 @@ fn take_in(held: &mut Held, part: Part, answer: Answer) -> Option<io::Error> {
     }
 }
 
-fn number_in(answer: Answer) -> Option<u64> {
+fn held_number(answer: Answer) -> Option<u64> {
     match answer {
         Answer::Held { number } => Some(number),
         _ => None,
@@ -264,9 +280,9 @@ pub(crate) fn silence<
     let is_shut = answers.first().copied() == Some(Answer::Shut);
     drop(answers);
     match asked {
-        Asked::Answered if is_shut => Some(no_answer()),
-        Asked::Answered | Asked::Unstarted => None,
-        Asked::Unasked(error) | Asked::Refused(error) => Some(error),
+        QuestionOutcome::Answered if is_shut => Some(no_answer()),
+        QuestionOutcome::Answered | QuestionOutcome::Unstarted => None,
+        QuestionOutcome::Unasked(error) | QuestionOutcome::Refused(error) => Some(error),
         _ => Some(no_answer()),
     }
 }

@@ -1,7 +1,7 @@
 //! The sockets that one job has.
 
 use crate::listener::Listener;
-use crate::notices::{Asked, Notices};
+use crate::notices::{Notices, SystemRequest};
 use crate::words::Hole::Error;
 use history_model::{JobNo, Text};
 use mio::{Registry, Token};
@@ -22,7 +22,7 @@ impl Bound {
         &self,
         notices: &mut Notices,
         job: JobNo,
-        asked: Asked,
+        asked: SystemRequest,
         form: &str,
         error: io::Error,
     ) {
@@ -40,10 +40,10 @@ impl Bound {
     ) -> io::Result<()> {
         let answer = self.register_all(registry, token);
         match answer {
-            Ok(()) => notices.done(job, Asked::Watch),
+            Ok(()) => notices.done(job, SystemRequest::Watch),
             Err(error) => {
                 let form = "cannot wait for clients: $";
-                self.refused(notices, job, Asked::Watch, form, error);
+                self.refused(notices, job, SystemRequest::Watch, form, error);
             }
         }
         answer

@@ -7,7 +7,7 @@ ghost use Rattle.child_edge.specs.Replies.{Ends, Forwards, ForwardsIf, IsOpen, R
 ghost use Rattle.child_edge.specs.Places.{IsSpent};
 
 use crate::Client;
-use crate::notices::LetGo;
+use crate::notices::Disconnection;
 use crate::spool::Spooled;
 use history_model::Text;
 use socket_demand::{Exchange, MAX_UNSENT};
@@ -26,7 +26,7 @@ pub(crate) enum Progress {
     /// All was sent.
     Ended,
     /// The client can't be sent the rest.
-    Lost(LetGo),
+    Lost(Disconnection),
 }
 
 /// How many pieces of a reply are sent at a time, each of them as long as what of a reply may wait.
@@ -147,7 +147,7 @@ impl<C: Write, F: Read> Connection<C, F> {
             Ok(0) => Some(self.end()),
             Ok(count) => self.send_piece(&piece[..count]),
             Err(error) if error.kind() == ErrorKind::Interrupted => None,
-            Err(error) => Some(Progress::Lost(LetGo::Read(error))),
+            Err(error) => Some(Progress::Lost(Disconnection::Read(error))),
         }
     }
 
@@ -181,7 +181,7 @@ impl<C: Write, F: Read> Connection<C, F> {
                 keep_rest(&mut self.exchange, piece, 0);
                 None
             }
-            _ => Some(Progress::Lost(LetGo::Write(error))),
+            _ => Some(Progress::Lost(Disconnection::Write(error))),
         }
     }
 
@@ -198,7 +198,7 @@ impl<C: Write, F: Read> Connection<C, F> {
             }
             Err(error) if error.kind() == ErrorKind::WouldBlock => Some(self.wait(now)),
             Err(error) if error.kind() == ErrorKind::Interrupted => None,
-            Err(error) => Some(Progress::Lost(LetGo::Write(error))),
+            Err(error) => Some(Progress::Lost(Disconnection::Write(error))),
         }
     }
 
@@ -241,7 +241,7 @@ impl<C: Write, F: Read> Connection<C, F> {
         let refused = Refused { first, last: now };
         self.refused = Some(refused);
         if refused.seconds() >= STILL {
-            Progress::Lost(LetGo::Still)
+            Progress::Lost(Disconnection::Still)
         } else {
             Progress::Waits
         }

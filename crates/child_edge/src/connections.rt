@@ -13,7 +13,7 @@
 
 ghost use Rattle.std.specs.Prelude.{◌≡◌, None, true};
 ghost use Rattle.std.specs.Option.{IsSomeAnd};
-ghost use Rattle.child_edge.specs.Places.{IsSpent, LetsGoSpent, TakesOne, held_at};
+ghost use Rattle.child_edge.specs.Places.{IsSpent, ReleasesSpent, TakesOne, held_at};
 
 use crate::Client;
 use crate::children::{Kept, RunKey};
@@ -22,7 +22,7 @@ use crate::connection::{Connection, Progress};
 use crate::failure::{Failure, Part, culprit};
 use crate::held::Held;
 use crate::maps::key_from;
-use crate::notices::{Asked, LetGo, Notices, OF_ROOM};
+use crate::notices::{Disconnection, Notices, OF_ROOM, SystemRequest};
 use crate::run_variable::own_variables;
 use crate::spool::Spooled;
 use crate::start::Start;
@@ -147,20 +147,20 @@ impl Connections {
             return Err(io::Error::from(ErrorKind::AlreadyExists));
         }
         if let Some(why) = self.want_of_room(rt, notices, key.0, room) {
-            notices.let_go(key.0, label, why);
+            notices.disconnected(key.0, label, why);
             drop((client, exchange));
             return Err(io::Error::from(ErrorKind::Other));
         }
         exchange.request_end();
         match self.hold(rt, key, label, client, exchange) {
             Ok(()) => {
-                notices.done(key.0, Asked::Spool);
+                notices.done(key.0, SystemRequest::Spool);
                 Ok(())
             }
             Err(error) => {
                 let form = "a client was disconnected: cannot spool its request in $: $";
                 let holes = [Words(self.folder.as_str()), Error(error)];
-                notices.refused(key.0, Asked::Spool, label, None, form, &holes);
+                notices.refused(key.0, SystemRequest::Spool, label, None, form, &holes);
                 Err(error)
             }
         }
@@ -226,12 +226,12 @@ impl Connections {
         notices: &mut Notices,
         job: JobNo,
         room: usize,
-    ) -> Option<LetGo>
-        ensures { LetsGoSpent self.old.held self.new.held }
+    ) -> Option<Disconnection>
+        ensures { ReleasesSpent self.old.held self.new.held }
     {
         let held = self.tally(job);
         if held.has_share(room) {
-            return Some(LetGo::Share);
+            return Some(Disconnection::Share);
         }
         if self.held.len() < room {
             if held.served == 0 && held.over == 0 {
@@ -240,12 +240,12 @@ impl Connections {
             return None;
         }
         let Some(still) = held.stillest else {
-            return Some(LetGo::NoRoom(room));
+            return Some(Disconnection::NoRoom(room));
         };
-        if self.let_spent_go(rt, notices, still.key, LetGo::Room(room)) {
+        if self.release_spent(rt, notices, still.key, Disconnection::Room(room)) {
             None
         } else {
-            Some(LetGo::NoRoom(room))
+            Some(Disconnection::NoRoom(room))
         }
     }
 
@@ -264,18 +264,18 @@ impl Connections {
     }
 
     // Disconnects the client for a further one, if its connection is spent. It says whether it was.
-    fn let_spent_go<R: Files>(
+    fn release_spent<R: Files>(
         &mut self,
         rt: &R,
         notices: &mut Notices,
         key: Key,
-        why: LetGo,
+        why: Disconnection,
     ) -> bool
-        ensures { LetsGoSpent self.old.held self.new.held }
+        ensures { ReleasesSpent self.old.held self.new.held }
     {
         match take_spent(&mut self.held, key) {
             Some(connection) => {
-                notices.let_go(key.0, connection.label(), why);
+                notices.disconnected(key.0, connection.label(), why);
                 connection.files.remove(rt);
                 drop(connection);
                 true
@@ -365,7 +365,7 @@ impl Connections {
         ended: Ended,
         kept: Option<Kept>,
     ) {
-        notices.done(key.0, Asked::Wait);
+        notices.done(key.0, SystemRequest::Wait);
         let Some(kept) = kept else {
             return;
         };
@@ -386,7 +386,7 @@ impl Connections {
 
     // If more of the job's are over than may be, one is disconnected, if one is spent.
     fn bound_over<R: Files>(&mut self, rt: &R, notices: &mut Notices, job: JobNo)
-        ensures { LetsGoSpent self.old.held self.new.held }
+        ensures { ReleasesSpent self.old.held self.new.held }
     {
         let held = self.tally(job);
         if held.over <= OVER {
@@ -395,7 +395,7 @@ impl Connections {
         let Some(still) = held.stillest_of_job else {
             return;
         };
-        let _was_spent = self.let_spent_go(rt, notices, still.key, LetGo::Job(OVER));
+        let _was_spent = self.release_spent(rt, notices, still.key, Disconnection::Job(OVER));
     }
 
     /// Closes the connection, if it is held, and removes its files. It logs why it disconnected the client, if it did.
@@ -404,13 +404,13 @@ impl Connections {
         rt: &R,
         notices: &mut Notices,
         key: Key,
-        why: Option<LetGo>,
+        why: Option<Disconnection>,
     ) {
         let Some(connection) = self.held.remove(&key) else {
             return;
         };
         if let Some(why) = why {
-            notices.let_go(key.0, connection.label(), why);
+            notices.disconnected(key.0, connection.label(), why);
         }
         connection.files.remove(rt);
         drop(connection);
@@ -481,7 +481,7 @@ impl Connections {
             Progress::Waits => return false,
             Progress::MayGoOn => return true,
             Progress::Ended => {
-                notices.done(key.0, Asked::Client);
+                notices.done(key.0, SystemRequest::Client);
                 None
             }
             Progress::Lost(why) => Some(why),
@@ -529,7 +529,7 @@ fn is_spent_at(held: &BTreeMap<Key, Connection>, key: Key) -> bool
 
 // The connection, which is held no more, if it is spent.
 fn take_spent(held: &mut BTreeMap<Key, Connection>, key: Key) -> Option<Connection>
-    ensures { LetsGoSpent held.old held.new }
+    ensures { ReleasesSpent held.old held.new }
 {
     if is_spent_at(held, key) {
         held.remove(&key)

@@ -23,6 +23,13 @@ pub trait Edge {
 /// Starts children, signals them, and asks for their ends. Each call is recorded with its answer; it answers a fault
 /// exactly if it adds one to the count of failures.
 pub trait ChildEdge: Edge {
+    /// This start is expected after the next call: what it needs may be asked about while that is carried out. It need not come,
+    /// and nothing is started.
+    fn expect(&mut self, _job: JobNo, _run: u64, _def: &Def, _conn: Option<u64>)
+        ensures told { Self.told self.new ≡ Self.told self.old }
+        ensures success { Self.failures self.new ≡ Self.failures self.old }
+    {}
+
     /// Starts the run's child as the definition says: its program, arguments, environment, directory and streams. A run
     /// that carries a connection has the connection's request and reply in place of standard input and output, or the
     /// null device if these were lost. Answers the child's PID, at least 1. After an `Err` there is no child.

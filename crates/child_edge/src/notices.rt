@@ -39,7 +39,7 @@ const PATHS: usize = 1024;
 
 /// What was asked of the system for a job. Of each the reason is logged when it is another than the last.
 #[derive(Clone, Copy)]
-pub(crate) enum Asked {
+pub(crate) enum SystemRequest {
     Start,
     Term,
     Kill,
@@ -57,7 +57,7 @@ pub(crate) enum Asked {
 
 /// Why a client of a job's socket was disconnected.
 #[derive(Clone, Copy)]
-pub(crate) enum LetGo {
+pub(crate) enum Disconnection {
     /// It took nothing of its reply for a minute.
     Still,
     /// It could not be sent its reply.
@@ -74,38 +74,42 @@ pub(crate) enum LetGo {
     Share,
 }
 
-impl LetGo {
+impl Disconnection {
     // Whose last reason it is, and what is logged.
-    fn said(self) -> (Asked, &'static str, Hole<'static>) {
+    fn said(self) -> (SystemRequest, &'static str, Hole<'static>) {
         match self {
-            LetGo::Still => (
-                Asked::Client,
+            Disconnection::Still => (
+                SystemRequest::Client,
                 "a client was disconnected: it took nothing of its reply for a minute",
                 Number(0),
             ),
-            LetGo::Write(error) => (Asked::Client, "a client was disconnected: $", Error(error)),
-            LetGo::Read(error) => (
-                Asked::Client,
+            Disconnection::Write(error) => (
+                SystemRequest::Client,
+                "a client was disconnected: $",
+                Error(error),
+            ),
+            Disconnection::Read(error) => (
+                SystemRequest::Client,
                 "a client was disconnected: cannot read its reply: $",
                 Error(error),
             ),
-            LetGo::Job(count) => (
-                Asked::Over,
+            Disconnection::Job(count) => (
+                SystemRequest::Over,
                 "a client was disconnected: it takes nothing, like $ others of the job",
                 Number(count as u64),
             ),
-            LetGo::Room(count) => (
-                Asked::Room,
+            Disconnection::Room(count) => (
+                SystemRequest::Room,
                 "a client was disconnected: it takes nothing, and $ connections are open",
                 Number(count as u64),
             ),
-            LetGo::NoRoom(count) => (
-                Asked::NoRoom,
+            Disconnection::NoRoom(count) => (
+                SystemRequest::NoRoom,
                 "a client was disconnected: $ connections are open",
                 Number(count as u64),
             ),
-            LetGo::Share => (
-                Asked::Share,
+            Disconnection::Share => (
+                SystemRequest::Share,
                 "a client was disconnected: the job has its share of the connections",
                 Number(0),
             ),
@@ -114,10 +118,20 @@ impl LetGo {
 }
 
 /// What a job's runs ask for. When a job is loaded again, none of it counts as logged.
-const OF_RUNS: [Asked; 4] = [Asked::Start, Asked::Term, Asked::Kill, Asked::Wait];
+const OF_RUNS: [SystemRequest; 4] = [
+    SystemRequest::Start,
+    SystemRequest::Term,
+    SystemRequest::Kill,
+    SystemRequest::Wait,
+];
 
 /// What the bounds on connections ask for: these are logged again once the job holds none.
-pub(crate) const OF_ROOM: [Asked; 4] = [Asked::Over, Asked::Room, Asked::NoRoom, Asked::Share];
+pub(crate) const OF_ROOM: [SystemRequest; 4] = [
+    SystemRequest::Over,
+    SystemRequest::Room,
+    SystemRequest::NoRoom,
+    SystemRequest::Share,
+];
 
 /// How many requests must be answered well before a refusal for want of memory is logged again.
 const WELL: u32 = 1_000;
@@ -215,7 +229,7 @@ impl Notices {
         self.keep_refusal(start, answer);
         match answer {
             Ok(pid) => {
-                self.done(job, Asked::Start);
+                self.done(job, SystemRequest::Start);
                 let holes = [
                     Words(start.def.label()),
                     Number(run),
@@ -225,7 +239,7 @@ impl Notices {
             }
             Err(failure) => {
                 let (form, path) = failure.said(start.def);
-                self.start_refused(start, Asked::Start, form, path, failure.error);
+                self.start_refused(start, SystemRequest::Start, form, path, failure.error);
             }
         }
     }
@@ -245,13 +259,13 @@ impl Notices {
     pub(crate) fn spool_lost(&mut self, start: Start<'_>, failure: Failure) {
         let (_, file) = failure.said(start.def);
         let form = "a client was disconnected: cannot open $: $";
-        self.start_refused(start, Asked::Spool, form, file, failure.error);
+        self.start_refused(start, SystemRequest::Spool, form, file, failure.error);
     }
 
     fn start_refused(
         &mut self,
         start: Start<'_>,
-        asked: Asked,
+        asked: SystemRequest,
         form: &str,
         path: &str,
         error: io::Error,
@@ -266,7 +280,7 @@ impl Notices {
     pub(crate) fn signalled<'x>(
         &mut self,
         (job, run): RunKey,
-        asked: Asked,
+        asked: SystemRequest,
         label: Option<&'x str>,
         signal: &'x str,
     ) {
@@ -280,7 +294,7 @@ impl Notices {
     pub(crate) fn run_refused(
         &mut self,
         (job, run): RunKey,
-        asked: Asked,
+        asked: SystemRequest,
         label: Option<&str>,
         what: &str,
         error: io::Error,
@@ -326,7 +340,7 @@ impl Notices {
     pub(crate) fn refused(
         &mut self,
         job: JobNo,
-        asked: Asked,
+        asked: SystemRequest,
         label: Option<&str>,
         run: Option<u64>,
         form: &str,
@@ -358,20 +372,20 @@ impl Notices {
     }
 
     /// A client of the job was disconnected.
-    pub(crate) fn let_go(&mut self, job: JobNo, label: Option<&str>, why: LetGo) {
+    pub(crate) fn disconnected(&mut self, job: JobNo, label: Option<&str>, why: Disconnection) {
         let (asked, form, hole) = why.said();
         self.refused(job, asked, label, None, form, &[hole]);
     }
 
     /// The call for the job was done: the next refusal is logged, whatever its reason.
-    pub(crate) fn done(&mut self, job: JobNo, asked: Asked) {
+    pub(crate) fn done(&mut self, job: JobNo, asked: SystemRequest) {
         if !self.told.is_empty() {
             drop(self.told.remove(&(job, asked as u8)));
         }
     }
 
     /// The same of each of these calls.
-    pub(crate) fn all_done(&mut self, job: JobNo, calls: [Asked; 4]) {
+    pub(crate) fn all_done(&mut self, job: JobNo, calls: [SystemRequest; 4]) {
         for asked in calls {
             self.done(job, asked);
         }

@@ -4,13 +4,13 @@
 ghost use Rattle.std.specs.Prelude.{◌≡◌, ◌<◌, None, IfOk, OnOk, OnErr};
 ghost use Rattle.child_edge.specs.Calls.{one_more};
 
-use crate::asking::{first_silent, hold};
+use crate::asking::{expect, first_silent, hold};
 use crate::children::{Children, RunKey};
 use crate::connections::Connections;
 use crate::failure::Failure;
 use crate::fault::fault_of;
 use crate::held::Held;
-use crate::notices::{Asked, Notices};
+use crate::notices::{Notices, SystemRequest};
 use crate::reserve::{Reserve, lacks_descriptor};
 use crate::shell::KeptShell;
 use crate::sockets::Sockets;
@@ -41,7 +41,7 @@ pub struct OsEdge<R: Processes> {
     alloc: Global,
     made: Instant,
     children: Children<R::Started>,
-    // The clock was read since the helper that reports exits was asked: a round has begun.
+    // The clock was read since the helper that reports exits was asked: a pass of the event loop has begun.
     is_new_round: bool,
     waker: Waker<R::Started>,
     // It was logged that the system starts none.
@@ -58,6 +58,8 @@ pub struct OsEdge<R: Processes> {
     // the edge's own.
     reserve: Reserve,
     is_first_question: bool,
+    // The last start lacked a descriptor.
+    is_short: bool,
     sockets: Sockets,
     connections: Connections,
     notices: Notices,
@@ -83,6 +85,7 @@ impl<R: Drop + Processes> Drop for OsEdge<R> {
             is_alone_told: _,
             reserve: _,
             is_first_question: _,
+            is_short: _,
             sockets: _,
             connections: _,
             notices: _,
@@ -123,6 +126,7 @@ impl<R: Clock + Drop + Processes> OsEdge<R> {
             is_alone_told: false,
             reserve: Reserve::new(alloc),
             is_first_question: false,
+            is_short: false,
             sockets: Sockets::new(alloc),
             connections: Connections::new(alloc, spool, made),
             notices: Notices::new(alloc),
@@ -262,7 +266,13 @@ impl<R: Processes> OsEdge<R> {
     }
 
     // What was asked for the run's child was refused: that is logged and counted.
-    fn refuse(&mut self, key: RunKey, asked: Asked, what: &str, error: io::Error) -> EdgeFault
+    fn refuse(
+        &mut self,
+        key: RunKey,
+        asked: SystemRequest,
+        what: &str,
+        error: io::Error,
+    ) -> EdgeFault
         ensures { self.new ≡ one_more self.old }
     {
         let label = self.children.label(key);
@@ -274,7 +284,7 @@ impl<R: Processes> OsEdge<R> {
     fn signalled(
         &mut self,
         key: RunKey,
-        asked: Asked,
+        asked: SystemRequest,
         signal: &str,
         answer: io::Result<()>,
     ) -> Result<(), EdgeFault>
@@ -357,7 +367,7 @@ impl<R: Clock + Files<File = File> + Processes> OsEdge<R> {
         may_go_on
     }
 
-    // Tells the helper of new children. The first refusal to start one is logged.
+    // Sends the helper the new children. The first refusal to start one is logged.
     fn tell_waker(&mut self)
     where
         R: Net,
@@ -393,15 +403,15 @@ impl<R: Clock + Files<File = File> + Processes> OsEdge<R> {
     /// Closes each connection that is held, and removes its files from the spool. It is for the end, so that nothing is
     /// left there of clients that took no reply. Ends the shell that is kept for TERM and all helper processes, even if
     /// they were stopped. Takes no memory.
-    pub fn let_all_go(&mut self)
+    pub fn release_all(&mut self)
         ensures { self.new ≡ self.old }
     {
         self.connections.close_all(&self.rt, &mut self.notices);
         self.shell.end();
         self.waker.end();
         let up = clock::up(&self.rt, self.made);
-        self.looks.let_go(&mut self.hung, up);
-        self.openings.let_go(&mut self.hung, up);
+        self.looks.release(&mut self.hung, up);
+        self.openings.release(&mut self.hung, up);
         self.hung.reap();
     }
 
@@ -412,7 +422,7 @@ impl<R: Clock + Files<File = File> + Processes> OsEdge<R> {
         ensures { self.new ≡ self.old }
     {
         self.tell_alone();
-        self.reserve.let_go();
+        self.reserve.release();
         let answer = paths::look(&self.rt, path);
         self.reserve.take(&self.rt);
         answer
@@ -425,12 +435,16 @@ impl<R: Clock + Files<File = File> + Processes> OsEdge<R> {
         ensures pid { IfOk result (λ pid. 0 < pid) }
         ensures failures { self.new ≡ self.old }
     {
-        match self.launch(start) {
-            Err(failure) if lacks_descriptor(&failure.error) => {
-                self.reserve.let_go();
-                self.launch(start)
-            }
-            answer => answer,
+        let answer = self.launch(start);
+        self.is_short = match &answer {
+            Err(failure) => lacks_descriptor(&failure.error),
+            Ok(_) => false,
+        };
+        if self.is_short {
+            self.reserve.release();
+            self.launch(start)
+        } else {
+            answer
         }
     }
 
@@ -510,6 +524,18 @@ impl<R: Processes> Edge for OsEdge<R> {
 }
 
 impl<R: AllocGlobal + Clock + Files<File = File> + Net + Processes> ChildEdge for OsEdge<R> {
+    // A start that is tried twice asks twice: then nothing must be on its way.
+    fn expect(&mut self, job: JobNo, run: u64, def: &Def, conn: Option<u64>) {
+        if !self.is_short {
+            let start = Start {
+                key: (job, run),
+                def,
+                conn,
+            };
+            expect(self.alloc, &mut self.openings, start);
+        }
+    }
+
     fn start(
         &mut self,
         job: JobNo,
@@ -532,15 +558,15 @@ impl<R: AllocGlobal + Clock + Files<File = File> + Net + Processes> ChildEdge fo
     }
 
     fn term(&mut self, job: JobNo, run: u64) -> Result<(), EdgeFault> {
-        self.reserve.let_go();
+        self.reserve.release();
         let answer = self.children.term(&self.rt, &mut self.shell, (job, run));
         self.reserve.take(&self.rt);
-        self.signalled((job, run), Asked::Term, "TERM", answer)
+        self.signalled((job, run), SystemRequest::Term, "TERM", answer)
     }
 
     fn kill(&mut self, job: JobNo, run: u64) -> Result<(), EdgeFault> {
         let answer = self.children.kill((job, run));
-        self.signalled((job, run), Asked::Kill, "KILL", answer)
+        self.signalled((job, run), SystemRequest::Kill, "KILL", answer)
     }
 
     fn poll(&mut self, job: JobNo, run: u64) -> Result<Option<Ended>, EdgeFault> {
@@ -553,7 +579,7 @@ impl<R: AllocGlobal + Clock + Files<File = File> + Net + Processes> ChildEdge fo
                     .run_ended(&self.rt, &mut self.notices, key, ended, kept);
                 Ok(Some(ended))
             }
-            Err(error) => Err(self.refuse(key, Asked::Wait, "wait for its end", error)),
+            Err(error) => Err(self.refuse(key, SystemRequest::Wait, "wait for its end", error)),
         }
     }
 }
@@ -577,7 +603,7 @@ impl<R: AllocGlobal + Clock + Clone + Drop + Files<File = File> + Net + Processe
     fn is_seen(&mut self, path: &str) -> bool {
         let up = clock::up(&self.rt, self.made);
         if self.is_first_question {
-            self.reserve.let_go();
+            self.reserve.release();
         }
         let is_seen = self.looks.is_seen(&self.rt, &mut self.hung, path, up);
         if self.is_first_question {
@@ -591,7 +617,7 @@ impl<R: AllocGlobal + Clock + Clone + Drop + Files<File = File> + Net + Processe
         let _is_seen = PathEdge::is_seen(self, path);
         let answer = match self.looks.take(path) {
             Seen::Unstarted => self.look_alone(path),
-            seen => paths::sight_of_seen(seen),
+            seen => paths::observation_of_seen(seen),
         };
         self.notices.looked(path, answer);
         match answer {

@@ -2,7 +2,7 @@
 //! come out of a helper's answers or, if the system starts none, of checks by this process itself.
 
 ghost use Rattle.std.specs.Prelude.{◌≡◌, ◌+◌, ◌-◌, ◌*◌, ◌^◌, min, Some, IfOk};
-ghost use Rattle.child_edge.specs.Sights.{sight_in};
+ghost use Rattle.child_edge.specs.Observations.{observation_in};
 
 use crate::asking::error_of;
 use history_model::Obs;
@@ -19,18 +19,18 @@ const ABSENT: Obs = Obs {
 };
 
 /// What a helper saw. An error if it was refused, or gave no answer.
-pub(crate) fn sight_of_seen(seen: Seen) -> io::Result<Obs>
-    ensures { IfOk result (λ obs. (answer : Answer) × (seen ≡ Seen.Answered answer) × (sight_in answer ≡ Some obs)) }
+pub(crate) fn observation_of_seen(seen: Seen) -> io::Result<Obs>
+    ensures { IfOk result (λ obs. (answer : Answer) × (seen ≡ Seen.Answered answer) × (observation_in answer ≡ Some obs)) }
 {
     match seen {
-        Seen::Answered(answer) => sight_of_answer(answer),
+        Seen::Answered(answer) => observation_of_answer(answer),
         Seen::Failed(error) => Err(error),
         Seen::Waits | Seen::Silent | Seen::Unstarted => Err(no_answer()),
     }
 }
 
-fn sight_of_answer(answer: Answer) -> io::Result<Obs>
-    ensures { IfOk result (λ obs. sight_in answer ≡ Some obs) }
+fn observation_of_answer(answer: Answer) -> io::Result<Obs>
+    ensures { IfOk result (λ obs. observation_in answer ≡ Some obs) }
 {
     let (nonempty_dir, stamp) = match answer {
         Answer::Absent => return Ok(ABSENT),
@@ -49,13 +49,13 @@ fn sight_of_answer(answer: Answer) -> io::Result<Obs>
 /// Checks the path. That nothing is there is an observation too, also if a folder above it is a file.
 pub(crate) fn look<R: Files + AllocGlobal + Clone + Drop>(rt: &R, path: &str) -> io::Result<Obs> {
     match fs::metadata(rt, path) {
-        Ok(data) => sight_of(rt, path, &data),
+        Ok(data) => observation_of(rt, path, &data),
         Err(error) if is_absence(&error) => Ok(ABSENT),
         Err(error) => Err(error),
     }
 }
 
-fn sight_of<R: Files + AllocGlobal + Clone + Drop>(
+fn observation_of<R: Files + AllocGlobal + Clone + Drop>(
     rt: &R,
     path: &str,
     data: &Metadata,

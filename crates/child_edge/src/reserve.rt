@@ -33,7 +33,7 @@ impl Reserve {
     }
 
     /// Releases all: the next calls of the system find them free.
-    pub(crate) fn let_go(&mut self) {
+    pub(crate) fn release(&mut self) {
         self.held.clear();
     }
 

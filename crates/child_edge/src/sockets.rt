@@ -9,7 +9,7 @@ use crate::asking::silence;
 use crate::bound::Bound;
 use crate::listener::Listener;
 use crate::maps::key_from;
-use crate::notices::{Asked, Notices};
+use crate::notices::{Notices, SystemRequest};
 use crate::room::room_for;
 use crate::words::cannot_bind;
 use history_model::definition::{Address, Def, Socket};
@@ -112,7 +112,7 @@ impl Sockets {
     {
         match self.bind_new(rt, job, def.label(), def.sockets()) {
             Ok(()) => {
-                notices.done(job, Asked::Bind);
+                notices.done(job, SystemRequest::Bind);
                 Ok(())
             }
             Err(fault) => tell_fault(notices, job, def, fault),
@@ -161,7 +161,7 @@ impl Sockets {
     pub(crate) fn leave(&mut self, notices: &mut Notices, job: JobNo, error: io::Error) {
         if let Some(bound) = self.take_out(job) {
             let form = "cannot remove the files of its sockets: $";
-            bound.refused(notices, job, Asked::Bind, form, error);
+            bound.refused(notices, job, SystemRequest::Bind, form, error);
             drop(bound);
         }
     }
@@ -304,12 +304,12 @@ impl Sockets {
             match listener.accept() {
                 Ok(None) => {}
                 Ok(Some(client)) => {
-                    notices.done(job, Asked::Accept);
+                    notices.done(job, SystemRequest::Accept);
                     return Some(client);
                 }
                 Err(error) => {
                     let form = "cannot let a client in: $";
-                    bound.refused(notices, job, Asked::Accept, form, error);
+                    bound.refused(notices, job, SystemRequest::Accept, form, error);
                 }
             }
         }
@@ -376,7 +376,7 @@ fn tell_fault(notices: &mut Notices, job: JobNo, def: &Def, fault: BindFault) ->
     let socket = def.sockets().get(fault.socket);
     let (form, holes) = cannot_bind(socket, fault.error);
     let label = Some(def.label());
-    notices.refused(job, Asked::Bind, label, None, form, &holes);
+    notices.refused(job, SystemRequest::Bind, label, None, form, &holes);
     Err(fault.error)
 }
 

@@ -3,8 +3,8 @@
 //! An open of anything else may wait for ever, as that of a FIFO without a peer does, and there is no open that does
 //! not. So a helper process opens each path first, after it has checked it, and holds it. The launcher opens what is
 //! held (`/proc/HELPER/fd/N`). So nothing that is put at the path since comes between, and no lease of the file can
-//! be taken (fcntl(2), F_SETLEASE). The launcher waits for a file system that begins to hang in the tenth of a
-//! millisecond between the two opens.
+//! be taken (fcntl(2), F_SETLEASE). The launcher waits for a file system that begins to hang between the two opens. That
+//! is a tenth of a millisecond, or the time of the start before if this one was [expected](crate::ChildEdge::expect).
 //!
 //! That folder may be closed to the launcher. Then an output that the helper has opened is opened by its path to be
 //! read and written, which waits at no FIFO. After that it is opened by its number here to be appended to. An input is

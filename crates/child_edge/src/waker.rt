@@ -1,14 +1,15 @@
 //! The helper that reports exits, `jobd-wake`: it gets the PID of each child, waits for the exits of all, and reports each.
 //! The launcher asks it in each pass of the loop which have exited. What it reports can only make the launcher ask the
-//! system earlier: whether a child exited is what the system then answers. Where it gives no answer, the launcher asks
-//! about each child, ends the helper, and starts another ten seconds later.
+//! system earlier: whether a child exited is what the system then answers. Where it gives no answer in time, the launcher
+//! asks about each child, and goes on with the helper once the answer comes. After a second without it, or if too many
+//! answers are late, the launcher ends the helper, and starts another ten seconds later.
 
 ghost use Rattle.std.specs.Prelude.{◌≡◌, true, false};
 
 use crate::children::Children;
 use crate::clock;
 use crate::wake_file::{NAME, WakeFile};
-use crate::waking::{Heard, Line, asks_all, is_sweep_due};
+use crate::waking::{AnswerLine, Received, asks_all, is_sweep_due};
 use mio::unix::SourceFd;
 use mio::{Interest, Registry, Token};
 use std::alloc::{AllocError, Global};
@@ -25,11 +26,15 @@ use std::{io, mem};
 /// Under this token a report wakes the poll of the loop. No client and no socket has it.
 const REPORT: Token = Token(usize::MAX);
 
-/// How many milliseconds an answer may take.
+/// How many milliseconds the launcher waits for an answer.
 const PATIENCE: u64 = 2;
 
-/// How many milliseconds a helper that was started may take for its first answer. Nobody waits for that one.
-const FIRST: u64 = 1_000;
+/// How many milliseconds an answer may take that the launcher does not wait for: the first one of a helper that was
+/// started, and one that was late.
+const OVERDUE: u64 = 1_000;
+
+/// How many answers may be late between two passes that ask about all children.
+const LATE: u32 = 8;
 
 /// After how many milliseconds a helper is started again.
 const PEACE: u64 = 10_000;
@@ -43,8 +48,8 @@ const ROOM: usize = 4_096;
 /// more is given up: it would keep the loop awake.
 const STRAYS: u32 = 1_024;
 
-/// A helper, the launcher's end of its socket, and whether that is registered with the loop's poll; whether it has
-/// answered, and the `up` at which it was started.
+/// A helper, the launcher's end of its socket, and whether that is registered with the loop's poll. `is_ready`: it owes no
+/// answer. Else `since` is the `up` at which it was started or was late.
 #[derive(Drop)]
 struct Helper<P: OpenProcess + Drop> {
     child: Child<P>,
@@ -56,12 +61,12 @@ struct Helper<P: OpenProcess + Drop> {
 
 /// What became of a question.
 #[derive(Clone, Copy, PartialEq, Eq)]
-enum Asked {
+enum QuestionState {
     /// All that had exited were reported.
     Answered,
-    /// The helper was just started, and nobody waits for its first answer.
+    /// The launcher does not wait for the answer: the helper was just started, or this answer is late.
     Awaited,
-    /// No answer came in time.
+    /// No answer came, or what came is none. The helper is of no use.
     Silent,
 }
 
@@ -74,12 +79,13 @@ pub(crate) struct Waker<P: OpenProcess + Drop> {
     given_up: Option<Child<P>>,
     // The `up` from which on one may be started.
     again: u64,
-    line: Line,
+    line: AnswerLine,
     strays: u32,
+    lates: u32,
     // The `up` at which the last pass began that asks about all, and whether this is one.
     swept: u64,
     is_sweep: bool,
-    // Whether this round asks about each child.
+    // Whether this pass asks about each child.
     pub(crate) asks_all: bool,
 }
 
@@ -94,8 +100,9 @@ impl<P: OpenProcess + Drop> Waker<P> {
             helper: None,
             given_up: None,
             again: 0,
-            line: Line::new(),
+            line: AnswerLine::new(),
             strays: 0,
+            lates: 0,
             swept: 0,
             is_sweep: true,
             asks_all: true,
@@ -127,38 +134,41 @@ impl<P: OpenProcess + Drop> Waker<P> {
         if is_pass && self.is_sweep {
             self.swept = up;
             self.strays = 0;
+            self.lates = 0;
         }
         let asked = self.ask(rt, made, up, children);
-        self.asks_all = asks_all(self.is_sweep, asked == Asked::Answered);
-        if asked == Asked::Silent {
+        self.asks_all = asks_all(self.is_sweep, asked == QuestionState::Answered);
+        if asked == QuestionState::Silent {
             self.give_up(up, children);
         }
     }
 
-    // Asks the helper. A first answer is one to an earlier question: by it the helper is known to be ready.
+    // Asks the helper, if it owes no answer. One that it owed is to an earlier question: by it the helper is known to be
+    // ready.
     fn ask<R: Clock>(
         &mut self,
         rt: &R,
         made: Instant,
         up: u64,
         children: &mut Children<P>,
-    ) -> Asked {
+    ) -> QuestionState {
         let Some(helper) = &mut self.helper else {
-            return Asked::Silent;
+            return QuestionState::Silent;
         };
         let (is_ready, since) = (helper.is_ready, helper.since);
         if is_ready && !is_sent(&mut helper.socket, b"\n".as_slice()) {
-            return Asked::Silent;
+            return QuestionState::Silent;
         }
         match self.answer(rt, made, up, children) {
-            Some(true) if is_ready => Asked::Answered,
-            Some(true) if self.is_made_ready() => Asked::Awaited,
-            None if !is_ready && up.saturating_sub(since) < FIRST => Asked::Awaited,
-            _ => Asked::Silent,
+            Some(true) if is_ready => QuestionState::Answered,
+            Some(true) if self.is_made_ready() => QuestionState::Awaited,
+            None if is_ready && self.may_be_late(up) => QuestionState::Awaited,
+            None if !is_ready && up.saturating_sub(since) < OVERDUE => QuestionState::Awaited,
+            _ => QuestionState::Silent,
         }
     }
 
-    // From the first answer on the launcher waits for each, 2 milliseconds at most.
+    // From now on the launcher waits for each answer, 2 milliseconds at most.
     fn is_made_ready(&mut self) -> bool {
         match &mut self.helper {
             Some(helper) => {
@@ -166,6 +176,19 @@ impl<P: OpenProcess + Drop> Waker<P> {
                 helper.socket.set_nonblocking(false).is_ok()
             }
             None => false,
+        }
+    }
+
+    // An answer is late: whether the helper may give it later. The launcher does not wait for it any more.
+    fn may_be_late(&mut self, up: u64) -> bool {
+        self.lates = self.lates.saturating_add(1);
+        match &mut self.helper {
+            Some(helper) if self.lates <= LATE => {
+                helper.is_ready = false;
+                helper.since = up;
+                helper.socket.set_nonblocking(true).is_ok()
+            }
+            _ => false,
         }
     }
 
@@ -188,7 +211,7 @@ impl<P: OpenProcess + Drop> Waker<P> {
                 Err(_) => return Some(false),
             };
             let strays = &mut self.strays;
-            let answer = take_in(&mut self.line, &room[..count], strays, children);
+            let answer = receive(&mut self.line, &room[..count], strays, children);
             if answer.is_some() {
                 return answer;
             }
@@ -244,8 +267,9 @@ impl<P: OpenProcess + Drop> Waker<P> {
             return Ok(());
         }
         self.again = up.saturating_add(PEACE);
-        self.line = Line::new();
+        self.line = AnswerLine::new();
         self.strays = 0;
+        self.lates = 0;
         match start(rt, self.alloc, program.path(), up) {
             Ok(helper) => {
                 drop(mem::replace(&mut self.helper, Some(helper)));
@@ -270,7 +294,7 @@ impl<P: OpenProcess + Drop> Waker<P> {
             .is_ok();
     }
 
-    // Ends the helper, also one that was stopped. The next one is told of all children.
+    // Ends the helper, also one that was stopped. The launcher sends the next one all children.
     fn give_up(&mut self, up: u64, children: &mut Children<P>) {
         self.end();
         self.again = up.saturating_add(PEACE);
@@ -293,8 +317,8 @@ impl<P: OpenProcess + Drop> Waker<P> {
 }
 
 // Takes in what came: true if the answer did, false if no helper writes it or nothing came, none if more is to come.
-fn take_in<P: OpenProcess + Drop>(
-    line: &mut Line,
+fn receive<P: OpenProcess + Drop>(
+    line: &mut AnswerLine,
     bytes: &[u8],
     strays: &mut u32,
     children: &mut Children<P>,
@@ -302,10 +326,10 @@ fn take_in<P: OpenProcess + Drop>(
     let mut answer = if bytes.is_empty() { Some(false) } else { None };
     for byte in bytes {
         let is_right = match line.take(*byte) {
-            Heard::Part => true,
-            Heard::Exit { job, pid } => is_news(children, strays, job, pid),
-            Heard::Answer => answer.replace(true).is_none(),
-            Heard::Wrong => false,
+            Received::Part => true,
+            Received::Exit { job, pid } => is_news(children, strays, job, pid),
+            Received::Answer => answer.replace(true).is_none(),
+            Received::Wrong => false,
         };
         if !is_right {
             return Some(false);

@@ -79,7 +79,7 @@ enum Field {
 
 /// What a byte of the helper's ends.
 #[derive(Clone, Copy, PartialEq, Eq)]
-pub(crate) enum Heard {
+pub(crate) enum Received {
     /// The line goes on.
     Part,
     /// The child of the job that has this PID has exited.
@@ -92,15 +92,15 @@ pub(crate) enum Heard {
 
 /// The line that comes in part.
 #[derive(Clone, Copy)]
-pub(crate) struct Line {
+pub(crate) struct AnswerLine {
     field: Field,
     job: u32,
     pid: u32,
 }
 
-impl Line {
-    pub(crate) fn new() -> Line {
-        Line {
+impl AnswerLine {
+    pub(crate) fn new() -> AnswerLine {
+        AnswerLine {
             field: Field::Start,
             job: 0,
             pid: 0,
@@ -108,31 +108,31 @@ impl Line {
     }
 
     /// Takes one byte more. A line is a job's number, a blank and a PID; an empty one is the answer.
-    pub(crate) fn take(&mut self, byte: u8) -> Heard {
+    pub(crate) fn take(&mut self, byte: u8) -> Received {
         match (byte, self.field) {
-            (b'\n', Field::Start) => Heard::Answer,
+            (b'\n', Field::Start) => Received::Answer,
             (b'\n', Field::Pid) => {
-                let Line { job, pid, .. } = *self;
-                *self = Line::new();
-                Heard::Exit { job, pid }
+                let AnswerLine { job, pid, .. } = *self;
+                *self = AnswerLine::new();
+                Received::Exit { job, pid }
             }
             (b' ', Field::Job) => {
                 self.field = Field::Pid;
-                Heard::Part
+                Received::Part
             }
             (b'0'..=b'9', _) => self.digit(u32::from(byte.wrapping_sub(b'0'))),
-            _ => Heard::Wrong,
+            _ => Received::Wrong,
         }
     }
 
-    fn digit(&mut self, digit: u32) -> Heard {
+    fn digit(&mut self, digit: u32) -> Received {
         let number = if self.field == Field::Pid {
             self.pid
         } else {
             self.job
         };
         let Some(longer) = longer_by(number, digit) else {
-            return Heard::Wrong;
+            return Received::Wrong;
         };
         if self.field == Field::Pid {
             self.pid = longer;
@@ -140,7 +140,7 @@ impl Line {
             self.field = Field::Job;
             self.job = longer;
         }
-        Heard::Part
+        Received::Part
     }
 }
 

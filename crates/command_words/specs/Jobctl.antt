@@ -1,5 +1,4 @@
--- The words of the control program as a command of clap, and what they mean. They follow
--- launchctl(1).
+-- The arguments of the control program as a command of clap, and what they mean. They follow launchctl(1).
 use Rattle.history_model.specs.Search.{is_same_text}
 use Rattle.std.specs.Prelude.{List, Bool, ◌||◌, false, Option, Some, None, codes, if◌then◌else◌, unwrap_or, option_and_then}
 use Rattle.std.specs.Option.{option_map}
@@ -11,7 +10,7 @@ use Rattle.command_words.specs.declared.command.Command.{Command}
 use Rattle.command_words.specs.declared.command.Command.TheVariants as command
 use Rattle.command_words.specs.declared.command.Words.{Words}
 
--- ---- the words that clap takes
+-- ---- the arguments that clap takes
 
 -- -w
 abbrev pub write_rule : Rule
@@ -63,7 +62,7 @@ abbrev pub with_targets : App → App
 with_targets a =
     with_subcommand (with_subcommand a kickstart_app.top) (target_app (codes "print")).top
 
--- with the subcommands that take no word: list and shutdown
+-- with the subcommands that take no argument: list and shutdown
 abbrev pub with_bare : App → App
 with_bare a =
     with_subcommand (with_subcommand a (new_app (codes "list")).top)
@@ -77,7 +76,7 @@ jobctl_app = with_bare (with_targets (with_settings (with_labels (with_files
 
 -- ---- what they mean
 
--- the label that stands under an argument, if it is one
+-- the label under an argument, if it is one
 abbrev pub label_in : List Row → Option Text
 label_in rows = option_and_then if_label (first_of (codes "label") rows)
 
@@ -129,19 +128,19 @@ socket_in default rows = unwrap_or (first_of (codes "socket") rows) default
 abbrev pub command_found : Option (Text × List Row) → Option Command
 command_found sub = option_and_then (λ s. command_meant s.0 s.1) sub
 
--- what was found among the words means, on top and of a subcommand
+-- the meaning of what was found among the arguments, on top and of a subcommand
 abbrev pub found_meant : Text → List Row → Option (Text × List Row) → Option Words
 found_meant default top sub =
     option_map (λ c. record { socket = socket_in default top; command = c }) (command_found sub)
 
--- what the words mean beside a default socket, the program's own name being the first: nothing if
--- clap finds a fault in them, or if a label is none or a target names none
+-- what the arguments mean with a default socket, the first being the program's own name. Nothing if clap finds a fault in them,
+-- or if a label is none or a target names none
 abbrev pub meant_beside : Text → List Text → Option Words
 meant_beside default words =
     if is_empty_list (fault_of jobctl_app words)
     then found_meant default (matches_of jobctl_app words) (subcommand_of jobctl_app words)
     else None
 
--- the same beside the socket in the present folder
+-- the same with the socket in the present folder
 abbrev pub meant : List Text → Option Words
 meant words = meant_beside (codes "jobd.sock") words

@@ -1,4 +1,4 @@
--- The words of the daemon's program as a command of clap, and what they mean.
+-- The arguments of the daemon's program as a command of clap, and what they mean.
 use Rattle.std.specs.Prelude.{List, true, false, Option, Some, None, codes, if◌then◌else◌, option_and_then}
 use Rattle.std.specs.Option.{option_map}
 use Rattle.clap.specs.Words.{App, Row, Text, new_app, with_rule, with_subcommand, first_of, fault_of, subcommand_of}
@@ -10,7 +10,7 @@ use Rattle.command_words.specs.declared.command.DaemonCommand.TheVariants.{Repla
 use Rattle.command_words.specs.declared.command.ZoneWords.{ZoneWords}
 use Rattle.command_words.specs.declared.command.ZoneWords.TheVariants as zone
 
--- ---- the words that clap takes
+-- ---- the arguments that clap takes
 
 -- --socket PATH --store PATH --spool DIR
 abbrev pub with_places : App → App
@@ -81,8 +81,8 @@ daemon_command_meant name rows =
 abbrev pub daemon_found_meant : Option (Text × List Row) → Option DaemonCommand
 daemon_found_meant sub = option_and_then (λ s. daemon_command_meant s.0 s.1) sub
 
--- what the words mean, the program's own name being the first: nothing if clap finds a fault in
--- them, or if both zone options stand
+-- what the arguments mean, the first being the program's own name: nothing if clap finds a fault in them, or if both zone options
+-- are given
 abbrev pub daemon_meant : List Text → Option DaemonCommand
 daemon_meant words =
     if is_empty_list (fault_of jobd_app words)

@@ -23,7 +23,7 @@ abbrev pub is_empty_list : {A : Type 0} → List A → Bool
 is_empty_list [] = true
 is_empty_list (x ∷ xs) = false
 
--- clap finds no fault in the words, and these matches in them
+-- clap finds no fault in the arguments, and these matches in them
 pub record IsFound (app : App) (words : List Text) (m : ArgMatches) : Type 0 where
   pub none : is_empty_list (fault_of app words) ≡ true
   pub rows : rows_in m ≡ matches_of app words

@@ -1,4 +1,4 @@
-//! The forms of arguments of which the programs' words are made, and how their values are read.
+//! The forms of arguments that the programs take, and how their values are read.
 ghost use Rattle.std.specs.Prelude.{◌≡◌, IfOk, Some, None, true, false, map};
 ghost use Rattle.clap.specs.Words.{rule_of, first_of, all_of, with_rule, with_subcommand, new_app, App, Rule};
 ghost use Rattle.command_words.specs.Rules.{HasWords, Makes, flag_rule, switch_rule, option_rule, hyphened_option_rule, options_rule, short_option_rule, word_rule, words_rule, any_words_rule};
@@ -46,7 +46,7 @@ pub fn hyphened_option<'a>(alloc: Global, id: &'a str, value: &'a str, help: &'a
     option(alloc, id, false, value, help).allow_hyphen_values(true)
 }
 
-/// An option with a value, which may stand more than once.
+/// An option with a value, which may be given more than once.
 pub fn options<'a>(alloc: Global, id: &'a str, value: &'a str, help: &'a str) -> Arg<'a>
     ensures rule { rule_of result ≡ options_rule id.now }
     ensures local { result.global ≡ false }
@@ -69,7 +69,7 @@ pub fn switch<'a>(alloc: Global, id: &'a str, help: &'a str) -> Arg<'a>
         .help(help)
 }
 
-/// An option with a value behind a letter.
+/// An option of one letter, with a value.
 pub fn short_option<'a>(
     alloc: Global,
     id: &'a str,
@@ -86,7 +86,7 @@ pub fn short_option<'a>(
         .help(help)
 }
 
-/// A word that must stand.
+/// A required argument.
 pub fn word<'a>(alloc: Global, id: &'a str, value: &'a str, help: &'a str) -> Arg<'a>
     ensures rule { rule_of result ≡ word_rule id.now }
     ensures local { result.global ≡ false }
@@ -97,7 +97,7 @@ pub fn word<'a>(alloc: Global, id: &'a str, value: &'a str, help: &'a str) -> Ar
         .help(help)
 }
 
-/// One word or more.
+/// One argument or more.
 pub fn words<'a>(alloc: Global, id: &'a str, value: &'a str, help: &'a str) -> Arg<'a>
     ensures rule { rule_of result ≡ words_rule id.now }
     ensures local { result.global ≡ false }
@@ -109,7 +109,7 @@ pub fn words<'a>(alloc: Global, id: &'a str, value: &'a str, help: &'a str) -> A
         .help(help)
 }
 
-/// Any number of words.
+/// Any number of arguments.
 pub fn any_words<'a>(alloc: Global, id: &'a str, value: &'a str, help: &'a str) -> Arg<'a>
     ensures rule { rule_of result ≡ any_words_rule id.now }
     ensures local { result.global ≡ false }
@@ -129,7 +129,7 @@ pub fn bare<'a>(alloc: Global, name: &'a str, about: &'a str, after: &'a str) ->
         .after_help(after)
 }
 
-// A command that lives across a `?` is dear to prove, so what makes one takes and gives a `Result`.
+// A command that is kept across a `?` is dear to prove, so what makes one takes and gives a `Result`.
 
 /// The command with an argument more; want of memory is passed on.
 pub fn add_arg<'a>(
@@ -182,7 +182,7 @@ pub fn is_set(found: &ArgMatches<'_>, id: &str) -> bool
     }
 }
 
-/// A copy of the value of an option or a word, if it was given.
+/// A copy of the value of an option or an argument, if it was given.
 pub fn value_of(alloc: Global, found: &ArgMatches<'_>, id: &str) -> Result<Option<Text>, AllocError>
     ensures { IfOk result (λ value. value ≡ first_of id.now (rows_in found.now)) }
 {

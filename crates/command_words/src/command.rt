@@ -1,4 +1,4 @@
-//! The commands that words can mean.
+//! The commands that arguments can mean.
 use history_model::Text;
 use std::marker::Model;
 
@@ -37,7 +37,7 @@ impl Paths {
 /// What the control program is asked to do. A label is that of launchctl(1)'s `label`; a target names one too.
 #[derive(Drop)]
 pub enum Command {
-    /// Hand in each definition; `writes_setting` also enables its label, `force` loads a disabled one too.
+    /// Load each definition; `writes_setting` also enables its label, `force` loads a disabled one too.
     Load {
         writes_setting: bool,
         force: bool,
@@ -103,17 +103,17 @@ pub enum DaemonCommand {
         journal: Option<Text>,
         zone: ZoneWords,
     },
-    /// Print the stored overrides.
+    /// Print the stored settings.
     Overrides {
         store: Text,
     },
 }
 
-/// Why words mean nothing.
+/// Why arguments mean nothing.
 #[derive(Clone, Copy, PartialEq, Eq)]
 pub enum WordFault {
     /// There was no memory to read them.
     NoMemory,
-    /// They are no command; `explain` gives the text to print.
+    /// They do not form a command; `explain` gives the text to print.
     Usage,
 }

@@ -1,4 +1,4 @@
-//! The control program's command, in clap's words, with a help text for each.
+//! The control program's command, as clap declares it, with a help text for each argument.
 ghost use Rattle.command_words.specs.Rules.{Makes};
 ghost use Rattle.command_words.specs.Jobctl.{jobctl_app};
 
@@ -148,7 +148,7 @@ const SUBCOMMANDS: &[Subcommand] = &[
     },
 ];
 
-/// The whole command, with a help text for every word.
+/// The whole command, with a help text for every argument.
 pub fn jobctl_words<'a>(alloc: Global) -> Result<clap::Command<'a>, AllocError>
     ensures { Makes result jobctl_app }
 {

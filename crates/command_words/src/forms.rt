@@ -18,19 +18,19 @@ pub(crate) enum Form {
     Letter(char),
     /// A flag by the argument's name, as --strict.
     Switch,
-    /// A value behind the argument's name, as --socket PATH.
+    /// A value after the argument's name, as --socket PATH.
     Value { required: bool },
-    /// A value behind the argument's name that may begin with a hyphen, as --since -2h.
+    /// A value after the argument's name that may begin with a hyphen, as --since -2h.
     AnyValue,
-    /// A value behind the argument's name, which may stand more than once, as --journal PATH.
+    /// A value after the argument's name, which may be given more than once, as --journal PATH.
     Values,
-    /// A value behind a letter, as -n COUNT.
+    /// A value after a letter, as -n COUNT.
     ShortValue(char),
-    /// A word that must stand.
+    /// A required argument.
     Word,
-    /// One word or more.
+    /// One argument or more.
     Words,
-    /// Any number of words.
+    /// Any number of arguments.
     AnyWords,
 }
 

@@ -1,4 +1,4 @@
-//! What the control program's words mean.
+//! What the control program's arguments mean.
 ghost use Rattle.std.specs.Prelude.{◌≡◌, IfOk, map, string_bytes};
 ghost use Rattle.clap.specs.Words.{subcommand_rows_of};
 ghost use Rattle.command_words.specs.Meaning.{rows_in};
@@ -44,7 +44,7 @@ fn read_files(
     }
 }
 
-/// The label under an argument; none if it is no label.
+/// The label under an argument; none if it is not a label.
 fn label_in(alloc: Global, found: &ArgMatches<'_>) -> Result<Option<Text>, AllocError>
     ensures { IfOk result (λ label. label ≡ spec.label_in (rows_in found.now)) }
 {
@@ -87,7 +87,7 @@ fn job_in(alloc: Global, name: &str, found: &ArgMatches<'_>) -> Result<Option<Te
     }
 }
 
-/// What a subcommand means for the job with this label; none if the word is no such subcommand.
+/// What a subcommand means for the job with this label; none if there is no such subcommand.
 fn job_command(name: &str, kills_first: bool, label: Text) -> Option<Command>
     ensures { result ≡ spec.job_meant name.now kills_first label }
 {
@@ -108,7 +108,7 @@ fn job_command(name: &str, kills_first: bool, label: Text) -> Option<Command>
     }
 }
 
-/// What a subcommand and its values mean; none if the words are no command.
+/// What a subcommand and its values mean; none if they do not form a command.
 fn read_command(
     alloc: Global,
     name: &str,
@@ -165,8 +165,9 @@ fn read_matches(
     }
 }
 
-/// What the words mean, the program's own name being the first, as launchctl(1) says; the socket is `default` if they name
-/// none. None: they are no command of jobctl, a LABEL is no label, or a TARGET names none; `explain` gives the text to print then.
+/// What the arguments mean, the first being the program's own name, as launchctl(1) says; the socket is `default` if they name
+/// none. None: they do not form a command of jobctl, a LABEL is not a label, or a TARGET names none; `explain` gives the text to
+/// print then.
 pub fn control_command(
     alloc: Global,
     words: &[String],
@@ -189,8 +190,8 @@ pub fn control_command(
     }
 }
 
-/// The text to print if the words are no command of jobctl, or ask for help. If they are none, it is one line; if clap takes them, it says
-/// which LABEL is no label, or which TARGET names none.
+/// The text to print if the arguments do not form a command of jobctl, or ask for help. If clap does not take them, it is one
+/// line. If clap takes them, it says which LABEL is not a label, or which TARGET names none.
 pub fn explain(alloc: Global, words: &[String]) -> Result<Explanation, AllocError> {
     explain_by(alloc, "jobctl", jobctl_words(alloc), words)
 }

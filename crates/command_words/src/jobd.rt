@@ -1,4 +1,4 @@
-//! The daemon's words: how clap takes them, and what they mean.
+//! The daemon's arguments: how clap takes them, and what they mean.
 ghost use Rattle.std.specs.Prelude.{◌≡◌, IfOk, map, string_bytes};
 ghost use Rattle.clap.specs.Words.{subcommand_rows_of};
 ghost use Rattle.command_words.specs.Rules.{Makes};
@@ -103,7 +103,7 @@ const SUBCOMMANDS: &[Subcommand] = &[
     },
 ];
 
-/// The whole command, with a help text for every word.
+/// The whole command, with a help text for every argument.
 fn jobd_words<'a>(alloc: Global) -> Result<clap::Command<'a>, AllocError>
     ensures { Makes result jobd_app }
 {
@@ -182,7 +182,7 @@ fn read_serve(alloc: Global, found: &ArgMatches<'_>) -> Result<Option<DaemonComm
     Ok(served(socket, store, spool, journal, zone))
 }
 
-/// What a subcommand and its values mean; none if the words are no command.
+/// What a subcommand and its values mean; none if they do not form a command.
 fn read_command(
     alloc: Global,
     name: &str,
@@ -219,8 +219,8 @@ fn read_matches(
     }
 }
 
-/// What the words mean, the program's own name being the first. None: they are no command of jobd, or both zone options stand;
-/// `explain_daemon` gives the text to print then.
+/// What the arguments mean, the first being the program's own name. None: they do not form a command of jobd, or both zone
+/// options are given; `explain_daemon` gives the text to print then.
 pub fn daemon_command(alloc: Global, words: &[String]) -> Result<Option<DaemonCommand>, AllocError>
     ensures { IfOk result (λ meant. meant ≡ spec.daemon_meant (map string_bytes words.now)) }
 {
@@ -238,8 +238,8 @@ pub fn daemon_command(alloc: Global, words: &[String]) -> Result<Option<DaemonCo
     }
 }
 
-/// The text to print if the words are no command of jobd, or ask for help. If clap takes them, it is one line that says that
-/// both zone options stand.
+/// The text to print if the arguments do not form a command of jobd, or ask for help. If clap takes them, it is one line that
+/// says that both zone options are given.
 pub fn explain_daemon(alloc: Global, words: &[String]) -> Result<Explanation, AllocError> {
     explain_by(alloc, "jobd", jobd_words(alloc), words)
 }

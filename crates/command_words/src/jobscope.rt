@@ -1,18 +1,18 @@
-//! What the words of `jobscope` mean.
+//! What the arguments of `jobscope` mean.
 
 use crate::arguments::{is_set, value_of, values_of};
 use crate::command::{Paths, WordFault, ZoneWords};
 use crate::jobd::zone_in;
 use crate::numbers::{number_of, wrong_number};
 use crate::parse::{Explanation, explain_by, parse};
-use crate::scope_command::{FolderWords, Meaning, MomentWords, ScopeCommand, TASKS, Task};
+use crate::scope_command::{FolderWords, Meaning, MomentWords, ScopeCommand, ScopeTask, TASKS};
 use crate::scope_words::jobscope_words;
 use clap::ArgMatches;
 use std::alloc::{AllocError, Global};
 
 const BOTH_ZONES: &str = "jobscope: --zone and --zone-file can't be given together\n";
 
-fn task_named(name: &str) -> Option<Task> {
+fn task_named(name: &str) -> Option<ScopeTask> {
     for (known, task) in TASKS {
         if *known == name {
             return Some(*task);
@@ -21,16 +21,16 @@ fn task_named(name: &str) -> Option<Task> {
     None
 }
 
-// The words of the subcommand, whose numbers are right, in the zone that it names.
+// The subcommand's arguments, whose numbers are right, in the zone that it names.
 fn command_in(
     alloc: Global,
-    task: Task,
+    task: ScopeTask,
     found: &ArgMatches<'_>,
     zone: ZoneWords,
 ) -> Result<ScopeCommand, AllocError> {
     let words = words_in(alloc, task, found);
     let from = match task {
-        Task::Next => number_of(found, "from"),
+        ScopeTask::Next => number_of(found, "from"),
         _ => number_of(found, "now"),
     };
     let journals = texts_in(alloc, found, "journal");
@@ -69,17 +69,17 @@ fn command_in(
     }
 }
 
-fn words_in(alloc: Global, task: Task, found: &ArgMatches<'_>) -> Result<Paths, AllocError> {
+fn words_in(alloc: Global, task: ScopeTask, found: &ArgMatches<'_>) -> Result<Paths, AllocError> {
     let id = match task {
-        Task::Check | Task::Next | Task::Plist | Task::Drift => "paths",
-        Task::Cron => "lines",
-        Task::Status
-        | Task::Metrics
-        | Task::Why
-        | Task::Log
-        | Task::Runs
-        | Task::Picture
-        | Task::Show => "labels",
+        ScopeTask::Check | ScopeTask::Next | ScopeTask::Plist | ScopeTask::Drift => "paths",
+        ScopeTask::Cron => "lines",
+        ScopeTask::Status
+        | ScopeTask::Metrics
+        | ScopeTask::Why
+        | ScopeTask::Log
+        | ScopeTask::Runs
+        | ScopeTask::Picture
+        | ScopeTask::Show => "labels",
     };
     texts_in(alloc, found, id)
 }
@@ -133,7 +133,11 @@ fn meaning_of(alloc: Global, matches: &ArgMatches<'_>) -> Result<Meaning, WordFa
     }
 }
 
-fn meaning_in(alloc: Global, found: &ArgMatches<'_>, task: Task) -> Result<Meaning, AllocError> {
+fn meaning_in(
+    alloc: Global,
+    found: &ArgMatches<'_>,
+    task: ScopeTask,
+) -> Result<Meaning, AllocError> {
     if let Some(text) = wrong_number(alloc, found)? {
         return Ok(Meaning::Wrong(text));
     }
@@ -146,8 +150,8 @@ fn meaning_in(alloc: Global, found: &ArgMatches<'_>, task: Task) -> Result<Meani
     }
 }
 
-/// What the words mean, the program's own name being the first; a text that says what is wrong if clap takes them and a value is no
-/// number, or both zone options stand. Usage: clap takes them for no command of jobscope.
+/// What the arguments mean, the first being the program's own name. It is a text that says what is wrong if clap takes them and a
+/// value is not a number, or both zone options are given. Usage: clap does not take them as a command of jobscope.
 pub fn read_scope_words(alloc: Global, words: &[String]) -> Result<Meaning, WordFault> {
     let Ok(command) = jobscope_words(alloc) else {
         return Err(WordFault::NoMemory);
@@ -158,7 +162,7 @@ pub fn read_scope_words(alloc: Global, words: &[String]) -> Result<Meaning, Word
     }
 }
 
-/// The text for words that are no command of jobscope, or that ask for help.
+/// The text for arguments that do not form a command of jobscope, or that ask for help.
 pub fn explain_scope(alloc: Global, words: &[String]) -> Result<Explanation, AllocError> {
     explain_by(alloc, "jobscope", jobscope_words(alloc), words)
 }

@@ -1,4 +1,4 @@
-//! What the words of the three programs mean: launchctl's for the control program, the daemon's own, and those of `jobscope`.
+//! What the arguments of the three programs mean: launchctl's for the control program, the daemon's own, and those of `jobscope`.
 #![tactic(auto)]
 
 mod arguments;
@@ -20,4 +20,4 @@ pub use jobctl::{control_command, explain};
 pub use jobd::{daemon_command, explain_daemon};
 pub use jobscope::{explain_scope, read_scope_words};
 pub use parse::Explanation;
-pub use scope_command::{FolderWords, Meaning, MomentWords, ScopeCommand, Task};
+pub use scope_command::{FolderWords, Meaning, MomentWords, ScopeCommand, ScopeTask};

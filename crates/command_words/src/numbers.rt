@@ -1,4 +1,4 @@
-//! Numbers among the words.
+//! Numbers among the arguments.
 
 use clap::ArgMatches;
 use history_model::MAX_WALL;
@@ -13,14 +13,14 @@ const NUMBERS: &[(&str, &str, u64, &str)] = &[
     ("now", "--now", MAX_WALL, SECOND),
 ];
 
-/// What is wrong with the first option whose value is no number that it takes, if there is one.
+/// What is wrong with the first option whose value is not a number that it takes, if there is one.
 pub(crate) fn wrong_number(
     alloc: Global,
     found: &ArgMatches<'_>,
 ) -> Result<Option<String>, AllocError> {
     for (id, option, most, wanted) in NUMBERS {
         if let Some(value) = found.get_str(*id) {
-            if number_in(value, *most).is_none() {
+            if number_at_most(value, *most).is_none() {
                 let text = format!(in alloc; "jobscope: {option} {value:?}: expected {wanted}\n")?;
                 return Ok(Some(text));
             }
@@ -31,11 +31,11 @@ pub(crate) fn wrong_number(
 
 /// The number that is the option's value.
 pub(crate) fn number_of(found: &ArgMatches<'_>, id: &str) -> Option<u64> {
-    number_in(found.get_str(id)?, u64::MAX)
+    number_at_most(found.get_str(id)?, u64::MAX)
 }
 
 /// The decimal number that the text is, without a sign, and at most `most`.
-fn number_in(text: &str, most: u64) -> Option<u64> {
+fn number_at_most(text: &str, most: u64) -> Option<u64> {
     if text.is_empty() {
         return None;
     }

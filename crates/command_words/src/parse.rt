@@ -1,4 +1,4 @@
-//! One reading of words by clap, and the text for words that it does not take.
+//! How clap reads arguments, and the text for arguments that it does not take.
 ghost use Rattle.std.specs.Prelude.{◌≡◌, ◌≢◌, IfOk, true, false, map, string_bytes, IfErr};
 ghost use Rattle.clap.specs.Words.{app_of, fault_of, is_simple_and_free, kind_of};
 ghost use Rattle.command_words.specs.Meaning.{IsFound, is_empty_list};
@@ -12,7 +12,7 @@ use std::alloc::{AllocError, Global};
 use std::fmt;
 use std::fmt::{Display, Formatter};
 
-/// What clap finds among the words.
+/// What clap finds among the arguments.
 pub fn parse<'a>(
     command: clap::Command<'a>,
     words: &'a [String],
@@ -34,7 +34,7 @@ pub fn parse<'a>(
     }
 }
 
-/// Want of memory, or words that clap does not take.
+/// Want of memory, or arguments that clap does not take.
 fn fault_in(error: &Error) -> WordFault
     ensures { result ≡ WordFault.Usage → kind_of error.now ≢ ErrorKind.OutOfMemory }
 {
@@ -44,7 +44,7 @@ fn fault_in(error: &Error) -> WordFault
     }
 }
 
-/// What to print for words that are no command.
+/// What to print for arguments that do not form a command.
 #[derive(Drop)]
 pub struct Explanation {
     pub text: String,
@@ -52,8 +52,9 @@ pub struct Explanation {
     pub is_help: bool,
 }
 
-/// The text for words that clap does not take: one line that begins with the program's name, or a help, which ends with the version's
-/// line. If clap takes them, the line that says why they are no command all the same, or the whole help if they are one.
+/// The text for arguments that clap does not take: one line that begins with the program's name, or a help, which ends with the
+/// version's line. If clap takes them, it is the line that says why they do not form a command all the same. If they form one, it
+/// is the whole help.
 pub fn explain_by<'a>(
     alloc: Global,
     program: &str,
@@ -71,7 +72,7 @@ pub fn explain_by<'a>(
     }
 }
 
-// What is said of the words, if it is not the whole help. What clap found goes at one place.
+// What is said of the arguments, if it is not the whole help. What clap found goes at one place.
 fn said_of(
     alloc: Global,
     program: &str,
@@ -121,8 +122,8 @@ fn fault_text(
     Ok(Some(Explanation { text, is_help }))
 }
 
-/// What clap says of words that it does not take, as one line: its rows one behind another, without the word `error`. A control character
-/// of a word is U+FFFD.
+/// What clap says of arguments that it does not take, as one line: its rows one after another, without `error:` before them. A
+/// control character of an argument is U+FFFD.
 #[derive(Drop)]
 struct OneLine<'a> {
     said: &'a str,

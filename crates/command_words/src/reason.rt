@@ -1,4 +1,4 @@
-//! Why words that clap takes are no command all the same.
+//! Why arguments that clap takes do not form a command all the same.
 
 use crate::parse::Explanation;
 use clap::ArgMatches;
@@ -14,8 +14,8 @@ const NO_TARGET_HERE: &str = " takes a label; kickstart and print take a target"
 
 const BOTH_ZONES: &str = "jobd: --zone and --zone-file can't be given together\n";
 
-/// One line, with its newline, that names the word and says why it is none of its kind: a LABEL that is no label, a TARGET that
-/// names none, or both zone options. None if there is no such word.
+/// One line, with its newline, that names the argument and says what is wrong with it. A LABEL is not a label, a TARGET names
+/// none, or both zone options are given. None if there is no such argument.
 pub fn reason_in(
     alloc: Global,
     matches: &ArgMatches<'_>,
@@ -33,7 +33,7 @@ pub fn reason_in(
     }
 }
 
-// The same of a subcommand's own words.
+// The same of a subcommand's own arguments.
 fn reason_of(
     alloc: Global,
     name: &str,
@@ -76,7 +76,8 @@ fn target_reason(alloc: Global, word: &str) -> Result<Option<String>, AllocError
     }
 }
 
-// The line that says why a word is none of its kind. `subcommand` stands before `why`; it is empty, if the reason does not name it.
+// The line that says what is wrong with an argument. `subcommand` comes before `why`; it is empty, if the reason does not name
+// it.
 fn reason(
     alloc: Global,
     word: &str,
@@ -101,7 +102,7 @@ fn is_target(alloc: Global, word: &str) -> Result<bool, AllocError> {
     }
 }
 
-// The word as one line: quoted if it is empty or has a control character.
+// The argument as one line: quoted if it is empty or has a control character.
 fn shown(alloc: Global, word: &str) -> Result<String, AllocError> {
     let mut is_plain = !word.is_empty();
     for c in word.chars() {

@@ -1,22 +1,22 @@
-//! The commands that words of `jobscope` can mean.
+//! The commands that arguments of `jobscope` can mean.
 
 use crate::command::{Paths, ZoneWords};
 use history_model::Text;
 
 /// What `jobscope` is asked to do.
 #[derive(Clone, Copy)]
-pub enum Task {
+pub enum ScopeTask {
     /// Read the definitions as a load would, and say what is wrong with each, and what may be.
     Check,
     /// Show the coming starts of the definitions.
     Next,
-    /// Show how each job of a launcher stands, a line a job.
+    /// Show the state of each job of a launcher, a line a job.
     Status,
     /// Write the same as samples that a monitor reads.
     Metrics,
     /// Say of each job why it runs or not at the journal's end, and what will make it run.
     Why,
-    /// Tell the journal's events.
+    /// Print the journal's events.
     Log,
     /// Count each job's runs.
     Runs,
@@ -33,32 +33,32 @@ pub enum Task {
 }
 
 /// The names of the subcommands, in the order of the help.
-pub(crate) const TASKS: &[(&str, Task)] = &[
-    ("check", Task::Check),
-    ("next", Task::Next),
-    ("status", Task::Status),
-    ("metrics", Task::Metrics),
-    ("why", Task::Why),
-    ("log", Task::Log),
-    ("runs", Task::Runs),
-    ("picture", Task::Picture),
-    ("show", Task::Show),
-    ("drift", Task::Drift),
-    ("cron", Task::Cron),
-    ("plist", Task::Plist),
+pub(crate) const TASKS: &[(&str, ScopeTask)] = &[
+    ("check", ScopeTask::Check),
+    ("next", ScopeTask::Next),
+    ("status", ScopeTask::Status),
+    ("metrics", ScopeTask::Metrics),
+    ("why", ScopeTask::Why),
+    ("log", ScopeTask::Log),
+    ("runs", ScopeTask::Runs),
+    ("picture", ScopeTask::Picture),
+    ("show", ScopeTask::Show),
+    ("drift", ScopeTask::Drift),
+    ("cron", ScopeTask::Cron),
+    ("plist", ScopeTask::Plist),
 ];
 
-/// Moments as they are written among the words.
+/// Times as the arguments write them.
 #[derive(Drop)]
 pub struct MomentWords {
     /// That of a journal which is asked of; where absent, its end.
     pub at: Option<Text>,
-    /// From which on, and up to which, a journal is told.
+    /// From when on, and until when, a journal's events are printed.
     pub since: Option<Text>,
     pub until: Option<Text>,
 }
 
-/// Folders that the words name.
+/// Folders that the arguments name.
 #[derive(Drop)]
 pub struct FolderWords {
     /// In which each definition becomes a file.
@@ -67,19 +67,19 @@ pub struct FolderWords {
     pub logs: Option<Text>,
 }
 
-/// A subcommand's words. What the subcommand does not take is absent.
+/// A subcommand's arguments. What the subcommand does not take is absent.
 #[derive(Drop)]
 pub struct ScopeCommand {
-    pub task: Task,
+    pub task: ScopeTask,
     /// A warning fails too.
     pub is_strict: bool,
-    /// Failing jobs alone are told.
+    /// Only failing jobs are printed.
     pub is_failing: bool,
-    /// Events are told as they come.
+    /// Events are printed as they come.
     pub follows: bool,
-    /// The picture is a page that stands alone.
+    /// The picture is a whole page by itself.
     pub is_page: bool,
-    /// What is told is told as objects of JSON, a line each.
+    /// The output is objects of JSON, a line each.
     pub is_json: bool,
     /// The lines of a crontab have a user's field.
     pub has_user: bool,
@@ -91,11 +91,11 @@ pub struct ScopeCommand {
     pub count: Option<u64>,
     /// The second of Unix time after which starts are shown, from which on the clock is looked at, or that is now in place of the clock's.
     pub from: Option<u64>,
-    /// The moments of a journal.
+    /// The times of a journal.
     pub moments: MomentWords,
     /// The zone in which calendar entries are looked at.
     pub zone: ZoneWords,
-    /// The paths of the journals, which are told as one.
+    /// The paths of the journals, which are read as one.
     pub journals: Paths,
     /// The path of a launcher's status file.
     pub status_file: Option<Text>,
@@ -104,10 +104,10 @@ pub struct ScopeCommand {
     pub words: Paths,
 }
 
-/// What stands for words that clap takes.
+/// The meaning of arguments that clap takes.
 #[derive(Drop)]
 pub enum Meaning {
     Command(ScopeCommand),
-    /// They are no command, as this text says.
+    /// They do not form a command, as this text says.
     Wrong(String),
 }

@@ -1,4 +1,4 @@
-//! The command of `jobscope`, in clap's words, with a help text for each.
+//! The command of `jobscope`, as clap declares it, with a help text for each argument.
 
 use crate::forms::{Argument, Form, Subcommand, with_subcommands};
 use std::alloc::{AllocError, Global};
@@ -329,7 +329,7 @@ const SUBCOMMANDS: &[Subcommand] = &[
     },
 ];
 
-/// The whole command, with a help text for every word.
+/// The whole command, with a help text for every argument.
 pub(crate) fn jobscope_words<'a>(alloc: Global) -> Result<clap::Command<'a>, AllocError> {
     let command = clap::Command::new(alloc, "jobscope")
         .about("Checks job definitions before a load, and reads journals and status files after")

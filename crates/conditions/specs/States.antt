@@ -10,9 +10,9 @@ abbrev pub wanted_of : State → PathState
 wanted_of s = record { path = s.path; present = s.present }
 
 -- what was seen there last
-abbrev pub last_sight : State → Option Obs
-last_sight s = s.last
+abbrev pub last_observation : State → Option Obs
+last_observation s = s.last
 
 -- after this was seen at this path
-abbrev pub after_sight : List ℕ → Obs → State → State
-after_sight path obs s = record s { last = cond (is_same_path s.path path) (Some obs) s.last }
+abbrev pub after_observation : List ℕ → Obs → State → State
+after_observation path obs s = record s { last = cond (is_same_path s.path path) (Some obs) s.last }

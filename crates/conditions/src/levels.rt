@@ -9,7 +9,7 @@ ghost use Rattle.history_model.specs.Levels.{is_success, is_crash_end, agrees, p
 ghost use Rattle.history_model.specs.ByFacts.{seen_after};
 ghost use Rattle.history_model.specs.Reasons.{exit_wants, crash_wants, state_that_holds};
 ghost use Rattle.history_model.specs.DueByFacts.{any_seen, first_seen};
-ghost use Rattle.conditions.specs.States.{wanted_of, last_sight, after_sight};
+ghost use Rattle.conditions.specs.States.{wanted_of, last_observation, after_observation};
 ghost use Rattle.history_model.specs.Definitions.{definition};
 
 use history_model::definition::{Def, PathState};
@@ -42,14 +42,14 @@ impl Model for Conditions {
     ghost Value = { ConditionFacts };
 
     ghost use Rattle.std.specs.Prelude.{map};
-    ghost use Rattle.conditions.specs.States.{wanted_of, last_sight};
+    ghost use Rattle.conditions.specs.States.{wanted_of, last_observation};
 
     ghost view = { λ c. record {
       keep_alive = c.keep_alive;
       successful_exit = c.successful_exit;
       crashed = c.crashed;
       path_state = map wanted_of c.states.items;
-      seen = map last_sight c.states.items;
+      seen = map last_observation c.states.items;
       ended = c.last_end;
       has_crashed = c.has_crashed;
     } };
@@ -57,9 +57,9 @@ impl Model for Conditions {
 
 impl Conditions {
     ghost use Rattle.conditions.specs.ConditionFacts.{ConditionFacts, kept_of, conditions_hold, holds_by};
-    ghost use Rattle.conditions.specs.States.{wanted_of, last_sight, after_sight};
+    ghost use Rattle.conditions.specs.States.{wanted_of, last_observation, after_observation};
 
-    /// The conditions of a definition, before any end and any sight. The one refusal is of memory.
+    /// The conditions of a definition, before any exit and any path check. The one refusal is of memory.
     pub fn new(alloc: Global, def: &Def) -> Result<Conditions, AllocError>
         ensures { IfOk result (λ c. (at : Reading) →
             c ≡ kept_of (Loaded (definition def.now) at ∷ [])) }
@@ -100,8 +100,8 @@ impl Conditions {
         };
     }
 
-    /// Whether `KeepAlive` is true, or one of its conditions holds. Before the first end no condition on ends holds, and
-    /// before the first sight of a path none on that path.
+    /// Whether `KeepAlive` is true, or one of its conditions holds. Before the first exit no condition on exits holds, and before
+    /// the first check of a path none on that path.
     pub fn holds(&self) -> bool
         ensures step { result ≡ holds_by self.now }
         ensures past { (past : History) → self.now ≡ kept_of past → result ≡ conditions_hold past }
@@ -172,7 +172,7 @@ impl Conditions {
 
 fn states_of(alloc: Global, listed: &[PathState]) -> Result<Vec<State>, AllocError>
     ensures wanted { IfOk result (λ v. map wanted_of v.items ≡ listed.now) }
-    ensures unseen { IfOk result (λ v. map last_sight v.items ≡ map (λ _. None) listed.now) }
+    ensures unseen { IfOk result (λ v. map last_observation v.items ≡ map (λ _. None) listed.now) }
 {
     let mut states = Vec::new(alloc);
     for state in listed {
@@ -186,7 +186,7 @@ fn states_of(alloc: Global, listed: &[PathState]) -> Result<Vec<State>, AllocErr
 }
 
 fn see(states: &mut Vec<State>, path: &str, obs: Obs)
-    ensures { states.new.items ≡ map (after_sight path.now obs) states.old.items }
+    ensures { states.new.items ≡ map (after_observation path.now obs) states.old.items }
 {
     for state in states.iter_mut() {
         if state.path.as_str() == path {

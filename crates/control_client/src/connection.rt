@@ -40,30 +40,30 @@ impl Connection {
     pub fn ask(&mut self, alloc: Global, request: &[u8]) -> Result<Replied, Fault> {
         let sent = self.reader.get_mut().write_all(request);
         match sent {
-            Ok(()) => self.hear_in_time(alloc),
+            Ok(()) => self.receive_in_time(alloc),
             Err(error) if error.kind() == ErrorKind::WouldBlock => {
                 Err(Fault::Silent(self.patience))
             }
-            Err(error) => match hear(alloc, &mut self.reader) {
+            Err(error) => match receive(alloc, &mut self.reader) {
                 Ok(reply) => Ok(reply),
                 Err(_) => Err(Fault::of_connection(error)),
             },
         }
     }
 
-    fn hear_in_time(&mut self, alloc: Global) -> Result<Replied, Fault> {
-        match hear(alloc, &mut self.reader) {
+    fn receive_in_time(&mut self, alloc: Global) -> Result<Replied, Fault> {
+        match receive(alloc, &mut self.reader) {
             Err(Fault::Connection(error)) if error.kind() == ErrorKind::WouldBlock => {
                 Err(Fault::Silent(self.patience))
             }
-            heard => heard,
+            received => received,
         }
     }
 }
 
 /// Waits for the next reply and takes it. A fault: the connection fails or ends before the reply does, the reply has more
 /// than [`REPLY`] bytes before its newline, or it is not a reply; want of memory.
-pub fn hear<B: BufRead>(alloc: Global, reader: &mut B) -> Result<Replied, Fault> {
+pub fn receive<B: BufRead>(alloc: Global, reader: &mut B) -> Result<Replied, Fault> {
     let mut line = Vec::new(alloc);
     match read_line(reader, &mut line) {
         Ok(()) => replied_in(alloc, line.as_slice()),

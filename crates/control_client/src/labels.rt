@@ -11,14 +11,14 @@ use std::net::Net;
 
 /// What was asked of a label.
 #[derive(Clone, Copy)]
-struct Asked<'a> {
+struct LabelRequest<'a> {
     label: &'a str,
     // Its setting was changed; to disabled.
     is_set: bool,
     is_disabled: bool,
 }
 
-fn asked_by(command: &Command) -> Option<Asked<'_>> {
+fn asked_by(command: &Command) -> Option<LabelRequest<'_>> {
     match command {
         Command::Start { label } | Command::Stop { label } | Command::Print { label } => {
             Some(asked_of(label, false, false))
@@ -30,8 +30,8 @@ fn asked_by(command: &Command) -> Option<Asked<'_>> {
     }
 }
 
-fn asked_of(label: &Text, is_set: bool, is_disabled: bool) -> Asked<'_> {
-    Asked {
+fn asked_of(label: &Text, is_set: bool, is_disabled: bool) -> LabelRequest<'_> {
+    LabelRequest {
         label: label.as_str(),
         is_set,
         is_disabled,
@@ -56,13 +56,12 @@ pub(crate) fn tell_about<R: Net + Eprint>(
     if let Ok(list) = session.look(rt, alloc, &Request::List) {
         if let Ok(told) = text_about(alloc, &asked, list.text.as_str()) {
             let _written = eprint!(rt; "{told}");
-            drop(told);
         }
         drop(list);
     }
 }
 
-fn text_about(alloc: Global, asked: &Asked<'_>, list: &str) -> Result<String, AllocError> {
+fn text_about(alloc: Global, asked: &LabelRequest<'_>, list: &str) -> Result<String, AllocError> {
     let mut text = String::new(alloc);
     if is_listed(list, asked.label) {
         if asked.is_disabled {
@@ -106,7 +105,11 @@ fn put_front(label: &str, more: &str, text: &mut String) -> Result<(), AllocErro
     text.push_str(more)
 }
 
-fn put_absent(asked: &Asked<'_>, near: &[&str], text: &mut String) -> Result<(), AllocError> {
+fn put_absent(
+    asked: &LabelRequest<'_>,
+    near: &[&str],
+    text: &mut String,
+) -> Result<(), AllocError> {
     if near.is_empty() && !asked.is_set {
         return Ok(());
     }

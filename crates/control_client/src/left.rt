@@ -54,13 +54,18 @@ fn report_of<R: Files + Clock + Eprint>(
 ) -> Result<(), AllocError> {
     for pause in PAUSES {
         let left = named_in(rt, alloc, launcher, labels)?;
-        let goes_on = left.iter().any(|process| process.parent == launcher.pid);
-        if !goes_on {
-            return report_all(rt, alloc, launcher, left.as_slice());
+        if left.is_empty() {
+            return Ok(());
         }
+        let goes_on = left.iter().any(|process| process.parent == launcher.pid);
         drop(left);
+        if !goes_on {
+            break;
+        }
         thread::sleep(rt, Duration::from_millis(pause));
     }
+    // A run may end while one look goes through the processes. Its first process is then not listed, and another one of it is.
+    // So what is reported is what a further look finds.
     let left = named_in(rt, alloc, launcher, labels)?;
     report_all(rt, alloc, launcher, left.as_slice())
 }
@@ -114,6 +119,5 @@ fn report_one<R: Eprint>(rt: &R, alloc: Global, process: &RunProcess) -> Result<
     let mut text = String::new(alloc);
     add_still_runs(&mut text, process)?;
     let _written = eprintln!(rt; "jobctl: {}", text.as_str());
-    drop(text);
     Ok(())
 }

@@ -12,10 +12,10 @@ mod request;
 mod session;
 mod settings;
 
-pub use connection::{Connection, REPLY, hear};
+pub use connection::{Connection, REPLY, receive};
 pub use ctl_protocol::LINE_LIMIT;
 pub use fault::Fault;
 pub use program::{PACKAGED, SOCKET, jobctl, tell_setting};
 pub use reply::Replied;
 pub use request::request_of;
-pub use settings::{SettingFault, Settings, settings_of};
+pub use settings::{Environment, SettingFault, settings_of};

@@ -5,7 +5,7 @@ use crate::labels::tell_about;
 use crate::left::report_left;
 use crate::request::{label_of, text_at};
 use crate::session::Session;
-use crate::settings::{SettingFault, Settings, settings_of};
+use crate::settings::{Environment, SettingFault, settings_of};
 use ctl_protocol::{LoadRequest, Request};
 use exit_status::{NO_MEMORY, USAGE};
 use files_and_process::own_process::MARK;
@@ -44,39 +44,39 @@ impl Watched for HostRuntime {
 
 /// What is done with each file.
 #[derive(Clone, Copy)]
-enum Deed {
+enum Operation {
     Load { writes_setting: bool, force: bool },
     Unload { writes_setting: bool },
 }
 
 /// What the arguments ask for.
-enum Task<'a> {
-    Files(Deed, &'a Paths),
+enum CommandTask<'a> {
+    Files(Operation, &'a Paths),
     Request(Request<'a>),
 }
 
-fn asked(label: &Text, ask: Ask) -> Task<'_> {
-    Task::Request(Request::Ask {
+fn asked(label: &Text, ask: Ask) -> CommandTask<'_> {
+    CommandTask::Request(Request::Ask {
         job: TextRef::new(label.as_str()),
         ask,
     })
 }
 
-fn set(label: &Text, disabled: bool) -> Task<'_> {
-    Task::Request(Request::Set {
+fn set(label: &Text, disabled: bool) -> CommandTask<'_> {
+    CommandTask::Request(Request::Set {
         job: TextRef::new(label.as_str()),
         disabled,
     })
 }
 
-fn task_of(command: &Command) -> Task<'_> {
+fn task_of(command: &Command) -> CommandTask<'_> {
     match command {
         Command::Load {
             writes_setting,
             force,
             paths,
-        } => Task::Files(
-            Deed::Load {
+        } => CommandTask::Files(
+            Operation::Load {
                 writes_setting: *writes_setting,
                 force: *force,
             },
@@ -85,8 +85,8 @@ fn task_of(command: &Command) -> Task<'_> {
         Command::Unload {
             writes_setting,
             paths,
-        } => Task::Files(
-            Deed::Unload {
+        } => CommandTask::Files(
+            Operation::Unload {
                 writes_setting: *writes_setting,
             },
             paths,
@@ -96,11 +96,11 @@ fn task_of(command: &Command) -> Task<'_> {
         Command::Enable { label } => set(label, false),
         Command::Disable { label } => set(label, true),
         Command::Kickstart { kills_first, label } => asked(label, Ask::Kickstart(*kills_first)),
-        Command::List => Task::Request(Request::List),
-        Command::Print { label } => Task::Request(Request::Print {
+        Command::List => CommandTask::Request(Request::List),
+        Command::Print { label } => CommandTask::Request(Request::Print {
             job: TextRef::new(label.as_str()),
         }),
-        Command::Shutdown => Task::Request(Request::Shutdown),
+        Command::Shutdown => CommandTask::Request(Request::Shutdown),
     }
 }
 
@@ -155,8 +155,14 @@ pub fn jobctl<
                 && metadata(rt, PACKAGED).is_ok();
             let mut session = Session::new(socket, patience, is_unnamed);
             match task_of(&command) {
-                Task::Files(deed, paths) => hand_in(rt, alloc, &mut session, deed, paths),
-                Task::Request(request) => {
+                CommandTask::Files(operation, paths) => deliver(
+                    rt,
+                    alloc,
+                    &mut session,
+                    operation,
+                    paths,
+                ),
+                CommandTask::Request(request) => {
                     if let Some(code) = session.ask_once(rt, alloc, &request) {
                         tell_about(rt, alloc, &mut session, &command, code);
                     }
@@ -206,7 +212,7 @@ fn refuse_mark<R: Eprint>(rt: &R) -> u8 {
 }
 
 // What the arguments mean, given the environment's socket, if it names one.
-fn read_by(alloc: Global, settings: &Settings, words: &[String]) -> Result<Words, WordFault> {
+fn read_by(alloc: Global, settings: &Environment, words: &[String]) -> Result<Words, WordFault> {
     match &settings.socket {
         Some(socket) => read_words_beside(alloc, words, socket.as_str()),
         None => read_words(alloc, words),
@@ -248,9 +254,9 @@ fn explain_words<R: Print + Eprint>(rt: &R, alloc: Global, words: &[String]) -> 
     }
 }
 
-fn hand_in<
+fn deliver<
     R: Net + Files<File = File> + Clock + Print + Eprint + Watched + AllocGlobal + Clone + Drop,
->(rt: &R, alloc: Global, session: &mut Session, deed: Deed, paths: &Paths) {
+>(rt: &R, alloc: Global, session: &mut Session, operation: Operation, paths: &Paths) {
     let Ok(files) = files_at(rt, paths.as_slice()) else {
         session.note(want_memory(rt));
         return;
@@ -258,7 +264,7 @@ fn hand_in<
     let is_named = files.len() > 1;
     let mut unloaded = Vec::new(alloc);
     for file in files.iter() {
-        match hand_in_one(rt, alloc, session, deed, file, is_named) {
+        match deliver_one(rt, alloc, session, operation, file, is_named) {
             Ok(Some(label)) => note_unloaded(label, &mut unloaded),
             Ok(None) => {}
             Err(fault) => {
@@ -273,7 +279,6 @@ fn hand_in<
     }
     drop(files);
     report_left(rt, alloc, session.socket(), unloaded.as_slice());
-    drop(unloaded);
 }
 
 // If there is no memory for it, it does not look for what its runs left.
@@ -283,11 +288,11 @@ fn note_unloaded(label: Text, unloaded: &mut Vec<Text>) {
 }
 
 // The label, if it was unloaded.
-fn hand_in_one<R: Net + Files + Print + Eprint + Watched>(
+fn deliver_one<R: Net + Files + Print + Eprint + Watched>(
     rt: &R,
     alloc: Global,
     session: &mut Session,
-    deed: Deed,
+    operation: Operation,
     file: &Found,
     is_named: bool,
 ) -> Result<Option<Text>, Fault> {
@@ -309,18 +314,18 @@ fn hand_in_one<R: Net + Files + Print + Eprint + Watched>(
         Kind::File => {}
     }
     let heading = if is_named { Some(name) } else { None };
-    let read = match word_for(rt, alloc, session, deed, path) {
+    let read = match word_for(rt, alloc, session, operation, path) {
         Some(label) => Ok(label),
-        None => text_for(rt, alloc, deed, path),
+        None => text_for(rt, alloc, operation, path),
     };
     match read {
         Ok(text) => {
-            let answer = session.ask(rt, alloc, &request_with(deed, &text), heading);
-            match (deed, answer) {
-                (Deed::Unload { .. }, Ok(0)) => Ok(Some(text)),
+            let answer = session.ask(rt, alloc, &request_with(operation, &text), heading);
+            match (operation, answer) {
+                (Operation::Unload { .. }, Ok(0)) => Ok(Some(text)),
                 (_, answer) => {
                     drop(text);
-                    point_out(rt, deed, name, answer?);
+                    point_out(rt, operation, name, answer?);
                     Ok(None)
                 }
             }
@@ -334,10 +339,10 @@ fn word_for<R: Net + Files>(
     rt: &R,
     alloc: Global,
     session: &mut Session,
-    deed: Deed,
+    operation: Operation,
     path: &str,
 ) -> Option<Text> {
-    if !matches!(deed, Deed::Unload { .. }) || !may_be_label(path) || is_there(rt, path) {
+    if !matches!(operation, Operation::Unload { .. }) || !may_be_label(path) || is_there(rt, path) {
         return None;
     }
     let request = Request::Print {
@@ -367,28 +372,33 @@ fn is_there<R: Files>(rt: &R, path: &str) -> bool {
 }
 
 // On a terminal, names the command that shows where a faulty definition has its fault.
-fn point_out<R: Eprint + Watched>(rt: &R, deed: Deed, name: &str, code: u8) {
+fn point_out<R: Eprint + Watched>(rt: &R, operation: Operation, name: &str, code: u8) {
     let is_faulty = code == Refusal::BadDefinition(Reason::NotJson, KeyName::NoKey).code();
-    if is_faulty && matches!(deed, Deed::Load { .. }) && rt.is_watched() {
+    if is_faulty && matches!(operation, Operation::Load { .. }) && rt.is_watched() {
         let _written = eprintln!(rt; "jobctl: `jobscope check {name}` says where");
     }
 }
 
 /// What the request for a file says: the text of its definition, or for an unload the label in it. A fault of the file: it can't be read, is too long
 /// for a line, or is not UTF-8. For an unload it is a fault too if the file is not a definition, so that its label is not known.
-fn text_for<R: Files>(rt: &R, alloc: Global, deed: Deed, path: &str) -> Result<Text, Fault> {
+fn text_for<R: Files>(
+    rt: &R,
+    alloc: Global,
+    operation: Operation,
+    path: &str,
+) -> Result<Text, Fault> {
     let text = text_at(rt, alloc, path)?;
-    match deed {
-        Deed::Load { .. } => Ok(text),
-        Deed::Unload { .. } => label_of(alloc, text),
+    match operation {
+        Operation::Load { .. } => Ok(text),
+        Operation::Unload { .. } => label_of(alloc, text),
     }
 }
 
 /// The request that says this.
-fn request_with(deed: Deed, text: &Text) -> Request<'_> {
+fn request_with(operation: Operation, text: &Text) -> Request<'_> {
     let said = TextRef::new(text.as_str());
-    match deed {
-        Deed::Load {
+    match operation {
+        Operation::Load {
             writes_setting,
             force,
         } => Request::Load(LoadRequest {
@@ -396,7 +406,7 @@ fn request_with(deed: Deed, text: &Text) -> Request<'_> {
             writes_setting,
             force,
         }),
-        Deed::Unload { writes_setting } => Request::Unload {
+        Operation::Unload { writes_setting } => Request::Unload {
             job: said,
             writes_setting,
         },

@@ -146,9 +146,7 @@ fn print<R: Print + Eprint + Watched>(
         return print_text(rt, reply.code, reply.text.as_str(), name);
     }
     let shown = shown_text(alloc, reply.text.as_str())?;
-    let printed = print_text(rt, reply.code, shown.as_str(), name);
-    drop(shown);
-    printed
+    print_text(rt, reply.code, shown.as_str(), name)
 }
 
 fn print_text<R: Print + Eprint>(

@@ -9,7 +9,7 @@ const PATIENCE: u32 = 30;
 
 /// What the environment says.
 #[derive(Drop)]
-pub struct Settings {
+pub struct Environment {
     /// `JOBD_SOCKET`: the launcher's control socket, if the arguments name none.
     pub socket: Option<String>,
     /// `JOBCTL_TIMEOUT`: the longest wait for a part of an answer, in seconds; 0 means no limit.
@@ -27,7 +27,7 @@ pub enum SettingFault {
 }
 
 /// What the environment says. A variable that is empty says nothing.
-pub fn settings_of<R: Env + AllocGlobal>(rt: &R) -> Result<Settings, SettingFault> {
+pub fn settings_of<R: Env + AllocGlobal>(rt: &R) -> Result<Environment, SettingFault> {
     let socket = match said(rt, "JOBD_SOCKET") {
         Ok(socket) => socket,
         Err(VarError::OutOfMemory) => return Err(SettingFault::NoMemory),
@@ -42,7 +42,7 @@ pub fn settings_of<R: Env + AllocGlobal>(rt: &R) -> Result<Settings, SettingFaul
         Err(VarError::OutOfMemory) => return Err(SettingFault::NoMemory),
         Err(_) => return Err(SettingFault::Patience),
     };
-    Ok(Settings { socket, patience })
+    Ok(Environment { socket, patience })
 }
 
 fn said<R: Env + AllocGlobal>(rt: &R, name: &str) -> Result<Option<String>, VarError> {

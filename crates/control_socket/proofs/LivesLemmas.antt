@@ -8,23 +8,23 @@ use Rattle.ctl_protocol.specs.Lines.{Feed, GivesLine}
 use Rattle.control_socket.specs.declared.client.Client.{Client}
 use Rattle.control_socket.specs.declared.dialogue.Dialogue.{Dialogue}
 use Rattle.control_socket.specs.Clients.{AllGoOn, AllWait, Comes, GoesOn, MayEnd, MayGo, MovesOn, Waits, WaitsOrComes, WaitsOrGoes, all_stand, goes_on}
-use Rattle.control_socket.specs.Dialogues.{Answers, AnswersNext, Converses, EndsWith, HearsOn, Loses, Reads, Talks, begun, talked, took, ended, sent, silent, further, unanswered, reply_lost, unheard, heard_on}
+use Rattle.control_socket.specs.Dialogues.{Answers, AnswersNext, Converses, EndsWith, ReceivesOn, Loses, Reads, Talks, begun, talked, took, ended, sent, silent, further, unanswered, reply_lost, not_received, received_on}
 use Rattle.control_socket.specs.Exchanges.{brought_by, brought_in, lines_in, replies_in, sent_in}
-use Rattle.control_socket.specs.Lives.{AnswersClients, IsAlive, IsVacant, Lives, Rounds, answered_of, brought_as, brought_between, brought_to, came, heard, next_line, no_line, no_round, replied_to, sent_to, served, taken, went_on}
+use Rattle.control_socket.specs.Lives.{AnswersClients, IsAlive, IsVacant, Lives, Rounds, answered_of, brought_as, brought_between, brought_to, came, received, next_line, no_line, no_round, replied_to, sent_to, served, taken, went_on}
 use Rattle.control_socket.proofs.ExchangesLemmas.{brought-on, lines-all, sent-all}
 
-heard-replies : {first new : Dialogue} → HearsOn first new → new.replies.items ≡ first.replies.items
-heard-replies unheard = refl
-heard-replies (heard_on {mid = mid} {new = new} more reads) = go reads ∙ heard-replies more where
+received-replies : {first new : Dialogue} → ReceivesOn first new → new.replies.items ≡ first.replies.items
+received-replies not_received = refl
+received-replies (received_on {mid = mid} {new = new} more reads) = go reads ∙ received-replies more where
   go : Reads mid new → new.replies.items ≡ mid.replies.items
   go (inl (piece, takes)) = takes.replies
   go (inr (inl ends)) = ends.replies
   go (inr (inr same)) = ap (λ (d : Dialogue). d.replies.items) same
 
-heard-lines : {first new : Dialogue} → (hears : HearsOn first new) → new.requests.lines ≡ first.requests.lines ++ brought_between hears
-heard-lines {first = first} unheard = sym (append-nil first.requests.lines)
-heard-lines {first = first} (heard_on {mid = mid} {new = new} more reads) =
-    go reads ∙ ap (λ l. l ++ brought_as reads) (heard-lines more) ∙ append_assoc first.requests.lines (brought_between more) (brought_as reads) where
+received-lines : {first new : Dialogue} → (receives : ReceivesOn first new) → new.requests.lines ≡ first.requests.lines ++ brought_between receives
+received-lines {first = first} not_received = sym (append-nil first.requests.lines)
+received-lines {first = first} (received_on {mid = mid} {new = new} more reads) =
+    go reads ∙ ap (λ l. l ++ brought_as reads) (received-lines more) ∙ append_assoc first.requests.lines (brought_between more) (brought_as reads) where
       go : (reads : Reads mid new) → new.requests.lines ≡ mid.requests.lines ++ brought_as reads
       go (inl (piece, takes)) = ap (λ (f : Feed). f.lines) takes.requests ∙ brought-on piece mid.requests mid.intake
       go (inr (inl ends)) = ap (λ (f : Feed). f.lines) ends.requests ∙ sym (append-nil mid.requests.lines)
@@ -101,11 +101,11 @@ module _ {A : Type 0} (Answered : List ℕ → Reply → A → A → Type 0) whe
       its-lines (get mid key) now (get new key) after (all-moved alive more key) last.its (all-lines alive more all)
 
   alive-waits : {old new : Client} → IsAlive Answered old → Waits old new → IsAlive Answered new
-  alive-waits {old = old} {new = new} alive waits = go alive waits.hears where
-    go : IsAlive Answered old → (IsSome new.failed ⊎ ((new.failed ≡ old.failed) × HearsOn old.dialogue new.dialogue)) → IsAlive Answered new
+  alive-waits {old = old} {new = new} alive waits = go alive waits.receives where
+    go : IsAlive Answered old → (IsSome new.failed ⊎ ((new.failed ≡ old.failed) × ReceivesOn old.dialogue new.dialogue)) → IsAlive Answered new
     go before (inl failed) = inl failed
     go (inl failed) (inr after) = inl (subst IsSome (sym after.0) failed)
-    go (inr life) (inr after) = inr (heard life after.1)
+    go (inr life) (inr after) = inr (received life after.1)
 
   alive-came : (new : Option Client) → IfSome new Comes → IfSome new (IsAlive Answered)
   alive-came None comes = tt
@@ -135,12 +135,12 @@ module _ {A : Type 0} (Answered : List ℕ → Reply → A → A → Type 0) whe
   sent-to (went_on {mid = mid} {new = new} life all) =
       append_assoc (sent_to life) (sent_in all) new.replies.items ∙ ap (λ l. sent_to life ++ l) (sent-all all)
       ∙ sym (append_assoc (sent_to life) mid.replies.items (replies_in all)) ∙ ap (λ l. l ++ replies_in all) (sent-to life)
-  sent-to (heard life hears) = ap (λ l. sent_to life ++ l) (heard-replies hears) ∙ sent-to life
+  sent-to (received life receives) = ap (λ l. sent_to life ++ l) (received-replies receives) ∙ sent-to life
 
   pub answered-of : {dialogue : Dialogue} → (life : Lives Answered dialogue) → answered_of life ++ dialogue.requests.lines ≡ brought_to life
   answered-of (came empty) = ap (λ (f : Feed). f.lines) empty.requests
   answered-of (went_on {mid = mid} {new = new} life all) =
       append_assoc (answered_of life) (lines_in all) new.requests.lines ∙ ap (λ l. answered_of life ++ l) (lines-all all)
       ∙ sym (append_assoc (answered_of life) mid.requests.lines (brought_in all)) ∙ ap (λ l. l ++ brought_in all) (answered-of life)
-  answered-of (heard {mid = mid} life hears) =
-      ap (λ l. answered_of life ++ l) (heard-lines hears) ∙ sym (append_assoc (answered_of life) mid.requests.lines (brought_between hears)) ∙ ap (λ l. l ++ brought_between hears) (answered-of life)
+  answered-of (received {mid = mid} life receives) =
+      ap (λ l. answered_of life ++ l) (received-lines receives) ∙ sym (append_assoc (answered_of life) mid.requests.lines (brought_between receives)) ∙ ap (λ l. l ++ brought_between receives) (answered-of life)

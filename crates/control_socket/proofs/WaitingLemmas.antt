@@ -6,30 +6,30 @@ use Rattle.std.proofs.lemmas.Bool.Decides.{nat_tests}
 use Rattle.slab.specs.Slab.{Slab, Updates, get, with_value}
 use Rattle.control_socket.specs.declared.client.Client.{Client}
 use Rattle.control_socket.specs.declared.dialogue.Dialogue.{Dialogue}
-use Rattle.control_socket.specs.Dialogues.{HearsOn, Reads, unheard, heard_on}
-use Rattle.control_socket.specs.Clients.{AllWait, Comes, IsFresh, MayGo, Waits, WaitsAt, WaitsOrComes, WaitsOrGoes}
+use Rattle.control_socket.specs.Dialogues.{ReceivesOn, Reads, not_received, received_on}
+use Rattle.control_socket.specs.Clients.{AllWait, Comes, IsFresh, MayGo, StandsStill, Waits, WaitsAt, WaitsOn, WaitsOrComes, WaitsOrGoes}
 
-hears_append : {first mid new : Dialogue} → HearsOn first mid → HearsOn mid new → HearsOn first new
-hears_append hears unheard = hears
-hears_append hears (heard_on more last) = heard_on (hears_append hears more) last
+receives_append : {first mid new : Dialogue} → ReceivesOn first mid → ReceivesOn mid new → ReceivesOn first new
+receives_append receives not_received = receives
+receives_append receives (received_on more last) = received_on (receives_append receives more) last
 
 pub waits_same : (client : Client) → Waits client client
-waits_same client = record { taken = refl; hears = inr (refl, unheard) }
+waits_same client = record { taken = refl; receives = inr (refl, not_received) }
 
 pub waits_kept : {old new : Client} → new.taken ≡ old.taken → new.failed ≡ old.failed → new.dialogue ≡ old.dialogue → Waits old new
-waits_kept {old = old} taken failed same = record { taken = taken; hears = inr (failed, subst (λ d. HearsOn old.dialogue d) (sym same) unheard) }
+waits_kept {old = old} taken failed same = record { taken = taken; receives = inr (failed, subst (λ d. ReceivesOn old.dialogue d) (sym same) not_received) }
 
 pub waits_read : {old new : Client} → new.taken ≡ old.taken → new.failed ≡ old.failed → Reads old.dialogue new.dialogue → Waits old new
-waits_read taken failed reads = record { taken = taken; hears = inr (failed, heard_on unheard reads) }
+waits_read taken failed reads = record { taken = taken; receives = inr (failed, received_on not_received reads) }
 
 waits_append : {first mid new : Client} → Waits first mid → Waits mid new → Waits first new
-waits_append {first = first} {mid = mid} {new = new} one more = record { taken = more.taken ∙ one.taken; hears = go one.hears more.hears } where
-  go : (IsSome mid.failed ⊎ ((mid.failed ≡ first.failed) × HearsOn first.dialogue mid.dialogue)) →
-      (IsSome new.failed ⊎ ((new.failed ≡ mid.failed) × HearsOn mid.dialogue new.dialogue)) →
-      IsSome new.failed ⊎ ((new.failed ≡ first.failed) × HearsOn first.dialogue new.dialogue)
+waits_append {first = first} {mid = mid} {new = new} one more = record { taken = more.taken ∙ one.taken; receives = go one.receives more.receives } where
+  go : (IsSome mid.failed ⊎ ((mid.failed ≡ first.failed) × ReceivesOn first.dialogue mid.dialogue)) →
+      (IsSome new.failed ⊎ ((new.failed ≡ mid.failed) × ReceivesOn mid.dialogue new.dialogue)) →
+      IsSome new.failed ⊎ ((new.failed ≡ first.failed) × ReceivesOn first.dialogue new.dialogue)
   go before (inl failed) = inl failed
   go (inl failed) (inr after) = inl (subst IsSome (sym after.0) failed)
-  go (inr before) (inr after) = inr (after.0 ∙ before.0, hears_append before.1 after.1)
+  go (inr before) (inr after) = inr (after.0 ∙ before.0, receives_append before.1 after.1)
 
 at_same : (up : ℕ) (client : Option Client) → WaitsOrComes up client client
 at_same up None = tt
@@ -115,3 +115,18 @@ module _ {up : ℕ} where
       }) where
         new_one : Comes client
         new_one = record { first = client; fresh = fresh; waits = waits_same client }
+
+-- ---- in the same `serve`
+
+pub wait_then : {up up' last : ℕ} {old mid new : Slab Client} → WaitsOn up old up' mid → WaitsOn up' mid last new → WaitsOn up old last new
+wait_then one more = record { wait = all_then one.same one.wait more.wait; same = more.same ∙ one.same }
+
+-- nothing came of it
+pub wait_still : {up : ℕ} {clients : Slab Client} → WaitsOn up clients up clients
+wait_still = record { wait = all_same refl; same = refl }
+
+pub leaves : {up up' : ℕ} {old new : Slab Client} → StandsStill up old up' new → WaitsOn up old up' new
+leaves still = record { wait = all_same still.clients; same = still.same }
+
+pub wait_at : {key up up' : ℕ} {old new : Slab Client} → WaitsAt key up old new → up' ≡ up → WaitsOn up old up' new
+wait_at waits same = record { wait = all_at waits; same = same }

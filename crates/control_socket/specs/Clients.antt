@@ -3,7 +3,8 @@ use Rattle.std.specs.Prelude.{◌≡◌, ◌≢◌, ◌⊎◌, ◌-◌, ◌≤�
 use Rattle.slab.specs.Slab.{Slab, Updates, get}
 use Rattle.history_model.specs.declared.Reply.{Reply}
 use Rattle.control_socket.specs.declared.client.Client.{Client}
-use Rattle.control_socket.specs.Dialogues.{Converses, EndsWith, HearsOn, IsEmpty}
+use Rattle.control_socket.specs.declared.control.ControlSocket.{ControlSocket}
+use Rattle.control_socket.specs.Dialogues.{Converses, EndsWith, ReceivesOn, IsEmpty}
 
 -- a client stays, if it was moved on without an error, or it goes; each other one stays as it was
 abbrev pub StaysOrGoes : {P E : Type 0} → ℕ → Result P E → Slab Client → Slab Client → Type 0
@@ -37,7 +38,7 @@ module _ {A : Type 0} (Answered : List ℕ → Reply → A → A → Type 0) whe
 -- One that waits its turn: what it sent on is taken, or a read of it failed, and no more. None of its lines is answered, and nothing is sent to it.
 pub record Waits (old new : Client) : Type 0 where
   pub taken : new.taken ≡ old.taken
-  pub hears : IsSome new.failed ⊎ ((new.failed ≡ old.failed) × HearsOn old.dialogue new.dialogue)
+  pub receives : IsSome new.failed ⊎ ((new.failed ≡ old.failed) × ReceivesOn old.dialogue new.dialogue)
 
 -- it says nothing: no whole line is left to be answered, and no reply to be sent
 abbrev pub IsSilent : Client → Type 0
@@ -80,3 +81,21 @@ pub record AllWait (up : ℕ) (old new : Slab Client) : Type 0 where
 pub record WaitsAt (key up : ℕ) (old new : Slab Client) : Type 0 where
   pub its : WaitsOrComes up (get old key) (get new key)
   pub others : (other : ℕ) → other ≢ key → get new other ≡ get old other
+
+-- Each client waits, in the same `serve`: its `up` is still that one.
+pub record WaitsOn (up : ℕ) (old : Slab Client) (up' : ℕ) (new : Slab Client) : Type 0 where
+  pub wait : AllWait up old new
+  pub same : up' ≡ up
+
+-- the control socket lets each of its clients wait, in the same `serve`
+abbrev pub LetsWait : ControlSocket → ControlSocket → Type 0
+LetsWait old new = WaitsOn old.up old.clients new.up new.clients
+
+-- The clients are the same ones, in the same `serve`.
+pub record StandsStill (up : ℕ) (old : Slab Client) (up' : ℕ) (new : Slab Client) : Type 0 where
+  pub clients : new ≡ old
+  pub same : up' ≡ up
+
+-- the control socket leaves its clients as they are, in the same `serve`
+abbrev pub LeavesClients : ControlSocket → ControlSocket → Type 0
+LeavesClients old new = StandsStill old.up old.clients new.up new.clients

@@ -66,9 +66,9 @@ abbrev pub Reads : Dialogue → Dialogue → Type 0
 Reads old new = ((piece : List ℕ) × Takes piece old new) ⊎ Ends old new ⊎ (new ≡ old)
 
 -- pieces came, one after another, perhaps the end
-pub data HearsOn (first : Dialogue) : Dialogue → Type 0 where
-  unheard : HearsOn first first
-  heard_on : {mid new : Dialogue} → HearsOn first mid → Reads mid new → HearsOn first new
+pub data ReceivesOn (first : Dialogue) : Dialogue → Type 0 where
+  not_received : ReceivesOn first first
+  received_on : {mid new : Dialogue} → ReceivesOn first mid → Reads mid new → ReceivesOn first new
 
 -- what a client is still taken from, once each whole line is answered
 abbrev pub intake_after : Intake → Intake

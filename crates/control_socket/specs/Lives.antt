@@ -7,7 +7,7 @@ use Rattle.ctl_protocol.specs.Lines.{Feed, GivesLine}
 use Rattle.control_socket.specs.declared.client.Client.{Client}
 use Rattle.control_socket.specs.declared.dialogue.Dialogue.{Dialogue}
 use Rattle.control_socket.specs.Clients.{AllGoOn, AllWait}
-use Rattle.control_socket.specs.Dialogues.{Converses, HearsOn, IsEmpty, Reads, heard_on, unheard}
+use Rattle.control_socket.specs.Dialogues.{Converses, ReceivesOn, IsEmpty, Reads, received_on, not_received}
 use Rattle.control_socket.specs.Exchanges.{brought_by, brought_in, lines_in, replies_in, sent_in}
 
 -- nobody has a place
@@ -26,7 +26,7 @@ module _ {A : Type 0} (Answered : List ℕ → Reply → A → A → Type 0) whe
   pub data Lives : Dialogue → Type 0 where
     came : {dialogue : Dialogue} → IsEmpty dialogue → Lives dialogue
     went_on : {mid new : Dialogue} {before after : A} → Lives mid → Converses Answered mid before new after → Lives new
-    heard : {mid new : Dialogue} → Lives mid → HearsOn mid new → Lives new
+    received : {mid new : Dialogue} → Lives mid → ReceivesOn mid new → Lives new
 
   -- a read of it failed, for which it goes unanswered, or its dialogue is its own from the beginning
   abbrev pub IsAlive : Client → Type 0
@@ -44,31 +44,31 @@ abbrev pub brought_as : {old new : Dialogue} → Reads old new → List (List �
 brought_as {old = old} (inl (piece, takes)) = brought_by piece old.requests old.intake
 brought_as (inr other) = []
 
-abbrev pub brought_between : {first new : Dialogue} → HearsOn first new → List (List ℕ)
-brought_between unheard = []
-brought_between (heard_on more reads) = brought_between more ++ brought_as reads
+abbrev pub brought_between : {first new : Dialogue} → ReceivesOn first new → List (List ℕ)
+brought_between not_received = []
+brought_between (received_on more reads) = brought_between more ++ brought_as reads
 
 module _ {A : Type 0} {Answered : List ℕ → Reply → A → A → Type 0} where
   -- the lines of the client that were answered, in order
   abbrev pub answered_of : {dialogue : Dialogue} → Lives Answered dialogue → List (List ℕ)
   answered_of (came empty) = []
   answered_of (went_on life all) = answered_of life ++ lines_in all
-  answered_of (heard life hears) = answered_of life
+  answered_of (received life receives) = answered_of life
 
   -- the lines that its pieces brought
   abbrev pub brought_to : {dialogue : Dialogue} → Lives Answered dialogue → List (List ℕ)
   brought_to (came empty) = []
   brought_to (went_on life all) = brought_to life ++ brought_in all
-  brought_to (heard life hears) = brought_to life ++ brought_between hears
+  brought_to (received life receives) = brought_to life ++ brought_between receives
 
   -- the lines of the replies to its lines, in their order
   abbrev pub replied_to : {dialogue : Dialogue} → Lives Answered dialogue → List ℕ
   replied_to (came empty) = []
   replied_to (went_on life all) = replied_to life ++ replies_in all
-  replied_to (heard life hears) = replied_to life
+  replied_to (received life receives) = replied_to life
 
   -- the bytes that it was sent
   abbrev pub sent_to : {dialogue : Dialogue} → Lives Answered dialogue → List ℕ
   sent_to (came empty) = []
   sent_to (went_on life all) = sent_to life ++ sent_in all
-  sent_to (heard life hears) = sent_to life
+  sent_to (received life receives) = sent_to life

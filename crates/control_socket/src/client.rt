@@ -42,7 +42,7 @@ pub(crate) struct Client {
     // The number of the last `serve` that checked it; 0 if none did since it came, or since something came between two.
     looked: u64,
     // The number of the last `serve` in which it came, sent something, or had a line or a reply under way.
-    heard: u64,
+    received: u64,
     // The `up` at which it last took something of a reply, or had none to take.
     taken: u64,
     // A read between two calls of `serve` failed so.
@@ -58,7 +58,7 @@ impl Client {
             stream,
             dialogue: Dialogue::new(alloc),
             looked: 0,
-            heard: round,
+            received: round,
             taken: 0,
             failed: None,
         }
@@ -77,7 +77,7 @@ impl Client {
 
     /// Since which `serve` the client is silent, if the one of this number checked it and found nothing under way.
     pub(crate) fn silent_since(&self, round: u64) -> Option<u64> {
-        (self.looked == round && self.heard < round).then_some(self.heard)
+        (self.looked == round && self.received < round).then_some(self.received)
     }
 
     /// Since which `up` the client takes nothing of its reply, if the `serve` of this number found it so, and that is a
@@ -94,13 +94,13 @@ impl Client {
 
     /// Takes a piece that came between two calls of `serve`. True: one came, or the read failed, and the next `serve`
     /// has to check it first.
-    pub(crate) fn hear(&mut self, room: &mut [u8]) -> bool
+    pub(crate) fn receive(&mut self, room: &mut [u8]) -> bool
         ensures { Waits self.old self.new }
     {
         let has_come = self.read_or_note(room);
         if has_come {
             // The next `serve` answers it.
-            self.heard = self.looked.saturating_add(1);
+            self.received = self.looked.saturating_add(1);
             self.looked = 0;
         }
         has_come
@@ -165,7 +165,7 @@ impl Client {
             Err(error) => return Err(error),
         }
         if !self.dialogue.is_silent() {
-            self.heard = self.looked;
+            self.received = self.looked;
         }
         Ok(self.progress(is_more))
     }
@@ -215,7 +215,7 @@ impl Client {
         match self.stream.read(room) {
             Ok(0) => self.dialogue.end(),
             Ok(count) => {
-                self.heard = self.looked;
+                self.received = self.looked;
                 self.dialogue.take(&room[..count])?;
             }
             Err(error) if error.kind() == ErrorKind::WouldBlock => return Ok(false),

@@ -1,24 +1,24 @@
-//! The control socket with its clients.
+//! The control socket: its files, and who is served on it.
 
-ghost use Rattle.std.specs.Prelude.{◌≡◌, [], IfOk, IfSome, true, max, min};
-ghost use Rattle.slab.specs.Slab.{get};
+ghost use Rattle.std.specs.Prelude.{◌≡◌, [], IfOk, max, min};
 ghost use Rattle.control_socket.specs.Lives.{IsVacant};
 ghost use Rattle.control_socket.specs.Serving.{Serves};
-ghost use Rattle.control_socket.specs.Clients.{AllGoOn, AllWait, MayGo, MovesOn, StaysOrGoes, WaitsAt};
+ghost use Rattle.control_socket.specs.Clients.{AllGoOn, MovesOn, StaysOrGoes};
 
-use crate::client::{Client, PIECES, Progress, TOO_MANY};
+use crate::accepting::spare_descriptor;
+use crate::client::{Client, PIECES, Progress};
 use crate::notices::Notices;
 use crate::turn::{Answers, LINES, Limit, Turn};
 use files_and_process::own_files::LockFile;
 use files_and_process::socket_file;
 use files_and_process::socket_file::SocketMark;
 use history_model::Text;
-use mio::net::{UnixListener, UnixStream};
+use mio::net::UnixListener;
 use mio::{Interest, Registry, Token};
 use slab::Slab;
 use std::alloc::{AllocError, Global};
 use std::fs::{File, Files};
-use std::io::{Error, ErrorKind, Read, Write};
+use std::io::{Error, ErrorKind};
 use std::net::Net;
 use std::{io, mem};
 
@@ -28,41 +28,35 @@ pub const CLIENTS: usize = 64;
 /// How many bytes are read at once.
 const PIECE: usize = 16_384;
 
-/// How many milliseconds of `up` lie at least between two checks of the socket's file.
-const BETWEEN_LOOKS: u64 = 1_000;
-
-/// For how many milliseconds of `up` no place must have been found before a new client is turned away.
-const FULL: u64 = 1_000;
-
 /// The control socket: one listener at a path, and its clients.
 ///
 /// Readiness only wakes the poll: each call of `serve` tries every client. A client takes at most the memory of its longest
 /// line ([`ctl_protocol::LINE_LIMIT`]) and of the replies that it has not taken: [`crate::UNSENT`] bytes and one reply more.
 pub struct ControlSocket {
-    alloc: Global,
-    listener: UnixListener,
+    pub(crate) alloc: Global,
+    pub(crate) listener: UnixListener,
     path: Text,
     mark: SocketMark,
     lock: LockFile,
-    token: Token,
-    clients: Slab<Client>,
+    pub(crate) token: Token,
+    pub(crate) clients: Slab<Client>,
     // How many are served at a time.
-    most: usize,
-    room: Vec<u8>,
-    notices: Notices,
+    pub(crate) most: usize,
+    pub(crate) room: Vec<u8>,
+    pub(crate) notices: Notices,
     // A descriptor that is kept for an accept which finds none free. None, as long as the system gives none.
-    spare: Option<File>,
+    pub(crate) spare: Option<File>,
     // How many calls of `serve` there were, and the `up` of the last.
-    rounds: u64,
-    up: u64,
+    pub(crate) rounds: u64,
+    pub(crate) up: u64,
     // The `up` from which on the socket's file is checked again.
-    next_look: u64,
+    pub(crate) next_look: u64,
     // The next `serve` begins with this key.
     first: usize,
     // The last `serve` checked every client.
-    is_whole: bool,
+    pub(crate) is_whole: bool,
     // Since this `up` no place was found for a new client.
-    full_since: Option<u64>,
+    pub(crate) full_since: Option<u64>,
 }
 
 // for the proof: who drops it calls this, in place of dropping each part
@@ -88,36 +82,6 @@ impl Drop for ControlSocket {
             full_since: _,
         } = self;
     }
-}
-
-/// Where a new client can be.
-#[derive(Clone, Copy)]
-enum Place {
-    Free,
-    /// In the place of the client of this key, which is disconnected.
-    Of(usize),
-    /// Not known until a `serve` checked every client.
-    Unknown,
-    Nowhere,
-}
-
-/// How it goes in a call of `accept`.
-#[derive(Drop)]
-struct Taking {
-    // The last client that came was taken, and no accept was refused.
-    is_well: bool,
-    // An accept was refused, and a descriptor was given up for one more.
-    is_short: bool,
-    // Why it was refused, if it is not known whether somebody waits.
-    untold: Option<Error>,
-    is_over: bool,
-}
-
-/// In which way a client does nothing: it sends nothing, or it takes nothing of its reply.
-#[derive(Clone, Copy)]
-enum Still {
-    Silent,
-    Stuck,
 }
 
 impl ControlSocket {
@@ -276,27 +240,10 @@ impl ControlSocket {
                 false
             }
             Err(error) => {
-                self.notices.let_go(error);
+                self.notices.disconnected(error);
                 drop(self.clients.try_remove(key));
                 false
             }
-        }
-    }
-
-    /// Takes the clients that wait. Call it after a `serve`, which closes the clients that are done. It answers no line
-    /// of a client.
-    ///
-    /// If there are already the most clients that may be ([`set_room`](ControlSocket::set_room)), a silent or a stuck
-    /// client is disconnected for the new one. The new client waits if there is neither, and is turned away after a
-    /// second (`place`). Without a free descriptor it accepts by the one that is kept for this (`try_once_more`). Once
-    /// a second of `up` at most it checks the files of the socket and of its lock (`keep_file`).
-    pub fn accept<R: Files<File = File> + Net>(&mut self, rt: &R, registry: &Registry)
-        ensures { AllWait self.old.up self.old.clients self.new.clients }
-    {
-        self.accept_all(rt, registry);
-        if self.up >= self.next_look {
-            self.next_look = self.up.saturating_add(BETWEEN_LOOKS);
-            self.keep_file(rt, registry);
         }
     }
 
@@ -304,7 +251,7 @@ impl ControlSocket {
     // the socket again as `open` does, and keeps its clients. If the second is not, it takes the lock on a new file. It
     // reports that, or why it can't be done. If the system does not say whether a file is there, it reports this, and
     // makes nothing.
-    fn keep_file<R: Files<File = File> + Net>(&mut self, rt: &R, registry: &Registry)
+    pub(crate) fn keep_file<R: Files<File = File> + Net>(&mut self, rt: &R, registry: &Registry)
         ensures { self.new.clients ≡ self.old.clients }
     {
         match socket_file::is_at(rt, self.path.as_str(), self.mark) {
@@ -371,358 +318,6 @@ impl ControlSocket {
                 Err(error)
             }
         }
-    }
-
-    // Takes the clients that wait.
-    fn accept_all<R: Files<File = File>>(&mut self, rt: &R, registry: &Registry)
-        ensures wait { AllWait self.old.up self.old.clients self.new.clients }
-    {
-        self.keep_spare(rt);
-        let mut taking = Taking {
-            is_well: false,
-            is_short: false,
-            untold: None,
-            is_over: false,
-        };
-        for _ in 0..2 * CLIENTS {
-            self.accept_next(rt, registry, &mut taking);
-        }
-        drop(taking);
-        self.keep_spare(rt);
-    }
-
-    // Takes the next client that waits, if there is a place for it.
-    fn accept_next<R: Files<File = File>>(
-        &mut self,
-        rt: &R,
-        registry: &Registry,
-        taking: &mut Taking,
-    )
-        ensures wait { AllWait self.old.up self.old.clients self.new.clients }
-        ensures up { self.new.up ≡ self.old.up }
-    {
-        if taking.is_over {
-            return;
-        }
-        let place = self.place();
-        if let Place::Unknown = place {
-            taking.is_over = true;
-            return;
-        }
-        match self.listener.accept() {
-            Ok((stream, _)) => self.take(rt, registry, stream, place, taking),
-            Err(error) => self.go_on(error, taking),
-        }
-    }
-
-    // A client came. If a descriptor was given up for it, one is kept again first.
-    fn take<R: Files<File = File>>(
-        &mut self,
-        rt: &R,
-        registry: &Registry,
-        stream: UnixStream,
-        place: Place,
-        taking: &mut Taking,
-    )
-        ensures wait { AllWait self.old.up self.old.clients self.new.clients }
-        ensures up { self.new.up ≡ self.old.up }
-    {
-        self.make_good(rt, taking);
-        let is_welcome = self.welcome(registry, stream, place);
-        taking.is_well = is_welcome && !taking.is_short;
-    }
-
-    fn make_good<R: Files<File = File>>(&mut self, rt: &R, taking: &mut Taking)
-        ensures wait { AllWait self.old.up self.old.clients self.new.clients }
-        ensures up { self.new.up ≡ self.old.up }
-    {
-        if let Some(error) = taking.untold.take() {
-            self.give_way(rt, error);
-        }
-    }
-
-    // No client came, for this reason: nobody waits, or it is tried again.
-    fn go_on(&mut self, error: Error, taking: &mut Taking)
-        ensures wait { AllWait self.old.up self.old.clients self.new.clients }
-        ensures up { self.new.up ≡ self.old.up }
-    {
-        match error.kind() {
-            ErrorKind::Interrupted => drop(error),
-            ErrorKind::WouldBlock => {
-                drop(error);
-                self.end_well(taking);
-            }
-            _ => self.try_once_more(error, taking),
-        }
-    }
-
-    // Nobody waits any more. It disconnects nobody and reports nothing; `accept_all` keeps a descriptor again.
-    fn end_well(&mut self, taking: &mut Taking)
-        ensures clients { self.new.clients ≡ self.old.clients }
-        ensures up { self.new.up ≡ self.old.up }
-    {
-        taking.is_over = true;
-        if taking.is_well {
-            self.notices.accepted();
-        }
-    }
-
-    fn end_refused(&mut self, error: Error, taking: &mut Taking)
-        ensures clients { self.new.clients ≡ self.old.clients }
-        ensures up { self.new.up ≡ self.old.up }
-    {
-        taking.is_over = true;
-        self.notices.accept_refused(error);
-    }
-
-    // An accept was refused. Without a free descriptor the system refuses an accept also if nobody waits. So a
-    // descriptor is given up once for one more.
-    fn try_once_more(&mut self, error: Error, taking: &mut Taking)
-        ensures wait { AllWait self.old.up self.old.clients self.new.clients }
-        ensures up { self.new.up ≡ self.old.up }
-    {
-        if taking.is_short {
-            self.end_refused(error, taking);
-            return;
-        }
-        if self.free_descriptor() {
-            taking.is_short = true;
-            taking.is_well = false;
-            drop(mem::replace(&mut taking.untold, Some(error)));
-        } else {
-            self.end_refused(error, taking);
-        }
-    }
-
-    // Whether there is a spare descriptor now.
-    fn keep_spare<R: Files<File = File>>(&mut self, rt: &R) -> bool
-        ensures clients { self.new.clients ≡ self.old.clients }
-        ensures up { self.new.up ≡ self.old.up }
-    {
-        if self.spare.is_none() {
-            drop(mem::replace(&mut self.spare, spare_descriptor(rt)));
-        }
-        self.spare.is_some()
-    }
-
-    // Frees a descriptor for one more accept: the spare one, or if a client has it, that of the longest silent one.
-    // False: no client is silent. Then a later call disconnects the one that becomes silent first, unless a descriptor
-    // becomes free before. Until then a new client has to wait.
-    fn free_descriptor(&mut self) -> bool
-        ensures wait { AllWait self.old.up self.old.clients self.new.clients }
-        ensures up { self.new.up ≡ self.old.up }
-    {
-        if self.spare.take().is_some() {
-            return true;
-        }
-        self.let_silent_go()
-    }
-
-    // Somebody waited where an accept was refused with this error. It reports the refusal. It disconnects the longest
-    // silent client if it can keep no descriptor again in another way.
-    fn give_way<R: Files<File = File>>(&mut self, rt: &R, error: Error)
-        ensures wait { AllWait self.old.up self.old.clients self.new.clients }
-        ensures up { self.new.up ≡ self.old.up }
-    {
-        self.notices.accept_refused(error);
-        if !self.keep_spare(rt) {
-            self.let_silent_go();
-        }
-    }
-
-    // False: no client is silent.
-    fn let_silent_go(&mut self) -> bool
-        ensures wait { AllWait self.old.up self.old.clients self.new.clients }
-        ensures up { self.new.up ≡ self.old.up }
-    {
-        match self.silent() {
-            Some(key) => {
-                self.let_go(key);
-                true
-            }
-            None => false,
-        }
-    }
-
-    // The client that is silent for longest, and still is. The last `serve` found nothing new of it, no whole line to
-    // answer and nothing to send. A client that sent something since that `serve` is not silent.
-    fn silent(&mut self) -> Option<usize>
-        ensures wait { AllWait self.old.up self.old.clients self.new.clients }
-        ensures up { self.new.up ≡ self.old.up }
-    {
-        for _ in 0..CLIENTS {
-            let Some(key) = self.longest(Still::Silent) else {
-                return None;
-            };
-            if !self.hear(key) {
-                return Some(key);
-            }
-        }
-        None
-    }
-
-    // Takes what the client of the key sent since the last `serve`. False: nothing came.
-    fn hear(&mut self, key: usize) -> bool
-        ensures waits { WaitsAt key self.old.up self.old.clients self.new.clients }
-        ensures up { self.new.up ≡ self.old.up }
-    {
-        match self.clients.get_mut(key) {
-            Some(client) => client.hear(&mut self.room),
-            None => false,
-        }
-    }
-
-    // Disconnects the client of the key for another one, if it may. A silent one gets the reply `too many clients` of
-    // code 2.
-    fn let_go(&mut self, key: usize)
-        ensures wait { AllWait self.old.up self.old.clients self.new.clients }
-        ensures up { self.new.up ≡ self.old.up }
-    {
-        if self.makes_way(key) {
-            drop(self.clients.try_remove(key));
-        }
-    }
-
-    fn makes_way(&mut self, key: usize) -> bool
-        ensures waits { WaitsAt key self.old.up self.old.clients self.new.clients }
-        ensures may { result ≡ true → IfSome (get self.new.clients key) (MayGo self.old.up) }
-        ensures up { self.new.up ≡ self.old.up }
-    {
-        let up = self.up;
-        match self.clients.get_mut(key) {
-            Some(client) => client.makes_way(up),
-            None => false,
-        }
-    }
-
-    // False: the system refuses to report when the client is ready.
-    fn welcome(&mut self, registry: &Registry, stream: UnixStream, place: Place) -> bool
-        ensures wait { AllWait self.old.up self.old.clients self.new.clients }
-        ensures up { self.new.up ≡ self.old.up }
-    {
-        match place {
-            Place::Free => self.admit(registry, stream),
-            Place::Of(key) => {
-                self.let_go(key);
-                self.admit(registry, stream)
-            }
-            Place::Unknown | Place::Nowhere => {
-                self.turn_away(stream);
-                true
-            }
-        }
-    }
-
-    // False: the system refuses to report when the client is ready.
-    fn admit(&mut self, registry: &Registry, stream: UnixStream) -> bool
-        ensures wait { AllWait self.old.up self.old.clients self.new.clients }
-        ensures up { self.new.up ≡ self.old.up }
-    {
-        let mut stream = stream;
-        let interest = Interest::READABLE | Interest::WRITABLE;
-        match registry.register(&mut stream, self.token, interest) {
-            Ok(()) => {
-                self.take_in(stream);
-                true
-            }
-            Err(error) => {
-                drop(stream);
-                self.notices.accept_refused(error);
-                false
-            }
-        }
-    }
-
-    // The new client has a place, if there is memory for it.
-    fn take_in(&mut self, stream: UnixStream)
-        ensures wait { AllWait self.old.up self.old.clients self.new.clients }
-        ensures up { self.new.up ≡ self.old.up }
-    {
-        let client = Client::new(self.alloc, stream, self.rounds);
-        match self.clients.insert(client) {
-            Ok(_) => {}
-            Err(failed) => drop(failed),
-        }
-    }
-
-    // What the client sent already is taken first: a close before that would take its reply from it.
-    fn turn_away(&mut self, stream: UnixStream)
-        ensures clients { self.new.clients ≡ self.old.clients }
-        ensures up { self.new.up ≡ self.old.up }
-    {
-        let mut stream = stream;
-        let _taken = stream.read(&mut self.room);
-        let _sent = stream.write(TOO_MANY);
-    }
-
-    // The place of the next client. A client is turned away only if no place was found for a second; until then it
-    // waits.
-    fn place(&mut self) -> Place
-        ensures wait { AllWait self.old.up self.old.clients self.new.clients }
-        ensures up { self.new.up ≡ self.old.up }
-    {
-        let place = self.place_now();
-        match place {
-            Place::Free | Place::Of(_) => {
-                self.full_since = None;
-                return place;
-            }
-            Place::Unknown | Place::Nowhere => {}
-        }
-        let since = self.full_since.unwrap_or(self.up);
-        self.full_since = Some(since);
-        if self.up.saturating_sub(since) < FULL {
-            return Place::Unknown;
-        }
-        place
-    }
-
-    // A free place, or else that of the client that is silent for longest. If none is silent, that of the one that takes
-    // nothing of its reply for longest, and for a second at least. `Nowhere` only if the last `serve` checked every
-    // client, and nothing came since.
-    fn place_now(&mut self) -> Place
-        ensures wait { AllWait self.old.up self.old.clients self.new.clients }
-        ensures up { self.new.up ≡ self.old.up }
-    {
-        if self.clients.len() < self.most {
-            return Place::Free;
-        }
-        if let Some(key) = self.silent() {
-            return Place::Of(key);
-        }
-        match self.longest(Still::Stuck) {
-            Some(key) => Place::Of(key),
-            None if self.is_whole && !self.has_new() => Place::Nowhere,
-            None => Place::Unknown,
-        }
-    }
-
-    fn has_new(&self) -> bool {
-        for (_, client) in self.clients.iter() {
-            if client.is_new() {
-                return true;
-            }
-        }
-        false
-    }
-
-    // The client that does nothing in this way for longest.
-    fn longest(&self, how: Still) -> Option<usize> {
-        let mut least = u64::MAX;
-        let mut longest = None;
-        for (key, client) in self.clients.iter() {
-            let since = match how {
-                Still::Silent => client.silent_since(self.rounds),
-                Still::Stuck => client.stuck_since(self.rounds, self.up),
-            };
-            if let Some(since) = since {
-                if since < least {
-                    least = since;
-                    longest = Some(key);
-                }
-            }
-        }
-        longest
     }
 
     /// The next line on what was refused, without a newline. It is about an accept, or about a client that was
@@ -821,9 +416,4 @@ fn lock_beside<R: Files<File = File>>(rt: &R, alloc: Global, path: &str) -> io::
             _ => error,
         }),
     }
-}
-
-// The null device is opened for its descriptor alone. None: the system gives none.
-fn spare_descriptor<R: Files<File = File>>(rt: &R) -> Option<File> {
-    File::open(rt, "/dev/null").ok()
 }

@@ -2,6 +2,7 @@
 //! lines, in order. What a line says, and what is answered, is the business of whoever answers ([`Answers`]).
 #![tactic(auto)]
 
+mod accepting;
 mod client;
 mod control;
 mod dialogue;

@@ -13,7 +13,7 @@ struct Refusals {
 
 /// What a line is about.
 #[derive(Clone, Copy)]
-enum Told {
+enum Subject {
     Accept,
     Client,
     NoMemory,
@@ -122,7 +122,7 @@ impl Notices {
 
     /// A client was disconnected for want of memory, or since a read or a write failed. One that only went away is not
     /// logged.
-    pub(crate) fn let_go(&mut self, error: Error) {
+    pub(crate) fn disconnected(&mut self, error: Error) {
         if !is_going_away(error.kind()) {
             self.clients.note(error);
         }
@@ -140,49 +140,49 @@ impl Notices {
             return None;
         };
         match told {
-            Told::Accept => self.accepts.due = None,
-            Told::Client | Told::NoMemory => self.clients.due = None,
-            Told::Look => self.looks.due = None,
-            Told::NoFile => self.files.due = None,
-            Told::File => self.is_made_again = false,
-            Told::NoLock => self.locks.due = None,
-            Told::Lock => self.is_taken_again = false,
+            Subject::Accept => self.accepts.due = None,
+            Subject::Client | Subject::NoMemory => self.clients.due = None,
+            Subject::Look => self.looks.due = None,
+            Subject::NoFile => self.files.due = None,
+            Subject::File => self.is_made_again = false,
+            Subject::NoLock => self.locks.due = None,
+            Subject::Lock => self.is_taken_again = false,
         }
         Some(Text::new(line))
     }
 
     // What has to be logged first, and the error at the end of its line, if it has one.
-    fn due(&self) -> Option<(Told, Option<Error>)> {
+    fn due(&self) -> Option<(Subject, Option<Error>)> {
         if self.accepts.due.is_some() {
-            return Some((Told::Accept, self.accepts.due));
+            return Some((Subject::Accept, self.accepts.due));
         }
         if let Some(error) = self.clients.due {
             return Some(client_told(error));
         }
         if self.looks.due.is_some() {
-            return Some((Told::Look, self.looks.due));
+            return Some((Subject::Look, self.looks.due));
         }
         if self.files.due.is_some() {
-            return Some((Told::NoFile, self.files.due));
+            return Some((Subject::NoFile, self.files.due));
         }
         if self.is_made_again {
-            return Some((Told::File, None));
+            return Some((Subject::File, None));
         }
         if self.locks.due.is_some() {
-            return Some((Told::NoLock, self.locks.due));
+            return Some((Subject::NoLock, self.locks.due));
         }
         if self.is_taken_again {
-            return Some((Told::Lock, None));
+            return Some((Subject::Lock, None));
         }
         None
     }
 }
 
-fn client_told(error: Error) -> (Told, Option<Error>) {
+fn client_told(error: Error) -> (Subject, Option<Error>) {
     if error.kind() == ErrorKind::OutOfMemory {
-        (Told::NoMemory, None)
+        (Subject::NoMemory, None)
     } else {
-        (Told::Client, Some(error))
+        (Subject::Client, Some(error))
     }
 }
 
@@ -193,16 +193,16 @@ fn is_going_away(kind: ErrorKind) -> bool {
     )
 }
 
-fn line_of(alloc: Global, told: Told, error: Option<Error>) -> Result<String, AllocError> {
+fn line_of(alloc: Global, told: Subject, error: Option<Error>) -> Result<String, AllocError> {
     let what = match told {
-        Told::Accept => "cannot accept",
-        Told::Client => "a client was disconnected",
-        Told::NoMemory => "a client was disconnected: no memory",
-        Told::Look => "cannot check its file",
-        Told::NoFile => "its file was removed, and can't be made again",
-        Told::File => "its file was removed, and is made again",
-        Told::NoLock => "its lock's file was removed, and can't be made again",
-        Told::Lock => "its lock's file was removed, and is made again",
+        Subject::Accept => "cannot accept",
+        Subject::Client => "a client was disconnected",
+        Subject::NoMemory => "a client was disconnected: no memory",
+        Subject::Look => "cannot check its file",
+        Subject::NoFile => "its file was removed, and can't be made again",
+        Subject::File => "its file was removed, and is made again",
+        Subject::NoLock => "its lock's file was removed, and can't be made again",
+        Subject::Lock => "its lock's file was removed, and is made again",
     };
     match error {
         Some(error) => format!(in alloc; "control socket: {what}: {error}"),

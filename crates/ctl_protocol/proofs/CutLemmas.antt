@@ -55,7 +55,7 @@ rest_append line (b ∷ x) y = rest_append_at (nat_eq b 10) line b x y (rest_app
 abbrev pub IsUnended : List ℕ → Type 0
 IsUnended line = (lines_of line ≡ []) × (rest_of line ≡ line)
 
--- a byte that is no newline goes at the end of the line
+-- a byte that is not a newline goes at the end of the line
 longer : (line : List ℕ) (b : ℕ) → nat_eq b 10 ≡ false → IsUnended line → IsUnended (line ++ b ∷ [])
 longer line b e h = (
   lines_append [] line (b ∷ []) ∙ rw (h.0, h.1, lines_step line b [], e) (lines_none _),
@@ -202,7 +202,7 @@ long_here limit line piece i h e long all =
 
 -- ---- the first newline
 
--- no newline stands before place k behind what has come
+-- before place k there is no newline, after what has come
 abbrev pub NoNewline : List ℕ → ℕ → Type 0
 NoNewline bytes k = Nowhere (Passes (is_byte 10) bytes) 0 k
 

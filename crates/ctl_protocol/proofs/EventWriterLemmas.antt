@@ -19,7 +19,7 @@ use Rattle.ctl_protocol.specs.declared.request.Request.TheVariants as requests
 use Rattle.ctl_protocol.specs.Requests.{event_with, unasked}
 use Rattle.ctl_protocol.specs.Targets.{is_slash, behind_domain, label_named}
 use Rattle.ctl_protocol.specs.Members.{◌>>=◌, text_key, number_key, flag_key, flag_or, label_key, target_key, has_only}
-use Rattle.ctl_protocol.specs.EventLines.{load_shape, unload_shape, job_shape, target_shape, kickstart_shape, bare_shape, asked_shape, answers_in, answered_shape, clock_shape, sight_keys, has_saw_keys, saw_shape, connection_shape, pid_key, spawned_shape, run_shape, answer_shape, byte_key, end_key, ended_shape, journal_shape, event_shape, request_shape_of, event_at, request_at}
+use Rattle.ctl_protocol.specs.EventLines.{load_shape, unload_shape, job_shape, target_shape, kickstart_shape, bare_shape, asked_shape, answers_in, answered_shape, clock_shape, observation_keys, has_saw_keys, saw_shape, connection_shape, pid_key, spawned_shape, run_shape, answer_shape, byte_key, end_key, ended_shape, journal_shape, event_shape, request_shape_of, event_at, request_at}
 use Rattle.ctl_protocol.specs.EventWriter.{name_of, line_members, answer_members, event_object, request_object, is_writable, is_request}
 use Rattle.ctl_protocol.proofs.ObjectsLemmas.{line_depth}
 use Rattle.history_model.proofs.BooleanLemmas.{and-left, and-right, false-or, not-true, or-false-first, or-false-second}
@@ -45,7 +45,7 @@ unfolding label_named behind_domain
 named job h = rw (label_alone job h) (kept (is_label job) job h)
 
 pub journal_shape_back : (e : Event) → is_writable e ≡ true → event_shape (event_object forms.Event e) ≡ Some e
-unfolding event_shape journal_shape answered_shape answers_in asked_shape load_shape unload_shape job_shape target_shape kickstart_shape bare_shape clock_shape sight_keys has_saw_keys saw_shape connection_shape pid_key spawned_shape run_shape answer_shape byte_key end_key ended_shape text_key number_key flag_key flag_or label_key target_key has_only
+unfolding event_shape journal_shape answered_shape answers_in asked_shape load_shape unload_shape job_shape target_shape kickstart_shape bare_shape clock_shape observation_keys has_saw_keys saw_shape connection_shape pid_key spawned_shape run_shape answer_shape byte_key end_key ended_shape text_key number_key flag_key flag_or label_key target_key has_only
 journal_shape_back (events.Load def writes_setting force bind store) h = refl
 journal_shape_back (events.Unload job writes_setting store) h = rw (kept (is_label job) job h) refl
 journal_shape_back (events.Set job true store) h = rw (named job h) refl

@@ -58,7 +58,7 @@ hex_back (b ∷ bytes) h =
     let small = ltb-true b 256 (and-left (nat_lt b 256) (list_all (λ byte. nat_lt byte 256) bytes) h) in
     rw (byte_back b small, hex_back bytes (and-right (nat_lt b 256) (list_all (λ byte. nat_lt byte 256) bytes) h)) refl
 
--- ---- overrides
+-- ---- settings
 
 abbrev pub labels_in : List Setting → List Label
 labels_in settings = map (λ s. s.label) settings

@@ -65,7 +65,7 @@ kickstart_shape form d = if has_only form (codes "job" ∷ codes "k" ∷ []) [] 
   kills_first ← flag_or (codes "k") false d
   Some (requests.Ask job (asks.Kickstart kills_first))) else None
 
--- `list` and `shutdown`: no key beside the tag
+-- `list` and `shutdown`: no key but the tag
 unfoldable pub bare_shape : Request → Form → Data → Option Request
 bare_shape request form d = if has_only form [] [] d then Some request else None
 
@@ -73,12 +73,12 @@ bare_shape request form d = if has_only form [] [] d then Some request else None
 abbrev Shape : Type 0 → Type 0
 Shape A = List ℕ × (Data → Option A)
 
--- what a line of this name tells, if none of the names is it, by the last
+-- what a line of this name records; by the last shape, if none of the names is it
 abbrev shape_of : {A : Type 0} → List ℕ → List (Shape A) → (Data → Option A) → Data → Option A
 shape_of name [] last d = last d
 shape_of name (r ∷ rows) last d = if bytes_eq name r.0 then r.1 d else shape_of name rows last d
 
--- no line is told
+-- no line is of this shape
 abbrev no_shape : {A : Type 0} → Data → Option A
 no_shape d = None
 
@@ -115,7 +115,7 @@ answered_shape name d = do
   outside ← answers_in d
   Some (event_with outside request)
 
--- ---- what the outside tells
+-- ---- what the outside answers
 
 -- `clock`: the numbers `up` and `wall`
 unfoldable pub clock_shape : Data → Option Event
@@ -125,8 +125,8 @@ clock_shape d = if has_only forms.Event (codes "up" ∷ codes "wall" ∷ []) [] 
   Some (events.Clock (record { up = up; wall = wall }))) else None
 
 -- the flags `exists` and `nonempty`; the number `stamp`
-unfoldable pub sight_keys : Data → Option Obs
-sight_keys d = do
+unfoldable pub observation_keys : Data → Option Obs
+observation_keys d = do
   present ← flag_key (codes "exists") d
   nonempty ← flag_key (codes "nonempty") d
   stamp ← number_key (codes "stamp") d
@@ -142,7 +142,7 @@ has_saw_keys d =
 unfoldable pub saw_shape : Data → Option Event
 saw_shape d = if has_saw_keys d then (do
   path ← text_key (codes "path") d
-  obs ← sight_keys d
+  obs ← observation_keys d
   Some (events.Saw path obs)) else None
 
 -- `came` and `left`: the label `job`; the number `conn`
@@ -157,7 +157,7 @@ unfoldable pub pid_key : Data → Option ℕ
 pid_key d = number_key (codes "pid") d >>= λ pid.
     if nat_lt 0 pid && nat_lt pid (2 ^ 32) then Some pid else None
 
--- `spawned`: the label `job`; the number `run`; the process id `pid`
+-- `spawned`: the label `job`; the number `run`; the PID `pid`
 unfoldable pub spawned_shape : Data → Option Event
 spawned_shape d =
     if has_only forms.Event (codes "job" ∷ codes "run" ∷ codes "pid" ∷ []) [] d then (do
@@ -185,7 +185,7 @@ answer_shape d = if has_only forms.Event (codes "job" ∷ codes "run" ∷ codes 
 unfoldable pub byte_key : List ℕ → Data → Option ℕ
 byte_key key d = number_key key d >>= λ n. if nat_lt n 256 then Some n else None
 
--- the end that one of the two values tells, if the other is absent
+-- the exit that one of the two values says, if the other is absent
 abbrev one_of : Option Data → Option Data → Data → Option Ended
 one_of (Some x) None d = byte_key (codes "code") d >>= λ n. Some (Code n)
 one_of None (Some x) d = byte_key (codes "signal") d >>= λ n. Some (Signal n)
@@ -246,7 +246,7 @@ journal_shape name d = shape_of name journal_shapes (answered_shape name) d
 
 -- ---- whole lines
 
--- the event that the object of a journal's line tells
+-- the event that the object of a journal's line records
 unfoldable pub event_shape : Data → Option Event
 event_shape d = text_key (tag_of forms.Event) d >>= λ name. journal_shape name d
 

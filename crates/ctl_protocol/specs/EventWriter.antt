@@ -1,4 +1,4 @@
--- The lines that tell an event, as they are written: every key of the event's shape, in byte order.
+-- The lines of events, as they are written: every key of the event's shape, in byte order.
 use Rattle.std.specs.Prelude.{ℕ, List, [], ◌∷◌, ◌^◌, codes, Bool, true, false, ◌&&◌, nat_lt, if◌then◌else◌}
 use Rattle.serde_json.specs.Data.{Data, object, no_members}
 use Rattle.history_model.specs.declared.Ended.{Ended}
@@ -48,7 +48,7 @@ abbrev pub name_of_setting : Bool → List ℕ
 name_of_setting true = codes "disable"
 name_of_setting false = codes "enable"
 
--- the name that stands under the tag
+-- the name under the tag
 abbrev pub name_of : Event → List ℕ
 name_of (events.Load def writes_setting force bind store) = codes "load"
 name_of (events.Unload job writes_setting store) = codes "unload"
@@ -135,15 +135,15 @@ line_object form name keys answers =
     (with_members (with_members no_members ((tag_of form, text name) ∷ [])) keys)
     (if has_answers form then answers else []))
 
--- the object of the line that tells the event, or asks for it
+-- the object of the line that records the event, or asks for it
 abbrev pub event_object : Form → Event → Data
 event_object form e = line_object form (name_of e) (line_members e) (answer_members e)
 
--- the line of a journal that tells the event, with its newline
+-- the line of a journal that records the event, with its newline
 abbrev pub event_line : Event → List ℕ
 event_line e = line_of (event_object forms.Event e)
 
--- the object of the line that asks for it: no answer stands in it
+-- the object of the line that asks for it: it has no answer
 abbrev pub request_object : Request → Data
 request_object r = event_object forms.Request (event_with unasked r)
 
@@ -151,7 +151,7 @@ request_object r = event_object forms.Request (event_with unasked r)
 abbrev pub request_line : Request → List ℕ
 request_line r = line_of (request_object r)
 
--- ---- which events a line can tell: the job is a label, and each number is one of its shape
+-- ---- which events a line can record: the job is a label, and each number is one of its shape
 
 -- the exit code or the signal is a byte
 abbrev is_byte_end : Ended → Bool

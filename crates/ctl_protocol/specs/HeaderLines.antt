@@ -1,4 +1,4 @@
--- Headers as they are written: the keys that are there, and always the overrides.
+-- Headers as they are written: the keys that are there, and always `overrides`.
 use Rattle.std.specs.Prelude.{◌≡◌, ℕ, ◌+◌, ◌/◌, ◌%◌, ◌^◌, List, [], ◌∷◌, ◌++◌, map, codes, Bool, true, nat_lt, nat_le, pos, negsuc, if◌then◌else◌}
 use Rattle.std.specs.List.{flat_map, list_all}
 use Rattle.serde_json.specs.Data.{Data, object, no_members, put}
@@ -24,13 +24,13 @@ hex_pair byte = hex_digit (byte / 16) ∷ hex_digit (byte % 16) ∷ []
 abbrev pub hex_of : List ℕ → List ℕ
 hex_of bytes = flat_map hex_pair bytes
 
--- the key that tells the zone: a rule, an offset, or the bytes of a zone file
+-- the key that names the zone: a rule, an offset, or the bytes of a zone file
 abbrev pub zone_member : ZoneText → List ℕ × Plain
 zone_member (Posix rule) = (codes "zone", text rule)
 zone_member (Offset seconds) = (codes "offset", whole seconds)
 zone_member (File bytes) = (codes "zonefile", text (hex_of bytes))
 
--- the keys that tell the clocks
+-- the keys of the clocks
 abbrev pub clock_members : Reading → List (List ℕ × Plain)
 clock_members at = (codes "up", count at.up) ∷ (codes "wall", count at.wall) ∷ []
 
@@ -52,7 +52,7 @@ header_object h =
 abbrev pub header_line : Header → List ℕ
 header_line h = line_of (header_object h)
 
--- ---- which headers a line can tell
+-- ---- which headers a line can record
 
 -- the offset fits in 64 bits, and what is in a file is bytes
 abbrev pub is_zone : ZoneText → Bool
@@ -65,7 +65,7 @@ is_zone (File bytes) = list_all (λ byte. nat_lt byte 256) bytes
 abbrev pub is_setting : Setting → Bool
 is_setting s = is_label s.label
 
--- the clocks and the zone within their bounds, the overrides of labels, each once, in byte order
+-- the clocks and the zone within their bounds, the settings of labels, each once, in byte order
 pub record IsHeader (h : Header) : Type 0 where
   pub up : nat_le h.reading.up MAX_UP ≡ true
   pub wall : nat_le h.reading.wall MAX_WALL ≡ true

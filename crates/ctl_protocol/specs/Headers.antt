@@ -1,4 +1,4 @@
--- The first line of a journal: the clocks, the zone and the overrides that it begins with.
+-- The first line of a journal: the clocks, the zone and the settings that it begins with.
 use Rattle.std.specs.Prelude.{ℕ, ◌+◌, ◌*◌, ◌-◌, List, [], ◌∷◌, ◌++◌, codes, Bool, true, false, ◌&&◌, Option, Some, None, nat_le, option_and_then, option_map, if◌then◌else◌}
 use Rattle.serde_json.specs.Data.{Data, Members, no_members, member}
 use Rattle.serde_json.specs.Find.{get, as_str, as_number, as_i64, as_bool, as_object}
@@ -22,7 +22,7 @@ digit_of b =
     else if nat_le 97 b && nat_le b 102 then Some (b - 87)
     else None
 
--- the byte that two digits tell
+-- the byte that two digits write
 abbrev pub byte_of : ℕ → ℕ → Option ℕ
 byte_of x y = do
   high ← digit_of x
@@ -64,7 +64,7 @@ offset_of d = option_map Offset (option_and_then as_i64 (as_number d))
 abbrev pub file_of : Data → Option ZoneText
 file_of d = option_map File (option_and_then bytes_of_hex (as_str d))
 
--- the zone, if exactly one of the three keys stands
+-- the zone, if exactly one of the three keys is present
 abbrev one_zone : Option Data → Option Data → Option Data → Option ZoneText
 one_zone (Some d) None None = posix_of d
 one_zone None (Some d) None = offset_of d
@@ -122,7 +122,7 @@ only_these (Some ms) = are_among header_keys ms
 unfoldable pub has_header_keys : Data → Bool
 has_header_keys d = only_these (as_object d)
 
--- the header that the object of a line tells
+-- the header that the object of a line records
 unfoldable pub header_shape : Data → Option Header
 header_shape d = if has_header_keys d then (do
   reading ← reading_keys d

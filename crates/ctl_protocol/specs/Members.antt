@@ -59,12 +59,12 @@ label_key key d = text_key key d >>= if_label
 unfoldable pub target_key : List ℕ → Data → Option (List ℕ)
 target_key key d = text_key key d >>= label_named
 
--- the key that tells an event, and a request
+-- the key that names an event, and a request
 abbrev pub tag_of : Form → List ℕ
 tag_of forms.Event = codes "ev"
 tag_of forms.Request = codes "req"
 
--- a request tells no answers of the outside
+-- a request records no answers of the outside
 abbrev pub has_answers : Form → Bool
 has_answers forms.Event = true
 has_answers forms.Request = false

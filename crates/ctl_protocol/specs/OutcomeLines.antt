@@ -18,7 +18,7 @@ use Rattle.ctl_protocol.specs.Objects.{Plain, text, count, plain_object, line_of
 abbrev job_of : Label → List ℕ × Plain
 job_of job = (codes "job", text job)
 
--- the key `order`, which tells the kind
+-- the key `order`, which names the kind
 abbrev named : List ℕ → List ℕ × Plain
 named order = (codes "order", text order)
 

@@ -1,4 +1,4 @@
--- What a client asks, as an event: a journal tells it with what the outside answered to it.
+-- What a client asks, as an event: a journal records it with what the outside answered to it.
 use Rattle.std.specs.Prelude.{true}
 use Rattle.history_model.specs.declared.event.Event.{Event}
 use Rattle.history_model.specs.declared.event.Event.TheVariants as events

@@ -5,8 +5,8 @@ use Rattle.ctl_protocol.specs.declared.cut.Scan.{Scan}
 use Rattle.ctl_protocol.specs.declared.cut.Scan.TheVariants.{Fits, Long}
 use Rattle.ctl_protocol.specs.Lines.{lines_after, rest_after, lines_of, rest_of, is_short}
 
--- what was found, if `rest` has come of the first line: how much has come of the last line, or the
--- byte that passes the limit, behind so many bytes of its line
+-- what was found, if `rest` has come of the first line: how much has come of the last line, or the byte that passes the limit.
+-- The line has `n` bytes before that byte
 abbrev pub IsScan : ℕ → List ℕ → List ℕ → Scan → Type 0
 IsScan limit rest piece (Fits n) =
     (n ≡ length (rest_after rest piece)) × (n ≤ limit)
@@ -17,8 +17,7 @@ IsScan limit rest piece (Long at n) =
     × ((list_all (is_short limit) (lines_after rest piece)
     && is_short limit (rest_after rest piece)) ≡ false)
 
--- what is found behind the last newline of a piece, which ends at `begun`, if so many bytes have come of
--- the line there
+-- what is found after the last newline of a piece, which ends at `begun`, if `n` bytes have come of the line there
 abbrev pub last_scan : ℕ → List ℕ → ℕ → ℕ → Scan
 last_scan limit piece begun n =
     if nat_lt (limit - n) (length piece - begun) then Long (begun + (limit - n)) limit

@@ -15,7 +15,7 @@ is_slash b = b == 47
 abbrev pub is_user_number : List ℕ → Bool
 is_user_number text = nat_lt 0 (length text) && nat_le (length text) 10 && list_all is_digit text
 
--- the number of a user, a slash, and what stands behind it
+-- the number of a user, a slash, and what comes after it
 unfoldable pub behind_number : List ℕ → Option (List ℕ)
 behind_number text =
     if list_any is_slash text && is_user_number (before_first is_slash text)
@@ -26,7 +26,7 @@ behind_number text =
 abbrev pub is_user_domain : List ℕ → Bool
 is_user_domain text = bytes_eq text (codes "user") || bytes_eq text (codes "gui")
 
--- what stands behind the domain
+-- what comes after the domain
 unfoldable pub behind_domain : List ℕ → Option (List ℕ)
 behind_domain text =
     if not (list_any is_slash text) then Some text
@@ -40,11 +40,11 @@ behind_domain text =
 abbrev pub if_label : List ℕ → Option (List ℕ)
 if_label text = if is_label text then Some text else None
 
--- the label behind the domain
+-- the label after the domain
 unfoldable pub label_named : List ℕ → Option (List ℕ)
 label_named text = option_and_then if_label (behind_domain text)
 
--- what stands before the first slash and behind it; None if there is no slash
+-- what comes before the first slash and after it; None if there is no slash
 abbrev pub SplitsAtSlash : List ℕ → Option (Bor (List ℕ) × Bor (List ℕ)) → Type 0
 SplitsAtSlash text None = list_any is_slash text ≡ false
 SplitsAtSlash text (Some parts) =

@@ -1,5 +1,5 @@
--- A line's JSON text as a tree, in which numbers stand as they are written and a key may come
--- twice, and the data that the tree stands for: what `serde_json` reads of the same text.
+-- A line's JSON text as a tree, and the data of the tree: what `serde_json` reads of the same text. In the tree numbers are as
+-- they are written, and a key may come twice.
 use Rattle.std.specs.Prelude.{ℕ, List, Bool, true, false, ◌&&◌, Option, Some, None, is_some, unwrap_or, option_and_then, if◌then◌else◌}
 use Rattle.std.specs.Str.{is_utf8}
 use Rattle.json.specs.Json.{Json, Items, Members, if_last, value}

@@ -12,13 +12,13 @@ use memchr::memchr;
 use std::alloc::AllocError;
 
 pub(crate) enum Scan {
-    /// Each line fits, and so does the rest, of which so many bytes have come.
+    /// Each line fits, and so does the rest, of which `rest_len` bytes have come.
     Fits { rest_len: usize },
-    /// The byte here passes the limit of a line that has so many bytes before it.
+    /// The byte here passes the limit of a line that has `line_len` bytes before it.
     Long { at: usize, line_len: usize },
 }
 
-/// How many bytes stand before the first newline of a piece from a place on.
+/// How many bytes come before the first newline of a piece from a place on.
 fn newline_from(piece: &[u8], begun: usize) -> Option<usize>
     requires { begun ≤ length piece.now }
     ensures first { IsFirstByte (is_byte 10) (drop begun piece.now) result }
@@ -48,7 +48,7 @@ pub(crate) fn go_over(rest: &[u8], piece: &[u8], limit: usize) -> Scan
     over_last(piece, begun, line_len, limit)
 }
 
-/// Goes over what stands behind a piece's last newline, if so much has come of the line there.
+/// Goes over the bytes after a piece's last newline, if `line_len` bytes of the line have come before the piece.
 fn over_last(piece: &[u8], begun: usize, line_len: usize, limit: usize) -> Scan
     requires within { begun ≤ length piece.now }
     requires short { line_len ≤ limit }
@@ -68,7 +68,7 @@ fn over_last(piece: &[u8], begun: usize, line_len: usize, limit: usize) -> Scan
     }
 }
 
-/// What no newline has ended, which has so many bytes.
+/// The bytes after the last newline, which are `rest_len`.
 pub(crate) fn rest_in(bytes: &[u8], rest_len: usize) -> &[u8]
     requires { rest_len ≡ length (rest_of bytes.now) }
     ensures { result.now ≡ rest_of bytes.now }
@@ -100,7 +100,7 @@ pub(crate) fn add(buffer: &mut BytesMut, piece: &[u8]) -> Result<(), AllocError>
     buffer.extend_from_slice(piece)
 }
 
-/// Adds the lines of a piece that stand before the line that is too long.
+/// Adds the lines of a piece that come before the line that is too long.
 pub(crate) fn stop(
     buffer: &mut BytesMut,
     piece: &[u8],

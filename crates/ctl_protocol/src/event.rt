@@ -1,10 +1,10 @@
-//! Reads the lines that tell an event: those of a journal, and requests.
+//! Reads the lines of events: those of a journal, and requests.
 
 ghost use Rattle.std.specs.Prelude.{◌≡◌};
 ghost use Rattle.ctl_protocol.specs.Members.{Reads};
 ghost use Rattle.ctl_protocol.specs.Line.{seen};
 ghost use Rattle.json_kinds.specs.JsonKinds.{texts_in};
-ghost use Rattle.ctl_protocol.specs.EventLines.{event_at, event_shape, request_at, request_shape_of, asked_shape, journal_shape, load_shape, unload_shape, job_shape, target_shape, kickstart_shape, bare_shape, answers_in as answers_told, answered_shape, clock_shape, saw_shape, sight_keys, has_saw_keys as saw_keys, connection_shape, pid_key, spawned_shape, run_shape, answer_shape, byte_key, end_key, ended_shape};
+ghost use Rattle.ctl_protocol.specs.EventLines.{event_at, event_shape, request_at, request_shape_of, asked_shape, journal_shape, load_shape, unload_shape, job_shape, target_shape, kickstart_shape, bare_shape, answers_in as answers_told, answered_shape, clock_shape, saw_shape, observation_keys, has_saw_keys as saw_keys, connection_shape, pid_key, spawned_shape, run_shape, answer_shape, byte_key, end_key, ended_shape};
 
 use crate::line::Line;
 use crate::members::{
@@ -128,7 +128,7 @@ fn request_named<'a>(name: &str, form: Form, line: &Line<'a>) -> Result<Request<
     }
 }
 
-/// What the outside answered, as a journal tells it. What is not told was not asked.
+/// What the outside answered, as a journal records it. Where no answer is recorded, the launcher did not ask.
 #[tactic(auto, unfolding(crate::specs::EventLines::answers_in))]
 fn answers_in(line: &Line<'_>) -> Result<Outside, ReadFault>
     ensures { Reads result (answers_told (seen line.now)) }
@@ -160,9 +160,9 @@ fn clock_in<'a>(line: &Line<'a>) -> Result<Event<'a>, ReadFault>
     Ok(Event::Clock(Reading { up, wall }))
 }
 
-#[tactic(auto, unfolding(crate::specs::EventLines::sight_keys))]
-fn sight_in(line: &Line<'_>) -> Result<Obs, ReadFault>
-    ensures { Reads result (sight_keys (seen line.now)) }
+#[tactic(auto, unfolding(crate::specs::EventLines::observation_keys))]
+fn observation_in(line: &Line<'_>) -> Result<Obs, ReadFault>
+    ensures { Reads result (observation_keys (seen line.now)) }
 {
     let present = flag_in(line, "exists")?;
     let nonempty_dir = flag_in(line, "nonempty")?;
@@ -194,7 +194,7 @@ fn saw_in<'a>(line: &Line<'a>) -> Result<Event<'a>, ReadFault>
         return Err(ReadFault::BadRequest);
     }
     let path = text_in(line, "path")?;
-    let obs = sight_in(line)?;
+    let obs = observation_in(line)?;
     Ok(Event::Saw {
         path: TextRef::new(path),
         obs,
@@ -368,7 +368,7 @@ fn request_in<'a>(line: &Line<'a>) -> Result<Request<'a>, ReadFault>
     request_named(name, Form::Request, line)
 }
 
-/// The room that reading lines takes, kept from line to line.
+/// The room in which lines are read, kept from line to line.
 #[derive(Drop)]
 pub struct LineRoom {
     scratch: Option<Box<Scratch>>,
@@ -383,8 +383,8 @@ impl LineRoom {
         })
     }
 
-    /// Takes the room out, so that an event can be borrowed of it while its owner changes; it is to be put back. Meanwhile the owner has
-    /// none, and a line that is read there makes it anew. Takes no memory.
+    /// Takes the room out, so that an event can be borrowed of it while its owner changes; it is to be put back. Meanwhile the
+    /// owner has none, and a line that is read there makes it again. Takes no memory.
     pub fn take(&mut self) -> LineRoom {
         LineRoom {
             scratch: self.scratch.take(),
@@ -417,8 +417,8 @@ pub fn read_event<'a>(
     event_in(&line)
 }
 
-/// What a control client's line asks, the newline left out. BadRequest if it is no request. Its texts are borrowed of the line, or of the
-/// room.
+/// What a control client's line asks, the newline left out. BadRequest if it is not a request. Its texts are borrowed of the
+/// line, or of the room.
 #[tactic(auto, unfolding(crate::specs::EventLines::request_at))]
 pub fn read_request<'a>(
     alloc: Global,

@@ -1,4 +1,4 @@
-//! Writes the lines that tell an event: those of a journal, and requests.
+//! Writes the lines of events: those of a journal, and requests.
 
 ghost use Rattle.std.specs.Prelude.{◌≡◌, IfOk, OnOk, Some, codes, ◌∷◌, [], true};
 ghost use Rattle.history_model.specs.declared.event.Event.TheVariants as events;
@@ -307,8 +307,8 @@ fn event_value(alloc: Global, form: Form, event: &Event<'_>) -> Result<Value, Al
     }
 }
 
-/// The line of a journal that tells an event, with its newline: an object of every key of the event's shape, in byte
-/// order. `Err` says only that memory ran out.
+/// The line of a journal that records the event, with its newline: an object of every key of the event's shape, in byte order.
+/// `Err` says only that memory ran out.
 pub fn event_line(alloc: Global, event: &Event<'_>) -> Result<Vec<u8>, AllocError>
     ensures text { IfOk result (λ line. line.items ≡ lines.event_line event.now) }
     // The line, without its newline, is read as the event.

@@ -36,22 +36,22 @@ impl ZoneFile {
 
 /// The settings of labels that a journal begins with. To a contract it is their list.
 #[derive(Drop)]
-pub struct Settings {
+pub struct HeaderSettings {
     items: Vec<Setting>,
 }
 
-impl Model for Settings {
+impl Model for HeaderSettings {
     ghost Value = { List model.Setting };
 
     ghost view = { λ s. s.items.items };
 }
 
-impl Settings {
+impl HeaderSettings {
     /// These settings. Of a label that is named twice the last counts.
-    pub fn new(items: Vec<Setting>) -> Settings
+    pub fn new(items: Vec<Setting>) -> HeaderSettings
         ensures { result ≡ items.items }
     {
-        Settings { items }
+        HeaderSettings { items }
     }
 
     /// The settings, the last of a label deciding.
@@ -65,12 +65,12 @@ impl Settings {
     pub fn into_vec(self) -> Vec<Setting>
         ensures { result.items ≡ self }
     {
-        let Settings { items } = self;
+        let HeaderSettings { items } = self;
         items
     }
 }
 
-/// The zone of civil time, as a header tells it.
+/// The zone of civil time, as a header writes it.
 #[derive(Drop)]
 pub enum ZoneText {
     /// A rule in the form of POSIX `TZ`, as `EST5EDT,M3.2.0,M11.1.0`.
@@ -87,5 +87,5 @@ pub enum ZoneText {
 pub struct Header {
     pub reading: Reading,
     pub zone: ZoneText,
-    pub overrides: Settings,
+    pub overrides: HeaderSettings,
 }

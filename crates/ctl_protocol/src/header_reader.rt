@@ -8,7 +8,7 @@ ghost use Rattle.ctl_protocol.specs.Headers.{are_among, bytes_of_hex, digit_of, 
 ghost use Rattle.ctl_protocol.specs.Members.{IsReadAs, Reads, number_key};
 ghost use Rattle.json_kinds.specs.JsonKinds.{texts_in};
 
-use crate::header::{Header, Settings, ZoneFile, ZoneText};
+use crate::header::{Header, HeaderSettings, ZoneFile, ZoneText};
 use crate::members::ReadFault;
 use history_model::{MAX_UP, MAX_WALL, Reading, Setting, Text, is_label};
 use json_kinds::json_value;
@@ -169,13 +169,13 @@ fn settings_in(alloc: Global, members: &Map<String, Value>) -> Result<Vec<Settin
 }
 
 #[tactic(auto, unfolding(crate::specs::Headers::overrides_key))]
-fn overrides_in(alloc: Global, line: &Value) -> Result<Settings, ReadFault>
+fn overrides_in(alloc: Global, line: &Value) -> Result<HeaderSettings, ReadFault>
     ensures { Reads result (overrides_key (view line.now)) }
 {
     match line.get("overrides") {
-        None => Ok(Settings::new(Vec::new(alloc))),
+        None => Ok(HeaderSettings::new(Vec::new(alloc))),
         Some(found) => match found.as_object() {
-            Some(members) => Ok(Settings::new(settings_in(alloc, members)?)),
+            Some(members) => Ok(HeaderSettings::new(settings_in(alloc, members)?)),
             None => Err(ReadFault::BadRequest),
         },
     }
@@ -228,9 +228,9 @@ fn header_in(alloc: Global, line: &Value) -> Result<Header, ReadFault>
     })
 }
 
-/// The header that a line is, the newline left out: `up` (milliseconds, to 9,000,000,000,000,000), `wall` (seconds of
-/// Unix time, to 250,000,000,000), one of `zone`, `offset` and `zonefile`, and the `overrides` from label to whether it
-/// is disabled. BadRequest if it is none. Whether the zone exists is not asked here.
+/// The header that a line is, the newline left out: `up` (milliseconds, to 9,000,000,000,000,000), `wall` (seconds of Unix time,
+/// to 250,000,000,000), one of `zone`, `offset` and `zonefile`. Its `overrides` say for each label whether it is disabled.
+/// BadRequest if the line is not a header. Whether the zone exists is not asked here.
 #[tactic(auto, unfolding(crate::specs::Headers::header_at))]
 pub fn read_header(alloc: Global, line: &[u8]) -> Result<Header, ReadFault>
     ensures { Reads result (header_at line.now) }

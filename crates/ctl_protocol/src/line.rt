@@ -39,7 +39,7 @@ impl<'a> Line<'a> {
     ghost use Rattle.json.specs.Value.{members_view};
     ghost use Rattle.ctl_protocol.specs.Line.{seen};
 
-    /// Reads a line. BadRequest if the bytes are no JSON text.
+    /// Reads a line. BadRequest if the bytes are not a JSON text.
     #[tactic(auto, using(crate::proofs::TreesLemmas::line_read, crate::proofs::TreesLemmas::line_refused, crate::proofs::TreesLemmas::line_missing))]
     pub(crate) fn read(
         alloc: Global,

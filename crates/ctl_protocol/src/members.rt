@@ -43,7 +43,7 @@ impl<T: Drop> From<AllocFailed<T>> for ReadFault {
     }
 }
 
-/// The two kinds of lines that tell an event: a journal's, which has the outside's answers, and a client's.
+/// The two kinds of lines of events: a journal's, which has the outside's answers, and a client's.
 #[derive(Clone, Copy, PartialEq, Eq)]
 pub enum Form {
     Event,

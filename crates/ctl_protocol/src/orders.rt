@@ -31,7 +31,7 @@ fn add_all(text: &mut Vec<u8>, pieces: &[&[u8]]) -> Result<(), AllocError>
     Ok(())
 }
 
-/// Adds the comma that stands between two orders.
+/// Adds the comma between two orders.
 fn add_comma(text: &mut Vec<u8>, later: bool) -> Result<(), AllocError>
     ensures { OnOk result (text.new.items ≡ text.old.items ++ comma_if later) }
 {

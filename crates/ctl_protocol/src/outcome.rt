@@ -51,8 +51,8 @@ fn outcome_from(
     joined(alloc, number, list.as_slice(), said.as_slice())
 }
 
-/// The line of an event's outcome, with its newline: the reply's code (0 if there is no refusal), the orders with
-/// their jobs' labels, and the text, which is the refusal's own if there is one. `Err` says only that memory ran out.
+/// The line of an event's outcome, with its newline: the reply's code (0 if there is no refusal), the orders with their jobs'
+/// labels, and the text. A refusal puts its own text there. `Err` says only that memory ran out.
 pub fn outcome_line(
     alloc: Global,
     reply: &Reply,

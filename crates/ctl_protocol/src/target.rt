@@ -16,7 +16,7 @@ fn is_number(text: &str) -> bool
     0 < text.len() && text.len() <= 10 && all_digits(text.as_bytes())
 }
 
-/// The parts before and behind the first slash.
+/// The parts before and after the first slash.
 fn split_at_slash(text: &str) -> Option<(&str, &str)>
     ensures { SplitsAtSlash text.now result }
 {

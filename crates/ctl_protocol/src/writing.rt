@@ -3,8 +3,8 @@ ghost use Rattle.ctl_protocol.specs.Writing.{Takes};
 
 use std::io::Write;
 
-/// Writes all of the text, and tells whether it could. If it could not, a front of it was written. A write that takes no
-/// byte counts as refused.
+/// Writes all of the text, and returns whether it could. If it could not, a front of it was written. A write that takes no byte
+/// counts as refused.
 pub fn write_text<W: Write>(writer: &mut W, text: &[u8]) -> bool
     ensures { Takes result (W.contents writer.old) (W.contents writer.new) text.now }
 {

@@ -1,4 +1,4 @@
-//! The digest of a definition, by which a launcher tells what it loaded, and `jobctl apply` whether a file says the same.
+//! The digest of a definition. By it a launcher says what it loaded, and `jobctl apply` finds whether a file says the same.
 #![tactic(auto)]
 
 ghost use Rattle.std.specs.Prelude.{◌≡◌, IfOk, false, option_map};

@@ -9,6 +9,6 @@ use Rattle.definition_files.specs.declared.check.checked.Checked.TheVariants.{Lo
 -- the bytes are read as this definition, which has exactly these mistakes; or are refused for this
 -- reason at this key
 abbrev pub IsVerdict : List ℕ → Checked → Type 0
-IsVerdict bytes (Loads def mistakes remarks) =
+IsVerdict bytes (Loads def mistakes finding_list) =
     (def_of bytes ≡ Ok def) × (mistakes.items ≡ mistakes_of def)
 IsVerdict bytes (Refused reason key place text further) = def_of bytes ≡ Err (bad reason key)

@@ -19,13 +19,13 @@ mod table;
 mod variable;
 mod verdicts;
 
-pub use definition::{Job, Made, definition_of};
+pub use definition::{CronJob, Made, definition_of};
 pub use entries::{EntriesFault, entries_of};
 pub use fault::LineFault;
 pub use fields::{Field, Fields};
 pub use input::lines_of;
 pub use keeper::{HostLines, LineKeeper, LineVerdict};
-pub use line::{Line, When, read_line};
-pub use settings::Settings;
+pub use line::{CronLine, When, read_line};
+pub use settings::CronVariables;
 pub use surroundings::{Surroundings, surroundings_of};
 pub use table::definitions_of;

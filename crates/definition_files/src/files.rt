@@ -13,7 +13,7 @@ use std::io::Read;
 
 /// As of when definitions are looked at, and how.
 #[derive(Clone, Copy)]
-pub struct Asked<'a> {
+pub struct DefinitionQuery<'a> {
     /// The longest file that a load would take, in bytes.
     pub longest: usize,
     /// The zone of the entries of calendars.

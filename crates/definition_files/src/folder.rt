@@ -2,7 +2,7 @@
 
 use crate::services::port_of;
 use json::{Pretty, Reader, Scratch, Token};
-use run_times::Ink;
+use run_times::TextWriter;
 use run_times::telling::tell_error;
 use std::alloc::{AllocError, Global};
 use std::fs::OpenOptions;
@@ -85,12 +85,12 @@ pub(crate) fn put_new(
     name: &str,
     bytes: &[u8],
 ) -> Result<bool, AllocError> {
-    let mut ink = Ink::new(alloc);
-    ink.put(folder);
-    ink.put("/");
-    ink.put(name);
-    ink.put(".json");
-    let path = ink.into_text()?;
+    let mut writer = TextWriter::new(alloc);
+    writer.put(folder);
+    writer.put("/");
+    writer.put(name);
+    writer.put(".json");
+    let path = writer.into_text()?;
     let written = write_new(host, path.as_str(), bytes);
     let told = match written {
         Ok(()) => Ok(true),

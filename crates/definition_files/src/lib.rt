@@ -14,7 +14,7 @@ mod verdict;
 
 pub use coming::calendar_after;
 pub use differing::changed_keys;
-pub use files::{Asked, Contents, DefinitionSource, HostFiles};
+pub use files::{Contents, DefinitionQuery, DefinitionSource, HostFiles};
 pub use folder::laid_out;
 pub use starts::{coming_starts, put_start, tell_clockless};
 pub use verdict::Verdict;

@@ -10,7 +10,7 @@ use crate::verdict::{Verdict, Verdicts};
 use files_and_process::path_files::{Found, Kind};
 use history_model::Text;
 use property_lists::{ListFault, json_of};
-use run_times::Ink;
+use run_times::TextWriter;
 use run_times::telling::Outcome;
 use std::alloc::{AllocError, Global};
 
@@ -37,9 +37,9 @@ pub fn lists_as_json<S: DefinitionSource>(
 ) -> Result<Outcome, AllocError>
     ensures status { IfOk result (λ outcome. IsListStatus outcome.status) }
 {
-    let mut ink = Ink::new(alloc);
-    let added = add_each(host, alloc, source, paths, longest, into, &mut ink);
-    match (added, ink.into_text()) {
+    let mut writer = TextWriter::new(alloc);
+    let added = add_each(host, alloc, source, paths, longest, into, &mut writer);
+    match (added, writer.into_text()) {
         (Ok(verdicts), Ok(text)) => Ok(Outcome {
             text,
             status: verdicts.check_status(false),
@@ -58,11 +58,11 @@ fn add_each<S: DefinitionSource>(
     paths: &[Text],
     longest: usize,
     into: Option<&str>,
-    ink: &mut Ink,
+    writer: &mut TextWriter,
 ) -> Result<Verdicts, AllocError> {
     let mut verdicts = Verdicts::none();
     for path in paths {
-        match add_file(host, alloc, source, path.as_str(), longest, into, ink) {
+        match add_file(host, alloc, source, path.as_str(), longest, into, writer) {
             Ok(verdict) => verdicts = verdicts.with(verdict),
             Err(error) => return Err(error),
         }
@@ -77,7 +77,7 @@ fn add_file<S: DefinitionSource>(
     path: &str,
     longest: usize,
     into: Option<&str>,
-    ink: &mut Ink,
+    writer: &mut TextWriter,
 ) -> Result<Verdict, AllocError> {
     let file = Found {
         path: String::from_str(alloc, path)?,
@@ -87,7 +87,7 @@ fn add_file<S: DefinitionSource>(
     drop(file);
     match contents {
         Ok(Contents::Bytes(bytes)) => {
-            let verdict = add_list(host, alloc, path, bytes.as_slice(), into, ink);
+            let verdict = add_list(host, alloc, path, bytes.as_slice(), into, writer);
             drop(bytes);
             verdict
         }
@@ -104,7 +104,7 @@ fn add_list(
     path: &str,
     bytes: &[u8],
     into: Option<&str>,
-    ink: &mut Ink,
+    writer: &mut TextWriter,
 ) -> Result<Verdict, AllocError> {
     match json_of(alloc, bytes) {
         Ok(made) if !made.starts_with(b"{") => {
@@ -115,13 +115,13 @@ fn add_list(
             Ok(Verdict::Refused)
         }
         Ok(made) => {
-            let kept = keep_list(host, alloc, path, made.as_slice(), into, ink);
+            let kept = keep_list(host, alloc, path, made.as_slice(), into, writer);
             drop(made);
             kept
         }
         Err(ListFault::NoMemory) => Err(AllocError),
         Err(ListFault::Refused { line, why, found }) => {
-            let mut told = Ink::new(alloc);
+            let mut told = TextWriter::new(alloc);
             told.fill(why, &[run_times::Piece::Text(found)]);
             let told = told.into_text()?;
             let shown = told.as_str();
@@ -138,7 +138,7 @@ fn keep_list(
     path: &str,
     made: &[u8],
     into: Option<&str>,
-    ink: &mut Ink,
+    writer: &mut TextWriter,
 ) -> Result<Verdict, AllocError> {
     let services = services_of(host, alloc)?;
     let shown = laid_out_with(
@@ -151,7 +151,7 @@ fn keep_list(
     let kept = match into {
         Some(folder) => put_new(host, alloc, folder, stem_of(path), shown.as_slice()),
         None => {
-            ink.put(std::str::from_utf8(shown.as_slice()).unwrap_or(""));
+            writer.put(std::str::from_utf8(shown.as_slice()).unwrap_or(""));
             Ok(true)
         }
     };

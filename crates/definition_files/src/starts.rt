@@ -5,7 +5,7 @@ ghost use Rattle.job_defs.specs.Keys.{def_of};
 ghost use Rattle.definition_files.specs.Reads.{AreVerdicts, Reads, ReadsOne, load_verdict, starts_status};
 
 use crate::coming::{calendar_after, interval_after};
-use crate::files::{Asked, Contents, DefinitionSource};
+use crate::files::{Contents, DefinitionQuery, DefinitionSource};
 use crate::verdict::{Verdict, Verdicts};
 use calendar_due::Zone;
 use files_and_process::path_files::Found;
@@ -15,12 +15,12 @@ use json_lines::{Field, Value, put_line};
 use run_times::Filling::Moment;
 use run_times::Piece::{Number, Text};
 use run_times::telling::{Outcome, tell_line, tell_of};
-use run_times::{Filling, Ink, Page};
+use run_times::{Filling, Page, TextWriter};
 use std::alloc::{AllocError, Global};
 
 /// A definition, and when the clock wants it next: by an entry of its calendar, and by its interval.
 #[derive(Drop)]
-struct Job {
+struct NextStarts {
     def: Def,
     by_calendar: Option<u64>,
     by_interval: Option<u64>,
@@ -34,7 +34,7 @@ pub fn coming_starts<S: DefinitionSource>(
     alloc: Global,
     source: &mut S,
     files: &[Found],
-    of: &Asked<'_>,
+    of: &DefinitionQuery<'_>,
     count: u64,
 ) -> Result<Outcome, AllocError>
     ensures status { IfOk result (λ outcome. Reads files.now
@@ -63,8 +63,8 @@ fn add_jobs<S: DefinitionSource>(
     alloc: Global,
     source: &mut S,
     files: &[Found],
-    of: &Asked<'_>,
-    jobs: &mut Vec<Job>,
+    of: &DefinitionQuery<'_>,
+    jobs: &mut Vec<NextStarts>,
 ) -> Result<Verdicts, AllocError>
     ensures { IfOk result (λ verdicts. Reads files.now (AreVerdicts verdicts)
         (S.told source.old) (S.told source.new)) }
@@ -84,9 +84,9 @@ fn add_job<S: DefinitionSource>(
     host: &HostRuntime,
     alloc: Global,
     source: &mut S,
-    of: &Asked<'_>,
+    of: &DefinitionQuery<'_>,
     file: &Found,
-    jobs: &mut Vec<Job>,
+    jobs: &mut Vec<NextStarts>,
 ) -> Result<Verdict, AllocError>
     ensures { IfOk result (λ verdict. ReadsOne file.now verdict (S.told source.old)
         (S.told source.new)) }
@@ -107,10 +107,10 @@ fn add_job<S: DefinitionSource>(
 fn add_definition(
     host: &HostRuntime,
     alloc: Global,
-    of: &Asked<'_>,
+    of: &DefinitionQuery<'_>,
     path: &str,
     bytes: &[u8],
-    jobs: &mut Vec<Job>,
+    jobs: &mut Vec<NextStarts>,
 ) -> Result<Verdict, AllocError>
     ensures { IfOk result (λ verdict. verdict ≡ load_verdict (def_of bytes.now)) }
 {
@@ -128,13 +128,13 @@ fn add_definition(
 }
 
 // When the clock wants the job first.
-fn job_of(of: &Asked<'_>, def: Def) -> Job {
+fn job_of(of: &DefinitionQuery<'_>, def: Def) -> NextStarts {
     let by_calendar = calendar_after(def.calendar(), of.zone, of.from);
     let by_interval = match def.start_interval() {
         Some(every) => interval_after(every, of.from),
         None => None,
     };
-    Job {
+    NextStarts {
         def,
         by_calendar,
         by_interval,
@@ -142,7 +142,7 @@ fn job_of(of: &Asked<'_>, def: Def) -> Job {
 }
 
 // Reports how many jobs the clock never starts. For a single file it says why.
-fn tell_never(host: &HostRuntime, files: &[Found], jobs: &[Job]) {
+fn tell_never(host: &HostRuntime, files: &[Found], jobs: &[NextStarts]) {
     let mut clockless: u64 = 0;
     for job in jobs {
         clockless = clockless.saturating_add(u64::from(second_of(job) == u64::MAX));
@@ -160,7 +160,7 @@ pub fn tell_clockless(host: &HostRuntime, name: &str, clockless: u64, jobs: u64)
     if clockless == 0 {
         return;
     }
-    let mut line = Ink::new(host.alloc());
+    let mut line = TextWriter::new(host.alloc());
     line.put("jobscope: ");
     if !name.is_empty() {
         line.fill("$: ", &[Text(name)]);
@@ -185,8 +185,8 @@ fn never_words(def: &Def) -> &'static str {
 fn starts_text(
     alloc: Global,
     count: u64,
-    of: &Asked<'_>,
-    jobs: &mut Vec<Job>,
+    of: &DefinitionQuery<'_>,
+    jobs: &mut Vec<NextStarts>,
 ) -> Result<String, AllocError> {
     let now = Reading {
         up: 0,
@@ -194,7 +194,7 @@ fn starts_text(
     };
     let mut page = Page::new(alloc, of.zone, now);
     if !of.is_json {
-        page.ink.put(of.zone_line);
+        page.writer.put(of.zone_line);
     }
     for _ in 0..count {
         let index = soonest(jobs.as_slice());
@@ -214,7 +214,7 @@ fn starts_text(
 }
 
 // The seconds of the interval that is over at the second, if one is.
-fn interval_of(job: &Job, second: u64) -> Option<u32> {
+fn interval_of(job: &NextStarts, second: u64) -> Option<u32> {
     if job.by_interval == Some(second) {
         job.def.start_interval()
     } else {
@@ -223,7 +223,7 @@ fn interval_of(job: &Job, second: u64) -> Option<u32> {
 }
 
 // The next start is the one after this second.
-fn go_on(job: &mut Job, second: u64, zone: &Zone) {
+fn go_on(job: &mut NextStarts, second: u64, zone: &Zone) {
     if job.by_interval == Some(second) {
         job.by_interval = interval_after(job.def.start_interval().unwrap_or(0), second);
     }
@@ -233,7 +233,7 @@ fn go_on(job: &mut Job, second: u64, zone: &Zone) {
 }
 
 // The index of the job that the clock wants first, of several the first; the length of the slice if it wants none.
-fn soonest(jobs: &[Job]) -> usize {
+fn soonest(jobs: &[NextStarts]) -> usize {
     let mut found = jobs.len();
     let mut least = u64::MAX;
     let mut index: usize = 0;
@@ -249,7 +249,7 @@ fn soonest(jobs: &[Job]) -> usize {
 }
 
 // The second at which the clock wants the job next; the greatest number if it never does.
-fn second_of(job: &Job) -> u64 {
+fn second_of(job: &NextStarts) -> u64 {
     let by_calendar = job.by_calendar.unwrap_or(u64::MAX);
     let by_interval = job.by_interval.unwrap_or(u64::MAX);
     by_calendar.min(by_interval)
@@ -260,12 +260,12 @@ fn add_start(page: &mut Page<'_>, label: &str, second: u64, every: Option<u32>) 
     let from = page.now.wall;
     page.add("$  $  in ", &[Moment(second), Filling::Text(label)]);
     let left = second.saturating_sub(from).saturating_mul(1000);
-    page.ink.put_span(left, false);
+    page.writer.put_span(left, false);
     if let Some(every) = every {
         let form = " (each $ s from a load at $)";
         page.add(form, &[Filling::Number(u64::from(every)), Moment(from)]);
     }
-    page.ink.put("\n");
+    page.writer.put("\n");
 }
 
 /// Adds a start as an object: the label, when it comes, how far that is from now, and the seconds of the interval that is over then, if one is.

@@ -1,5 +1,5 @@
-//! The exit statuses of the three programs. Those from 64 on are of sysexits.h. How `jobd replay` ended is told by `replay::status_of`,
-//! by a contract. A `jobctl` that was refused ends with the code of the first refusal (`Refusal::code`) in place of these.
+//! The exit statuses of the three programs. Those from 64 on are of sysexits.h. `replay::status_of` says by a contract how
+//! `jobd replay` ended. A `jobctl` that was refused exits with the code of the first refusal (`Refusal::code`) in place of these.
 #![tactic(auto)]
 
 /// Memory was refused: all three programs.
@@ -32,7 +32,7 @@ pub const REFUSED: u8 = 1;
 /// `jobscope drift`: a file differs from what is loaded, or a loaded job has no file.
 pub const DIFFERS: u8 = 2;
 
-/// The words are no command (`EX_USAGE`): all three programs.
+/// Invalid usage: the arguments do not form a command (`EX_USAGE`). All three programs.
 pub const USAGE: u8 = 64;
 
 /// A file can't be read or used (`EX_DATAERR`): `jobctl`, `jobscope`.
@@ -47,5 +47,6 @@ pub const BAD_CLOCK: u8 = 71;
 /// The standard output failed (`EX_IOERR`): `jobctl`, `jobscope`.
 pub const BAD_OUTPUT: u8 = 74;
 
-/// The standard output's reader has gone: the status of a program which a shell's pipe ended by SIGPIPE. `jobctl`, `jobscope`.
+/// The standard output's reader has closed it: the status of a program which a shell's pipe ended by SIGPIPE. `jobctl`,
+/// `jobscope`.
 pub const READER_GONE: u8 = 141;

@@ -12,7 +12,7 @@ pub use by_name::{Programs, run_by_name};
 pub use child::sees_children;
 pub use program::{Program, program_of};
 pub(crate) use standing::own_user;
-pub use standing::{Signal, Standing};
+pub use standing::{ProcessState, Signal};
 pub use streams::open_null_streams;
 pub(crate) use words::marked;
 pub use words::{MARK, marked_words, own_program, own_words};

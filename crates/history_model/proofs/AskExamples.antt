@@ -15,7 +15,7 @@ use Rattle.history_model.proofs.StopExamples.{unthrottled}
 
 -- ---- start
 
--- a start of a job that runs is no demand
+-- a start of a job that runs does not make a demand
 pub start_of_a_running_job : play (load unthrottled ∷ spawned 1 ∷ Asked Start ∷ ended 1 (Code 0) ∷ [])
     ≡ gives (Spawn 1 None) ∷ none ∷ none ∷ none ∷ []
 start_of_a_running_job = refl
@@ -177,7 +177,7 @@ last_run = refl
 pub no_run_remains : due_by (record (facts_of (load unthrottled ∷ [])) { run_count = 2 ^ 63 }) 0 ≡ None
 no_run_remains = refl
 
--- ---- each run anew
+-- ---- each run from the start
 
 -- what was ordered and answered for one run says nothing of the next: TERM, its refusals and its timeout, and KILL
 pub each_run_anew : play (

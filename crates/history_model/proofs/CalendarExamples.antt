@@ -52,7 +52,7 @@ pub two_sundays : matching sunday (record every_minute { weekday = Some 0 } ∷ 
     ≡ true ∷ true ∷ false ∷ false ∷ []
 two_sundays = refl
 
--- of a day and a weekday that both stand one suffices, with 7 for Sunday too
+-- of a day and a weekday that both are set one suffices, with 7 for Sunday too
 pub one_of_two : matching tuesday (
     record every_minute { day = Some 14; weekday = Some 3 } ∷ record every_minute { day = Some 13; weekday = Some 2 } ∷ record every_minute { day = Some 13; weekday = Some 3 }
     ∷ record every_minute { day = Some 14; weekday = Some 2 } ∷ []
@@ -77,7 +77,7 @@ all_of_them = refl
 
 -- ---- crossed minutes
 
--- 1700000040 is a full minute: it is crossed by the reading that reaches it, and by none after it
+-- 1700000040 is a full minute: it is crossed by the clock reading that reaches it, and by none after it
 pub one_minute : crossed 1700000000 1700000039 ∷ crossed 1700000000 1700000040 ∷ crossed 1700000039 1700000099 ∷ crossed 1700000040 1700000099 ∷ []
     ≡ [] ∷ (1700000040 ∷ []) ∷ (1700000040 ∷ []) ∷ [] ∷ []
 one_minute = refl
@@ -86,7 +86,7 @@ one_minute = refl
 pub three_minutes : crossed 1700000039 1700000160 ≡ 1700000040 ∷ 1700000100 ∷ 1700000160 ∷ []
 three_minutes = refl
 
--- none if the wall clock stands, or is set back
+-- none if the wall clock stops, or is set back
 pub no_minute : crossed 1700000040 1700000040 ∷ crossed 1700000160 1700000040 ∷ [] ≡ [] ∷ [] ∷ []
 no_minute = refl
 

@@ -1,4 +1,4 @@
--- Over all loads of a label, each spawn that succeeded has ended, but for the one that lives.
+-- Over all loads of a label, each spawn that succeeded has ended, but for the one that is running.
 use Rattle.std.proofs.Common.{◌≡◌, ℕ, ◌+◌, ◌≤◌, Bool, true, false, not, ◌&&◌, cond, Option, Some, None, is_some, List, [], ◌∷◌, ◌++◌, refl, sym, ap, ◌∙◌, length, arith, append-nil}
 use Rattle.std.specs.Prelude.{Ok, Err}
 use Rattle.std.specs.List.{filter, filter_map, flat_map, cons_option, AllByRecursion}
@@ -17,9 +17,9 @@ use Rattle.history_model.specs.Refusals.{refusal_of, IsLawful}
 use Rattle.history_model.specs.FactsOfPast.{ordered}
 use Rattle.history_model.specs.Calendar.{calendar_fires}
 use Rattle.history_model.specs.Labels.{Label, is_label, is_same}
-use Rattle.history_model.specs.Machine.{State, Job, Event, Unreadable, Load, UnloadJob, Set, ListJobs, PrintJob, ShutDown, Tick, Sight, OfJob, is_of, past_in, past_of}
-use Rattle.history_model.specs.Acceptance.{is_heard, refusal_at, refusal_in}
-use Rattle.history_model.specs.Step.{with_item, heard, heard_one, lists, sight_of, taken, stays, with_orders, step_by, step, run}
+use Rattle.history_model.specs.Machine.{State, Job, Event, Unreadable, Load, UnloadJob, Set, ListJobs, PrintJob, ShutDown, Tick, Observation, OfJob, is_of, past_in, past_of}
+use Rattle.history_model.specs.Acceptance.{is_received, refusal_at, refusal_in}
+use Rattle.history_model.specs.Step.{with_item, received, received_one, lists, observation_of, taken, stays, with_orders, step_by, step, run}
 use Rattle.history_model.specs.MachineLaws.{living_in, concerns, only}
 use Rattle.history_model.specs.RunCounts.{is_start_of, is_finish_of, is_taken_as, count_taken}
 use Rattle.history_model.proofs.BooleanLemmas.{and-both, not-false}
@@ -57,20 +57,20 @@ alive-stays (job ∷ jobs) = go (alive-stays jobs) (is_gone job.past) refl where
 
 -- ---- items of every job
 
-alive-heard : (item : Job → Option Item) → ((job : Job) → living (with_item job (item job)).past ≡ living job.past) → (jobs : List Job) → alive (heard item jobs) ≡ alive jobs
-alive-heard item same [] = refl
-alive-heard item same (job ∷ jobs) = λ i. same job i ++ alive-heard item same jobs i
+alive-received : (item : Job → Option Item) → ((job : Job) → living (with_item job (item job)).past ≡ living job.past) → (jobs : List Job) → alive (received item jobs) ≡ alive jobs
+alive-received item same [] = refl
+alive-received item same (job ∷ jobs) = λ i. same job i ++ alive-received item same jobs i
 
-living-sight : (path : List ℕ) (obs : _) (job : Job) → living (with_item job (sight_of path (Saw path obs) job)).past ≡ living job.past
-living-sight path obs job = go (lists (definition_of job.past) path) where
+living-observation : (path : List ℕ) (obs : _) (job : Job) → living (with_item job (observation_of path (Saw path obs) job)).past ≡ living job.past
+living-observation path obs job = go (lists (definition_of job.past) path) where
   go : (b : Bool) → living (with_item job (cond b (Some (Saw path obs)) None)).past ≡ living job.past
   go true = refl
   go false = refl
 
-alive-heard_one : (label : Label) (x : Item) → ((job : Job) → living (x ∷ job.past) ≡ living job.past) → (jobs : List Job) → alive (heard_one label x jobs) ≡ alive jobs
-alive-heard_one label x same [] = refl
-alive-heard_one label x same (job ∷ jobs) = go (alive-heard_one label x same jobs) (is_of label job) where
-  go : alive (heard_one label x jobs) ≡ alive jobs → (b : Bool) → alive (cond b (with_item job (Some x) ∷ jobs) (job ∷ heard_one label x jobs)) ≡ living job.past ++ alive jobs
+alive-received_one : (label : Label) (x : Item) → ((job : Job) → living (x ∷ job.past) ≡ living job.past) → (jobs : List Job) → alive (received_one label x jobs) ≡ alive jobs
+alive-received_one label x same [] = refl
+alive-received_one label x same (job ∷ jobs) = go (alive-received_one label x same jobs) (is_of label job) where
+  go : alive (received_one label x jobs) ≡ alive jobs → (b : Bool) → alive (cond b (with_item job (Some x) ∷ jobs) (job ∷ received_one label x jobs)) ≡ living job.past ++ alive jobs
   go rest true = λ i. same job i ++ alive jobs
   go rest false = λ i. living job.past ++ rest i
 
@@ -111,36 +111,36 @@ finish_of l m same (Left conn) = refl
 finish_of l m same (Ordered act) = refl
 finish_of l m same (WaitRefused run) = refl
 
--- a spawn that succeeds adds the one run that lives, an end takes it away, and no other item does either
-heard-living : (x : Item) (t : History) → is_heard x ≡ true → refusal_of x t ≡ None → IsLawful t →
+-- a spawn that succeeds adds the one run that is running, an end takes it away, and no other item does either
+received-living : (x : Item) (t : History) → is_received x ≡ true → refusal_of x t ≡ None → IsLawful t →
     ones (is_start x) + length (living t) ≡ ones (is_finish x) + length (living (x ∷ t))
-heard-living (Answered (Spawned run pid)) t heard accepted lawful =
+received-living (Answered (Spawned run pid)) t received accepted lawful =
     let order = spawned-awaited t run pid (Answers-from t (Spawned run pid) accepted) in
     let fresh = (sound t lawful).1 run order.0 order.1 in
     rw (spawned-living t run pid fresh, fresh.3) refl
-heard-living (RunEnded run how) t heard accepted lawful =
+received-living (RunEnded run how) t received accepted lawful =
     let fact = IsChild-from t run accepted in
     let one = child-present t (record { run = run; pid = fact.pid }) (sound t lawful).0 fact.stands in
     rw (ended-living t run how (record { run = run; pid = fact.pid }) refl one.1, one.1) refl
-heard-living (Asked Start) t heard accepted lawful = refl
-heard-living (Asked Stop) t heard accepted lawful = refl
-heard-living (Asked (Kickstart kills_first)) t heard accepted lawful = refl
-heard-living (Came conn) t heard accepted lawful = refl
-heard-living (Left conn) t heard accepted lawful = refl
-heard-living (Answered (SpawnRefused run)) t heard accepted lawful = refl
-heard-living (Answered (Termed run ok)) t heard accepted lawful = refl
-heard-living (Answered (Killed run ok)) t heard accepted lawful = refl
-heard-living (WaitRefused run) t heard accepted lawful = refl
-heard-living _ t heard accepted lawful = cc
+received-living (Asked Start) t received accepted lawful = refl
+received-living (Asked Stop) t received accepted lawful = refl
+received-living (Asked (Kickstart kills_first)) t received accepted lawful = refl
+received-living (Came conn) t received accepted lawful = refl
+received-living (Left conn) t received accepted lawful = refl
+received-living (Answered (SpawnRefused run)) t received accepted lawful = refl
+received-living (Answered (Termed run ok)) t received accepted lawful = refl
+received-living (Answered (Killed run ok)) t received accepted lawful = refl
+received-living (WaitRefused run) t received accepted lawful = refl
+received-living _ t received accepted lawful = cc
 
 -- the label's only job
-heard-one : (l : Label) (x : Item) (at : Reading) (jobs : List Job) → filter (is_of l) jobs ≡ jobs → length jobs ≤ 1 → AllByRecursion (Rests at) jobs →
-    is_heard x ≡ true → refusal_at (past_in (first jobs)) x ≡ None → ones (is_start x) + length (alive jobs) ≡ ones (is_finish x) + length (alive (heard_one l x jobs))
-heard-one l x at [] own few all heard accepted = cc
-heard-one l x at (job ∷ other ∷ jobs) own few all heard accepted = absurd (omega (arith, few))
-heard-one l x at (job ∷ []) own few all heard accepted = go (is_of l job) refl own where
+received-one : (l : Label) (x : Item) (at : Reading) (jobs : List Job) → filter (is_of l) jobs ≡ jobs → length jobs ≤ 1 → AllByRecursion (Rests at) jobs →
+    is_received x ≡ true → refusal_at (past_in (first jobs)) x ≡ None → ones (is_start x) + length (alive jobs) ≡ ones (is_finish x) + length (alive (received_one l x jobs))
+received-one l x at [] own few all received accepted = cc
+received-one l x at (job ∷ other ∷ jobs) own few all received accepted = absurd (omega (arith, few))
+received-one l x at (job ∷ []) own few all received accepted = go (is_of l job) refl own where
   one : ones (is_start x) + length (living job.past) ≡ ones (is_finish x) + length (living (x ∷ job.past))
-  one = heard-living x job.past heard accepted all.0.stands.lawful
+  one = received-living x job.past received accepted all.0.stands.lawful
 
   go : (b : Bool) → is_of l job ≡ b → cond b (job ∷ []) [] ≡ job ∷ [] →
       ones (is_start x) + length (living job.past ++ []) ≡ ones (is_finish x) + length (alive (cond b (with_item job (Some x) ∷ []) (job ∷ [])))
@@ -155,19 +155,19 @@ balance : (l : Label) (s : State) (e : Event) → IsGood s → length (filter (i
 balance l s Unreadable good few named accepted = cc
 balance l s (Load (Err fault) writes_setting force bind store) good few named accepted = cc
 balance l s (Load (Ok given) writes_setting force bind store) good few named accepted = rw (absent l s given writes_setting force bind store named accepted) refl
-balance l s (UnloadJob m writes_setting store) good few named accepted = rw (alive-heard_one m (Asked Unload) (λ job. refl) (filter (is_of l) s.jobs)) refl
+balance l s (UnloadJob m writes_setting store) good few named accepted = rw (alive-received_one m (Asked Unload) (λ job. refl) (filter (is_of l) s.jobs)) refl
 balance l s (Set m disabled store) good few named accepted = refl
 balance l s ListJobs good few named accepted = cc
 balance l s (PrintJob m) good few named accepted = refl
-balance l s ShutDown good few named accepted = rw (alive-heard (λ job. Some (Asked Shutdown)) (λ job. refl) (filter (is_of l) s.jobs)) refl
+balance l s ShutDown good few named accepted = rw (alive-received (λ job. Some (Asked Shutdown)) (λ job. refl) (filter (is_of l) s.jobs)) refl
 balance l s (Tick at) good few named accepted =
-    rw (alive-heard (λ job. Some (Read at (calendar_fires s.zone (definition_of job.past).calendar s.reading.wall at.wall))) (λ job. refl) (filter (is_of l) s.jobs)) refl
-balance l s (Sight path obs) good few named accepted = rw (alive-heard (sight_of path (Saw path obs)) (living-sight path obs) (filter (is_of l) s.jobs)) refl
+    rw (alive-received (λ job. Some (Read at (calendar_fires s.zone (definition_of job.past).calendar s.reading.wall at.wall))) (λ job. refl) (filter (is_of l) s.jobs)) refl
+balance l s (Observation path obs) good few named accepted = rw (alive-received (observation_of path (Saw path obs)) (living-observation path obs) (filter (is_of l) s.jobs)) refl
 balance l s (OfJob m x) good few named accepted =
-    let allowed = refused-None (not (is_label m && is_heard x)) BadRequest (refusal_at (past_of s m) x) accepted in
-    let heard = and-both (is_label m) (is_heard x) (not-false (is_label m && is_heard x) allowed.0) in
+    let allowed = refused-None (not (is_label m && is_received x)) BadRequest (refusal_at (past_of s m) x) accepted in
+    let received = and-both (is_label m) (is_received x) (not-false (is_label m && is_received x) allowed.0) in
     let known : refusal_at (past_in (first (filter (is_of l) s.jobs))) x ≡ None = rw (same_text l m (sym named)) allowed.1 in
-    let one = heard-one l x s.reading (filter (is_of l) s.jobs) (filter-idem (is_of l) s.jobs) few (resting-only l s good) heard.1 known in
+    let one = received-one l x s.reading (filter (is_of l) s.jobs) (filter-idem (is_of l) s.jobs) few (resting-only l s good) received.1 known in
     let same : l ≡ m = same_text l m (sym named) in
     rw (start_of l m named x, finish_of l m named x, ← same) one
 

@@ -96,7 +96,7 @@ none-coming wait up (m ∷ ms) over =
     let both = or-false (is_within wait up m) (list_any (is_within wait up) ms) over in
     rw (both.0, none-coming wait up ms both.1) refl
 
--- items of a kind, each behind moments of that kind that are over
+-- items of a kind, each after moments of that kind that are over
 abbrev pub AreSpaced : (Item → Bool) → ℕ → History → Type 0
 AreSpaced p wait [] = Unit {0}
 AreSpaced p wait (x ∷ t) = (p x ≡ true → are_over wait (now (x ∷ t)).up (moments p t)) × AreSpaced p wait t
@@ -125,7 +125,7 @@ pub record Kind (p : Item → Bool) (of : Act → Bool) : Type 0 where
   pub ready : (t : History) → IsLawful t → (act : Act) → due t ≡ Some act → of act ≡ true → are_over SECOND (now t).up (moments p t)
   pub awaiting : (x : Item) (t : History) → IsLawful (x ∷ t) → p x ≡ true → (act : Act) × (awaited t ≡ Some act) × (of act ≡ true) × (awaited (x ∷ t) ≡ None)
 
--- an item behind which the order is still awaited refuses none of the kind
+-- an item after which the order is still awaited refuses none of the kind
 refused-here : (p : Item → Bool) (of : Act → Bool) → Kind p of → (x : Item) (t : History) → IsLawful (x ∷ t) → (act : Act) → awaited (x ∷ t) ≡ Some act → of act ≡ true →
     awaited (x ∷ t) ≡ settle x (awaited t) → (awaited t ≡ Some act → of act ≡ true → are_over SECOND (now t).up (moments p t)) →
     are_over SECOND (now (x ∷ t)).up (moments p (x ∷ t))

@@ -128,7 +128,7 @@ pub facts-Left : (t : History) (conn : ℕ) (up : ℕ) → facts_of (Left conn �
 facts-Left t conn up =
     λ i. record (facts_of t) { queue = filter-less-first (λ c. conn == c) (λ c. list_any (is_left c) t) (λ c. list_any (is_carrying t c) t) (in_order came_in t) i }
 
--- ---- sights
+-- ---- observations
 
 pub seen-more : {A : Type 0} (path_in : A → List ℕ) (xs : List A) (t : History) (path : List ℕ) (obs : Obs) →
     map (λ x. last_seen (path_in x) (Saw path obs ∷ t)) xs ≡ seen_after path_in xs path obs (map (λ x. last_seen (path_in x) t) xs)

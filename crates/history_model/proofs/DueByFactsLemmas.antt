@@ -1,4 +1,4 @@
--- A reading that reaches no moment of a job leaves its facts, its order and its next moment as they were. All is said of facts, so no
+-- A clock reading that reaches no moment of a job leaves its facts, its order and its next moment as they were. All is said of facts, so no
 -- past is named: an index that keeps the next moment by the facts needs no past either.
 use Rattle.std.proofs.Common.{◌≡◌, ℕ, ◌+◌, ◌-◌, ◌*◌, ◌/◌, ◌^◌, ◌<◌, ◌≤◌, Bool, true, false, not, ◌||◌, ◌&&◌, cond, Option, Some, None, is_some, min, nat_lt, nat_le, refl, sym, ap, ◌∙◌, subst, arith}
 use Rattle.std.proofs.lemmas.Bool.Decides.{nat_tests}

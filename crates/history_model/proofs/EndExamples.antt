@@ -45,11 +45,11 @@ other_signals = refl
 pub codes_are_no_crash : map (λ n. after if_crashed (Code n)) (0 ∷ 1 ∷ 3 ∷ 11 ∷ 139 ∷ []) ≡ replicate 5 over
 codes_are_no_crash = refl
 
--- the other way round
+-- the converse
 pub unless_crash_signals : map (λ n. after if_not_crashed (Signal n)) (3 ∷ 4 ∷ 5 ∷ 6 ∷ 7 ∷ 8 ∷ 11 ∷ 31 ∷ []) ≡ replicate 8 over
 unless_crash_signals = refl
 
--- KILL, TERM and any code are no crash
+-- KILL, TERM and any code are not crashes
 pub unless_others : after if_not_crashed (Signal 9) ∷ after if_not_crashed (Signal 15) ∷ after if_not_crashed (Code 0) ∷ after if_not_crashed (Code 3) ∷ []
     ≡ replicate 4 again
 unless_others = refl
@@ -79,7 +79,7 @@ pub successes : after if_successful (Code 0) ∷ map (after if_successful) (Code
     ≡ again ∷ replicate 6 over
 successes = refl
 
--- the other way round
+-- the converse
 pub failures : after if_not_successful (Code 0) ∷ map (after if_not_successful) (Code 1 ∷ Code 255 ∷ Signal 0 ∷ Signal 9 ∷ Signal 11 ∷ Signal 15 ∷ [])
     ≡ over ∷ replicate 6 again
 failures = refl

@@ -1,4 +1,4 @@
--- Words in which the worked examples of the whole machine are written: readings, events, jobs and outcomes.
+-- Definitions that the worked examples of the whole machine use: clock readings, events, jobs and outcomes.
 use Rattle.std.specs.Prelude.{ℕ, zero, suc, ◌+◌, ◌/◌, ◌%◌, pos, Bool, true, false, List, [], ◌∷◌, None, Ok, codes}
 use Rattle.history_model.specs.declared.Reading.{Reading}
 use Rattle.history_model.specs.declared.CivilMinute.{CivilMinute}
@@ -27,15 +27,15 @@ utc_that_day m = record {
   weekday = (m / 86400 + 4) % 7;
 }
 
--- a reading, so many milliseconds after Tuesday 14 November 2023, 22:13:20
+-- a clock reading, this number of milliseconds after Tuesday 14 November 2023, 22:13:20
 abbrev pub read_at : ℕ → Reading
 read_at up = record { up = up; wall = 1700000000 + up / 1000 }
 
--- the machine, opened with these overrides
+-- the machine, opened with these settings
 abbrev pub start_with : List Setting → State
 start_with overrides = opened (record { reading = read_at 0; zone = utc_that_day; overrides = overrides })
 
--- the machine, opened without overrides
+-- the machine, opened without settings
 abbrev pub start : State
 start = start_with []
 
@@ -77,7 +77,7 @@ killed label run = OfJob label (Answered (Killed run true))
 abbrev pub ended : Label → ℕ → Ended → Event
 ended label run how = OfJob label (RunEnded run how)
 
--- so many connections come, numbered from this one on
+-- this number of connections come, numbered from this one on
 abbrev pub cames : Label → ℕ → ℕ → List Event
 cames label k zero = []
 cames label k (suc n) = OfJob label (Came k) ∷ cames label (k + 1) n

@@ -99,7 +99,7 @@ facts-Spawn t lawful run conn e =
     let kill_refusals = moments-none (is_kill_answer false n) t (list_any-implied (is_kill_answer false n) (names_run n) (killed-named false n) t new) in
     let termed = list_any-implied (is_term_answer true n) (names_run n) (termed-named true n) t new in
     let killed = list_any-implied (is_kill_answer true n) (names_run n) (killed-named true n) t new in
-    let heard = list_any-implied (is_stopping_order n) (names_run n) (stopping-named n) t new in
+    let received = list_any-implied (is_stopping_order n) (names_run n) (stopping-named n) t new in
     let idle = and-false (is_busy (Ordered (Spawn run conn) ∷ t)) in
     λ i. record (facts_of t) {
       run_count = next i;
@@ -115,7 +115,7 @@ facts-Spawn t lawful run conn e =
       kill_refused = first (kill_refusals i);
       is_term_done = termed i;
       is_kill_done = killed i;
-      is_ordered_to_end = heard i;
+      is_ordered_to_end = received i;
       is_stopping = idle i;
       is_struck = idle i;
     }
@@ -264,7 +264,7 @@ ended_no_spawn run how (Some (Kill n)) excluded = elim (n == run) as (λ v. is_s
 ended_no_spawn run how (Some (Close n)) excluded = refl
 ended_no_spawn run how (Some Gone) excluded = refl
 
--- beside a child no spawn is awaited
+-- with a child no spawn is awaited
 child-no_spawn : (t : History) → IsLawful t → (c : Child) → child t ≡ Some c → (n : ℕ) (conn : Option ℕ) → awaited t ≡ Some (Spawn n conn) → ⊥
 child-no_spawn t lawful c e n conn order =
     let both = sound t lawful in
@@ -300,7 +300,7 @@ facts-RunEnded t lawful run how fact =
 
 -- ---- TERM and KILL
 
--- an order for a run that lives changes nothing of the last end
+-- an order for a run that is running changes nothing of the last end
 crash-kept : (t : History) (act : Act) (o : Option LastEnd) → ((e : LastEnd) → o ≡ Some e → is_stopping_act e.run act ≡ false) → crash_of (Ordered act ∷ t) o ≡ crash_of t o
 crash-kept t act None other = refl
 crash-kept t act (Some e) other = rw (other e refl) refl

@@ -8,20 +8,20 @@ use Rattle.history_model.specs.Runs.{is_gone}
 use Rattle.history_model.specs.Due.{due}
 use Rattle.history_model.specs.FactsOfPast.{ordered}
 use Rattle.history_model.specs.Labels.{Label}
-use Rattle.history_model.specs.Machine.{State, Job, Header, Event, Unreadable, Load, UnloadJob, Set, ListJobs, PrintJob, ShutDown, Tick, Sight, OfJob, is_of, opened}
+use Rattle.history_model.specs.Machine.{State, Job, Header, Event, Unreadable, Load, UnloadJob, Set, ListJobs, PrintJob, ShutDown, Tick, Observation, OfJob, is_of, opened}
 use Rattle.history_model.specs.Acceptance.{refusal_in}
-use Rattle.history_model.specs.Step.{with_item, heard, heard_one, taken, stays, with_orders, step_by, step, run}
+use Rattle.history_model.specs.Step.{with_item, received, received_one, taken, stays, with_orders, step_by, step, run}
 use Rattle.history_model.specs.MachineLaws.{concerns, only}
 use Rattle.history_model.proofs.OneLabelLemmas.{filter-stays, taken-only, taken-other, absent}
 
-pub length-heard : (item : Job → Option Item) (jobs : List Job) → length (heard item jobs) ≡ length jobs
-length-heard item [] = refl
-length-heard item (job ∷ jobs) = ap (λ n. suc n) (length-heard item jobs)
+pub length-received : (item : Job → Option Item) (jobs : List Job) → length (received item jobs) ≡ length jobs
+length-received item [] = refl
+length-received item (job ∷ jobs) = ap (λ n. suc n) (length-received item jobs)
 
-pub length-heard_one : (label : Label) (x : Item) (jobs : List Job) → length (heard_one label x jobs) ≡ length jobs
-length-heard_one label x [] = refl
-length-heard_one label x (job ∷ jobs) = go (length-heard_one label x jobs) (is_of label job) where
-  go : length (heard_one label x jobs) ≡ length jobs → (b : Bool) → length (cond b (with_item job (Some x) ∷ jobs) (job ∷ heard_one label x jobs)) ≡ suc (length jobs)
+pub length-received_one : (label : Label) (x : Item) (jobs : List Job) → length (received_one label x jobs) ≡ length jobs
+length-received_one label x [] = refl
+length-received_one label x (job ∷ jobs) = go (length-received_one label x jobs) (is_of label job) where
+  go : length (received_one label x jobs) ≡ length jobs → (b : Bool) → length (cond b (with_item job (Some x) ∷ jobs) (job ∷ received_one label x jobs)) ≡ suc (length jobs)
   go rest true = refl
   go rest false = ap (λ n. suc n) rest
 
@@ -41,14 +41,14 @@ named-few : (l : Label) (s : State) (e : Event) → concerns l e ≡ true → re
 named-few l s Unreadable named accepted few = cc
 named-few l s (Load (Err fault) writes_setting force bind store) named accepted few = cc
 named-few l s (Load (Ok given) writes_setting force bind store) named accepted few = rw (absent l s given writes_setting force bind store named accepted) (omega arith)
-named-few l s (UnloadJob m writes_setting store) named accepted few = rw length-heard_one few
+named-few l s (UnloadJob m writes_setting store) named accepted few = rw length-received_one few
 named-few l s (Set m disabled store) named accepted few = few
 named-few l s ListJobs named accepted few = cc
 named-few l s (PrintJob m) named accepted few = few
-named-few l s ShutDown named accepted few = rw length-heard few
-named-few l s (Tick at) named accepted few = rw length-heard few
-named-few l s (Sight path obs) named accepted few = rw length-heard few
-named-few l s (OfJob m item) named accepted few = rw length-heard_one few
+named-few l s ShutDown named accepted few = rw length-received few
+named-few l s (Tick at) named accepted few = rw length-received few
+named-few l s (Observation path obs) named accepted few = rw length-received few
+named-few l s (OfJob m item) named accepted few = rw length-received_one few
 
 few-taken : (s : State) (e : Event) → refusal_in s e ≡ None → IsFew s → IsFew (taken s e)
 few-taken s e accepted few l = go (concerns l e) refl where

@@ -15,9 +15,9 @@ use Rattle.history_model.specs.Due.{due}
 use Rattle.history_model.specs.FactsOfPast.{ordered}
 use Rattle.history_model.specs.Calendar.{calendar_fires}
 use Rattle.history_model.specs.Labels.{Label, is_same, is_less, is_before}
-use Rattle.history_model.specs.Machine.{State, Job, Event, Unreadable, Load, UnloadJob, Set, ListJobs, PrintJob, ShutDown, Tick, Sight, OfJob, is_of}
+use Rattle.history_model.specs.Machine.{State, Job, Event, Unreadable, Load, UnloadJob, Set, ListJobs, PrintJob, ShutDown, Tick, Observation, OfJob, is_of}
 use Rattle.history_model.specs.Acceptance.{refusal_in}
-use Rattle.history_model.specs.Step.{with_item, heard, heard_one, with_job, sight_of, taken, stays, step_by, step, run}
+use Rattle.history_model.specs.Step.{with_item, received, received_one, with_job, observation_of, taken, stays, step_by, step, run}
 use Rattle.history_model.specs.MachineLaws.{AreInOrder, labels_of}
 use Rattle.history_model.proofs.OneLabelLemmas.{absent}
 use Rattle.history_model.proofs.StepLemmas.{all-implied}
@@ -48,17 +48,17 @@ same_self (x ∷ a) = rw (eqb-self x, same_self a) refl
 
 -- ---- what keeps the order
 
-pub heard-labels : (item : Job → Option Item) (jobs : List Job) → labels_of (heard item jobs) ≡ labels_of jobs
-heard-labels item [] = refl
-heard-labels item (job ∷ jobs) = go (item job) (heard-labels item jobs) where
-  go : (x : Option Item) → labels_of (heard item jobs) ≡ labels_of jobs → (with_item job x).label ∷ labels_of (heard item jobs) ≡ job.label ∷ labels_of jobs
+pub received-labels : (item : Job → Option Item) (jobs : List Job) → labels_of (received item jobs) ≡ labels_of jobs
+received-labels item [] = refl
+received-labels item (job ∷ jobs) = go (item job) (received-labels item jobs) where
+  go : (x : Option Item) → labels_of (received item jobs) ≡ labels_of jobs → (with_item job x).label ∷ labels_of (received item jobs) ≡ job.label ∷ labels_of jobs
   go None rest = ap (λ (l : List Label). job.label ∷ l) rest
   go (Some x) rest = ap (λ (l : List Label). job.label ∷ l) rest
 
-pub heard_one-labels : (m : Label) (x : Item) (jobs : List Job) → labels_of (heard_one m x jobs) ≡ labels_of jobs
-heard_one-labels m x [] = refl
-heard_one-labels m x (job ∷ jobs) = go (is_of m job) (heard_one-labels m x jobs) where
-  go : (b : Bool) → labels_of (heard_one m x jobs) ≡ labels_of jobs → labels_of (cond b (with_item job (Some x) ∷ jobs) (job ∷ heard_one m x jobs)) ≡ job.label ∷ labels_of jobs
+pub received_one-labels : (m : Label) (x : Item) (jobs : List Job) → labels_of (received_one m x jobs) ≡ labels_of jobs
+received_one-labels m x [] = refl
+received_one-labels m x (job ∷ jobs) = go (is_of m job) (received_one-labels m x jobs) where
+  go : (b : Bool) → labels_of (received_one m x jobs) ≡ labels_of jobs → labels_of (cond b (with_item job (Some x) ∷ jobs) (job ∷ received_one m x jobs)) ≡ job.label ∷ labels_of jobs
   go true rest = refl
   go false rest = ap (λ (l : List Label). job.label ∷ l) rest
 
@@ -101,14 +101,14 @@ order-taken s Unreadable accepted order = order
 order-taken s (Load (Err fault) writes_setting force bind store) accepted order = order
 order-taken s (Load (Ok given) writes_setting force bind store) accepted order =
     with-order (record { label = given.label; past = Loaded given.definition s.reading ∷ [] }) s.jobs (absent given.label s given writes_setting force bind store (same_self given.label) accepted) order
-order-taken s (UnloadJob m writes_setting store) accepted order = rw (heard_one-labels m (Asked Unload) s.jobs) order
+order-taken s (UnloadJob m writes_setting store) accepted order = rw (received_one-labels m (Asked Unload) s.jobs) order
 order-taken s (Set m disabled store) accepted order = order
 order-taken s ListJobs accepted order = order
 order-taken s (PrintJob m) accepted order = order
-order-taken s ShutDown accepted order = rw (heard-labels (λ job. Some (Asked Shutdown)) s.jobs) order
-order-taken s (Tick at) accepted order = rw (heard-labels (λ job. Some (Read at (calendar_fires s.zone (definition_of job.past).calendar s.reading.wall at.wall))) s.jobs) order
-order-taken s (Sight path obs) accepted order = rw (heard-labels (sight_of path (Saw path obs)) s.jobs) order
-order-taken s (OfJob m item) accepted order = rw (heard_one-labels m item s.jobs) order
+order-taken s ShutDown accepted order = rw (received-labels (λ job. Some (Asked Shutdown)) s.jobs) order
+order-taken s (Tick at) accepted order = rw (received-labels (λ job. Some (Read at (calendar_fires s.zone (definition_of job.past).calendar s.reading.wall at.wall))) s.jobs) order
+order-taken s (Observation path obs) accepted order = rw (received-labels (observation_of path (Saw path obs)) s.jobs) order
+order-taken s (OfJob m item) accepted order = rw (received_one-labels m item s.jobs) order
 
 order-step : (s : State) (e : Event) → AreInOrder (labels_of s.jobs) → AreInOrder (labels_of (step s e).jobs)
 order-step s e order = go (refusal_in s e) refl where

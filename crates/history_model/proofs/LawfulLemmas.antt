@@ -1,4 +1,4 @@
--- What holds of each lawful past: its runs are numbered in turn, and one lives at a time.
+-- What holds of each lawful past: its runs are numbered in turn, and one is running at a time.
 use Rattle.std.proofs.Common.{◌≡◌, ◌≢◌, nat_lt, ◌==◌, ◌+◌, ◌^◌, ◌<◌, ℕ, suc, Bool, true, false, not, ◌||◌, ◌&&◌, cond, Option, Some, None, [], ◌∷◌, refl, sym, ap, ◌∙◌, is_some, arith}
 use Rattle.std.proofs.lemmas.Bool.{eq-eqb, eqb-true, false≢true}
 use Rattle.std.specs.List.{filter, filter_map, list_any}

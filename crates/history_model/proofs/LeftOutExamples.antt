@@ -7,10 +7,10 @@ use Rattle.history_model.specs.declared.Act.TheVariants.{Spawn}
 use Rattle.history_model.specs.declared.Refusal.TheVariants.{ClockRefused}
 use Rattle.history_model.specs.Items.{Definition}
 use Rattle.history_model.specs.Clock.{no_definition}
-use Rattle.history_model.specs.Machine.{Event, Sight}
+use Rattle.history_model.specs.Machine.{Event, Observation}
 use Rattle.history_model.specs.News.{may_change}
 use Rattle.history_model.specs.Step.{outcomes, run}
-use Rattle.history_model.specs.LeftOut.{Line, HandedIn, LeftOut, handed_in, outcomes_handed, outcomes_left, MayBeLeftOut}
+use Rattle.history_model.specs.LeftOut.{Line, Delivered, LeftOut, delivered, outcomes_handed, outcomes_left, MayBeLeftOut}
 use Rattle.history_model.proofs.ExampleWords.{start, read_at, read, load, spawned, ended, a, none, gives, refuses}
 
 -- a queue directory
@@ -19,7 +19,7 @@ q = 1 ∷ []
 
 -- it is seen, empty or not
 abbrev pub seen : Obs → Event
-seen obs = Sight q obs
+seen obs = Observation q obs
 
 abbrev pub empty : Obs
 empty = record { present = true; nonempty_dir = false; stamp = 5 }
@@ -34,9 +34,9 @@ worker = record no_definition { queue_directories = q ∷ []; start_interval = S
 -- it starts at its interval, and again once its directory is filled
 abbrev pub lines : List Line
 lines =
-    HandedIn (load a worker) ∷ LeftOut (read 1000) ∷ HandedIn (read 2000) ∷ HandedIn (seen empty) ∷ LeftOut (read 29999) ∷ LeftOut (seen empty)
-    ∷ HandedIn (read 30000) ∷ HandedIn (spawned a 1 7) ∷ LeftOut (read 30500) ∷ HandedIn (read 31000) ∷ HandedIn (ended a 1 (Code 0))
-    ∷ HandedIn (seen filled) ∷ LeftOut (read 39999) ∷ LeftOut (seen filled) ∷ HandedIn (read 40000) ∷ []
+    Delivered (load a worker) ∷ LeftOut (read 1000) ∷ Delivered (read 2000) ∷ Delivered (seen empty) ∷ LeftOut (read 29999) ∷ LeftOut (seen empty)
+    ∷ Delivered (read 30000) ∷ Delivered (spawned a 1 7) ∷ LeftOut (read 30500) ∷ Delivered (read 31000) ∷ Delivered (ended a 1 (Code 0))
+    ∷ Delivered (seen filled) ∷ LeftOut (read 39999) ∷ LeftOut (seen filled) ∷ Delivered (read 40000) ∷ []
 
 -- what is left out may be
 pub may_lack_them : MayBeLeftOut (read_at 0) start lines
@@ -76,7 +76,7 @@ may_lack_them = (
 )
 
 -- so the launcher gives what it gives if it hears all
-pub it_gives : outcomes (handed_in lines) start
+pub it_gives : outcomes (delivered lines) start
     ≡ none ∷ none ∷ none ∷ gives ((a, Spawn 1 None) ∷ []) ∷ none ∷ none ∷ none ∷ none ∷ gives ((a, Spawn 2 None) ∷ []) ∷ []
 it_gives = refl
 
@@ -89,7 +89,7 @@ and_nothing_at_the_others = refl
 
 -- ---- what is news
 
--- a reading that reaches the end of the interval, and one that comes a millisecond before
+-- a clock reading that reaches the end of the interval, and one that comes a millisecond before
 pub an_interval_is_news : may_change (run (load a worker ∷ []) start).jobs (read_at 0) (read_at 30000) ≡ true
 an_interval_is_news = refl
 
@@ -112,7 +112,7 @@ a_minute_of_no_calendar_is_none = refl
 abbrev pub kept : Definition
 kept = record no_definition { keep_alive = true }
 
--- a reading that is no news still has to be heard before an end: else the next throttle begins too early
+-- a clock reading that changes nothing still has to be received before an exit: else the next throttle begins too early
 pub with_the_reading : outcomes (load a kept ∷ spawned a 1 7 ∷ read 10000 ∷ read 20000 ∷ ended a 1 (Code 0) ∷ spawned a 2 8 ∷ ended a 2 (Code 0) ∷ read 25000 ∷ []) start
     ≡ gives ((a, Spawn 1 None) ∷ []) ∷ none ∷ none ∷ none ∷ gives ((a, Spawn 2 None) ∷ []) ∷ none ∷ none ∷ none ∷ []
 with_the_reading = refl
@@ -122,8 +122,8 @@ pub without_it : outcomes (load a kept ∷ spawned a 1 7 ∷ read 10000 ∷ ende
 without_it = refl
 
 -- and one that comes too early after one that was left out is refused only if all are heard
-pub all_heard : outcomes (read 2000 ∷ read 1000 ∷ []) start ≡ none ∷ refuses ClockRefused ∷ []
-all_heard = refl
+pub all_received : outcomes (read 2000 ∷ read 1000 ∷ []) start ≡ none ∷ refuses ClockRefused ∷ []
+all_received = refl
 
-pub one_heard : outcomes (read 1000 ∷ []) start ≡ none ∷ []
-one_heard = refl
+pub one_received : outcomes (read 1000 ∷ []) start ≡ none ∷ []
+one_received = refl

@@ -90,7 +90,7 @@ held-back t idle wanted = go (awaited t) (child t) idle where
   go (Some act) None none = refl
   go None None none = held (is_removed t) (is_wanted t) (is_throttled t) ((definition_of t).launch_only_once && has_ever_spawned t) (nat_lt (runs t) (2 ^ 63)) wanted none
 
--- an order is no demand
+-- an order does not make a demand
 no_order-fires : (t : History) (x : Item) (before : History) → fires x before ≡ true → is_spawned_order t x ≡ false
 no_order-fires t (Ordered act) before fired = cc
 no_order-fires t _ before fired = refl

@@ -13,12 +13,12 @@ use Rattle.history_model.proofs.ExampleWords.{read_at, start, load}
 abbrev pub numbered : ℕ → Label
 numbered k = (64 + k / 32) ∷ (64 + k % 32) ∷ []
 
--- so many jobs, numbered from this one on
+-- this number of jobs, numbered from this one on
 abbrev pub crowd : ℕ → ℕ → List Job
 crowd k zero = []
 crowd k (suc n) = record { label = numbered k; past = Loaded no_definition (read_at 0) ∷ [] } ∷ crowd (k + 1) n
 
--- the machine with so many jobs
+-- the machine with this number of jobs
 abbrev pub crowded : ℕ → State
 crowded n = record start { jobs = crowd 0 n }
 

@@ -1,4 +1,4 @@
--- Worked examples of readings and moments (launchd.plist(5): StartInterval, ThrottleInterval, ExitTimeOut,
+-- Worked examples of clock readings and moments (launchd.plist(5): StartInterval, ThrottleInterval, ExitTimeOut,
 -- StartCalendarInterval). Each is a theorem that computes.
 use Rattle.std.specs.Prelude.{◌≡◌, ℕ, Bool, true, false, List, [], ◌∷◌, map, Some, None, refl, unwrap_or}
 use Rattle.history_model.specs.declared.Entry.{Entry}
@@ -15,7 +15,7 @@ use Rattle.history_model.specs.Step.{run, outcomes}
 use Rattle.history_model.proofs.ThrottleExamples as rows
 use Rattle.history_model.proofs.ExampleWords.{utc_that_day, read_at, start, read, load, ask, spawned, termed, ended, a, at_load, none, refuses}
 
--- ---- readings
+-- ---- clock readings
 
 -- the greatest reading is accepted; past it, in either of the two, none is
 pub greatest_reading : outcomes (
@@ -40,7 +40,7 @@ pub counted_from_the_load : rows.play (Loaded (record no_definition { start_inte
     ≡ rows.none ∷ rows.none ∷ rows.none ∷ rows.gives (Spawn 1 None) ∷ []
 counted_from_the_load = refl
 
--- a reading that a calendar fires starts the job
+-- a clock reading that a calendar fires starts the job
 pub fired_by_a_calendar : rows.play (rows.load no_definition ∷ Read (rows.at 5) false ∷ Read (rows.at 6) true ∷ []) ≡ rows.none ∷ rows.none ∷ rows.gives (Spawn 1 None) ∷ []
 fired_by_a_calendar = refl
 
@@ -78,13 +78,13 @@ pub next_of_a_refused_kill : next_moment (past_after (load a (record at_load { t
     ≡ Some 1000 ∷ None ∷ []
 next_of_a_refused_kill = refl
 
--- ---- what a reading touches
+-- ---- what a clock reading touches
 
--- whether readings at these moments touch the past
+-- whether clock readings at these moments touch the past
 abbrev pub touched : History → List ℕ → List Bool
 touched past ups = map (λ up. touches utc_that_day (read_at up) past) ups
 
--- the throttle of a spawn that was ordered at 0: it is over at 10,000, and touched by the reading that reaches it alone
+-- the throttle of a spawn that was ordered at 0: it is over at 10,000, and touched by the clock reading that reaches it alone
 pub touched_by_the_throttle : touched (past_after (load a at_load ∷ [])) (9999 ∷ 10000 ∷ 20000 ∷ []) ≡ false ∷ true ∷ true ∷ []
 touched_by_the_throttle = refl
 

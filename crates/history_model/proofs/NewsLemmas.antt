@@ -1,4 +1,4 @@
--- A minute is crossed if the number of whole minutes rises; and what a reading that is no news leaves as it is, of each job.
+-- A minute is crossed if the number of whole minutes rises; and what a clock reading that changes nothing leaves as it is, of each job.
 use Rattle.std.proofs.Common.{◌≡◌, ◌⊎◌, inl, inr, ℕ, zero, suc, ◌-◌, ◌/◌, ◌≤◌, Bool, true, false, ◌||◌, ◌&&◌, max, Option, Some, None, List, [], ◌∷◌, refl, sym, ap, subst, ◌∙◌, arith}
 use Rattle.std.specs.Prelude.{nat_lt}
 use Rattle.std.proofs.lemmas.Bool.Decides.{nat_tests}
@@ -31,7 +31,7 @@ minute-crossed before wall =
     let same : nat_lt (before / 60) (wall / 60) ≡ nat_lt 0 (wall / 60 - last_before before wall) = grind (arith, nat_tests) in
     same ∙ some-above (last_before before wall) (wall / 60 - last_before before wall)
 
--- a reading that crosses none and goes not back is in the same minute
+-- a clock reading that crosses none and goes not back is in the same minute
 same-minute : (before wall : ℕ) → is_any_minute_crossed before wall ≡ false → nat_lt wall before ≡ false → before / 60 ≡ wall / 60
 same-minute before wall none forth =
     let below : nat_lt (before / 60) (wall / 60) ≡ false = minute-crossed before wall ∙ none in
@@ -55,7 +55,7 @@ fires-none zone entries before at (inr same) =
     let left : at / 60 - last_before before at ≡ 0 = omega (arith, same) in
     ap (λ n. list_any (λ m. list_any (λ entry. matches entry (zone m)) entries) (minutes_above (last_before before at) n)) left
 
--- ---- a reading that is no news
+-- ---- a clock reading that changes nothing
 
 -- for this job
 pub record IsQuietFor (before at : Reading) (job : Job) : Type 0 where
@@ -96,20 +96,20 @@ module _ (before at : Reading) where
         go true is none forth = inr (same-minute before.wall at.wall none forth)
         go false is none forth = inl is
 
--- ---- two readings between which nothing of a job changes
+-- ---- two clock readings between which nothing of a job changes
 
 pub record IsNear (before last : Reading) (job : Job) : Type 0 where
   pub crosses : (later : ℕ) → crosses_interval (definition_of job.past).start_interval (facts_of job.past).load_up last.up later
       ≡ crosses_interval (definition_of job.past).start_interval (facts_of job.past).load_up before.up later
   pub minutes : AreOneMinute (definition_of job.past).calendar before.wall last.wall
 
--- of one reading
+-- of one clock reading
 pub near-same : (before last : Reading) → before ≡ last → (jobs : List Job) → AllByRecursion (IsNear before last) jobs
 near-same before last same [] = tt
 near-same before last same (job ∷ jobs) =
     (subst (λ (r : Reading). IsNear before r job) same (record { crosses = λ later. refl; minutes = inr refl }), near-same before last same jobs)
 
--- of a reading that is no news, and of the one before it
+-- of a clock reading that changes nothing, and of the one before it
 pub near-quiet : (before at : Reading) → before.up ≤ at.up → (jobs : List Job) → AllByRecursion (IsQuietFor before at) jobs → AllByRecursion (IsNear before at) jobs
 near-quiet before at order [] all = tt
 near-quiet before at order (job ∷ jobs) (quiet, all) = (

@@ -18,10 +18,10 @@ use Rattle.history_model.specs.Due.{due}
 use Rattle.history_model.specs.FactsOfPast.{ordered}
 use Rattle.history_model.specs.Calendar.{calendar_fires}
 use Rattle.history_model.specs.Labels.{Label, is_same, is_before}
-use Rattle.history_model.specs.Machine.{State, Job, Given, Event, Unreadable, Load, UnloadJob, Set, ListJobs, PrintJob, ShutDown, Tick, Sight, OfJob, is_of, sets, past_in, past_of, is_disabled}
+use Rattle.history_model.specs.Machine.{State, Job, Given, Event, Unreadable, Load, UnloadJob, Set, ListJobs, PrintJob, ShutDown, Tick, Observation, OfJob, is_of, sets, past_in, past_of, is_disabled}
 use Rattle.history_model.specs.Acceptance.{refused_if, refusal_there, refusal_of_load, refusal_in, refusal_stored}
 use Rattle.history_model.specs.Texts.{text_after, printed}
-use Rattle.history_model.specs.Step.{Outcome, with_item, heard, heard_one, with_job, set_if, sight_of, taken, acts_of, orders_of, stays, with_orders, step_by, step, outcome_by, outcome, outcomes, orders_in}
+use Rattle.history_model.specs.Step.{Outcome, with_item, received, received_one, with_job, set_if, observation_of, taken, acts_of, orders_of, stays, with_orders, step_by, step, outcome_by, outcome, outcomes, orders_in}
 use Rattle.history_model.specs.MachineLaws.{concerns, only, is_for, own, outcomes_of, HasRoom}
 use Rattle.history_model.proofs.StepLemmas.{Rests, IsGood, good-step, refused-None, or_else-None}
 
@@ -58,26 +58,26 @@ with_item-label job (Some x) = refl
 -- ---- one label's jobs
 
 module _ (l : Label) where
-  pub filter-heard : (item : Job → Option Item) (jobs : List Job) → filter (is_of l) (heard item jobs) ≡ heard item (filter (is_of l) jobs)
-  filter-heard item [] = refl
-  filter-heard item (job ∷ jobs) = rw (with_item-label job (item job), filter-heard item jobs) (go (is_of l job)) where
-    go : (b : Bool) → cond b (with_item job (item job) ∷ heard item (filter (is_of l) jobs)) (heard item (filter (is_of l) jobs)) ≡ heard item (cond b (job ∷ filter (is_of l) jobs) (filter (is_of l) jobs))
+  pub filter-received : (item : Job → Option Item) (jobs : List Job) → filter (is_of l) (received item jobs) ≡ received item (filter (is_of l) jobs)
+  filter-received item [] = refl
+  filter-received item (job ∷ jobs) = rw (with_item-label job (item job), filter-received item jobs) (go (is_of l job)) where
+    go : (b : Bool) → cond b (with_item job (item job) ∷ received item (filter (is_of l) jobs)) (received item (filter (is_of l) jobs)) ≡ received item (cond b (job ∷ filter (is_of l) jobs) (filter (is_of l) jobs))
     go true = refl
     go false = refl
 
-  pub filter-heard_one : (x : Item) (jobs : List Job) → filter (is_of l) (heard_one l x jobs) ≡ heard_one l x (filter (is_of l) jobs)
-  filter-heard_one x [] = refl
-  filter-heard_one x (job ∷ jobs) = go (filter-heard_one x jobs) (is_of l job) refl where
-    go : filter (is_of l) (heard_one l x jobs) ≡ heard_one l x (filter (is_of l) jobs) → (b : Bool) → is_of l job ≡ b →
-        filter (is_of l) (cond b (with_item job (Some x) ∷ jobs) (job ∷ heard_one l x jobs)) ≡ heard_one l x (cond b (job ∷ filter (is_of l) jobs) (filter (is_of l) jobs))
+  pub filter-received_one : (x : Item) (jobs : List Job) → filter (is_of l) (received_one l x jobs) ≡ received_one l x (filter (is_of l) jobs)
+  filter-received_one x [] = refl
+  filter-received_one x (job ∷ jobs) = go (filter-received_one x jobs) (is_of l job) refl where
+    go : filter (is_of l) (received_one l x jobs) ≡ received_one l x (filter (is_of l) jobs) → (b : Bool) → is_of l job ≡ b →
+        filter (is_of l) (cond b (with_item job (Some x) ∷ jobs) (job ∷ received_one l x jobs)) ≡ received_one l x (cond b (job ∷ filter (is_of l) jobs) (filter (is_of l) jobs))
     go rest true e = rw e refl
     go rest false e = rw e rest
 
-  pub filter-heard_other : (m : Label) → is_same l m ≡ false → (x : Item) (jobs : List Job) → filter (is_of l) (heard_one m x jobs) ≡ filter (is_of l) jobs
-  filter-heard_other m differ x [] = refl
-  filter-heard_other m differ x (job ∷ jobs) = go (filter-heard_other m differ x jobs) (is_of m job) refl where
-    go : filter (is_of l) (heard_one m x jobs) ≡ filter (is_of l) jobs → (b : Bool) → is_of m job ≡ b →
-        filter (is_of l) (cond b (with_item job (Some x) ∷ jobs) (job ∷ heard_one m x jobs)) ≡ cond (is_of l job) (job ∷ filter (is_of l) jobs) (filter (is_of l) jobs)
+  pub filter-received_other : (m : Label) → is_same l m ≡ false → (x : Item) (jobs : List Job) → filter (is_of l) (received_one m x jobs) ≡ filter (is_of l) jobs
+  filter-received_other m differ x [] = refl
+  filter-received_other m differ x (job ∷ jobs) = go (filter-received_other m differ x jobs) (is_of m job) refl where
+    go : filter (is_of l) (received_one m x jobs) ≡ filter (is_of l) jobs → (b : Bool) → is_of m job ≡ b →
+        filter (is_of l) (cond b (with_item job (Some x) ∷ jobs) (job ∷ received_one m x jobs)) ≡ cond (is_of l job) (job ∷ filter (is_of l) jobs) (filter (is_of l) jobs)
     go rest true e = let away : is_of l job ≡ false = apart l m job.label differ e in rw away refl
     go rest false e = rw rest refl
 
@@ -182,15 +182,15 @@ module _ (l : Label) where
   refusal-only s (PrintJob m) named room = rw (← same_text l m (sym named), filter-idem (is_of l) s.jobs) refl
   refusal-only s ShutDown named room = refl
   refusal-only s (Tick at) named room = refl
-  refusal-only s (Sight path obs) named room = refl
+  refusal-only s (Observation path obs) named room = refl
   refusal-only s (OfJob m item) named room = rw (← same_text l m (sym named), filter-idem (is_of l) s.jobs) refl
 
   set_named : (m : Label) → is_same l m ≡ true → (b disabled : Bool) (settings : List Setting) → set_if b m disabled (filter (sets l) settings) ≡ filter (sets l) (set_if b m disabled settings)
   set_named m named true disabled settings = rw named refl
   set_named m named false disabled settings = refl
 
-  heard_named : (m : Label) → is_same l m ≡ true → (x : Item) (jobs : List Job) → heard_one m x (filter (is_of l) jobs) ≡ filter (is_of l) (heard_one m x jobs)
-  heard_named m named x jobs = rw (← same_text l m (sym named)) (sym (filter-heard_one l x jobs))
+  received_named : (m : Label) → is_same l m ≡ true → (x : Item) (jobs : List Job) → received_one m x (filter (is_of l) jobs) ≡ filter (is_of l) (received_one m x jobs)
+  received_named m named x jobs = rw (← same_text l m (sym named)) (sym (filter-received_one l x jobs))
 
   set_other : (m : Label) → is_same l m ≡ false → (b disabled : Bool) (settings : List Setting) → filter (sets l) (set_if b m disabled settings) ≡ filter (sets l) settings
   set_other m differ true disabled settings = rw differ refl
@@ -226,19 +226,19 @@ module _ (l : Label) where
       let jobs : with_job new (filter (is_of l) s.jobs) ≡ filter (is_of l) (with_job new s.jobs) = rw (empty, filter-with_job l new named s.jobs empty) refl in
       λ i. record (only l s) { settings = set_named given.label named writes_setting false s.settings i; jobs = jobs i }
   taken-only s (UnloadJob m writes_setting store) named accepted =
-      λ i. record (only l s) { settings = set_named m named writes_setting true s.settings i; jobs = heard_named m named (Asked Unload) s.jobs i }
+      λ i. record (only l s) { settings = set_named m named writes_setting true s.settings i; jobs = received_named m named (Asked Unload) s.jobs i }
   taken-only s (Set m disabled store) named accepted =
       λ i. record (only l s) { settings = set_named m named true disabled s.settings i }
   taken-only s ListJobs named accepted = cc
   taken-only s (PrintJob m) named accepted = refl
   taken-only s ShutDown named accepted =
-      λ i. record (only l s) { is_shutting_down = true; jobs = sym (filter-heard l (λ job. Some (Asked Shutdown)) s.jobs) i }
+      λ i. record (only l s) { is_shutting_down = true; jobs = sym (filter-received l (λ job. Some (Asked Shutdown)) s.jobs) i }
   taken-only s (Tick at) named accepted =
-      λ i. record (only l s) { reading = at; jobs = sym (filter-heard l (λ job. Some (Read at (calendar_fires s.zone (definition_of job.past).calendar s.reading.wall at.wall))) s.jobs) i }
-  taken-only s (Sight path obs) named accepted =
-      λ i. record (only l s) { jobs = sym (filter-heard l (sight_of path (Saw path obs)) s.jobs) i }
+      λ i. record (only l s) { reading = at; jobs = sym (filter-received l (λ job. Some (Read at (calendar_fires s.zone (definition_of job.past).calendar s.reading.wall at.wall))) s.jobs) i }
+  taken-only s (Observation path obs) named accepted =
+      λ i. record (only l s) { jobs = sym (filter-received l (observation_of path (Saw path obs)) s.jobs) i }
   taken-only s (OfJob m item) named accepted =
-      λ i. record (only l s) { jobs = heard_named m named item s.jobs i }
+      λ i. record (only l s) { jobs = received_named m named item s.jobs i }
 
   pub with_orders-only : (s : State) → with_orders (only l s) ≡ only l (with_orders s)
   with_orders-only s = λ i. record (only l s) { jobs = sym (filter-stays l s.jobs) i }
@@ -257,7 +257,7 @@ module _ (l : Label) where
     printing (Some job) = rw (filter-idem (sets l) s.settings) refl
   text-only ShutDown s named = refl
   text-only (Tick at) s named = refl
-  text-only (Sight path obs) s named = refl
+  text-only (Observation path obs) s named = refl
   text-only (OfJob m item) s named = refl
 
   -- so it does there what it does among others
@@ -288,14 +288,14 @@ module _ (l : Label) where
         jobs = filter-with_other l (record { label = given.label; past = Loaded given.definition s.reading ∷ [] }) other s.jobs i;
       }
   taken-other s (UnloadJob m writes_setting store) other =
-      λ i. record (only l s) { settings = set_other m other writes_setting true s.settings i; jobs = filter-heard_other l m other (Asked Unload) s.jobs i }
+      λ i. record (only l s) { settings = set_other m other writes_setting true s.settings i; jobs = filter-received_other l m other (Asked Unload) s.jobs i }
   taken-other s (Set m disabled store) other = λ i. record (only l s) { settings = set_other m other true disabled s.settings i }
   taken-other s ListJobs other = refl
   taken-other s (PrintJob m) other = refl
   taken-other s ShutDown other = cc
   taken-other s (Tick at) other = cc
-  taken-other s (Sight path obs) other = cc
-  taken-other s (OfJob m item) other = λ i. record (only l s) { jobs = filter-heard_other l m other item s.jobs i }
+  taken-other s (Observation path obs) other = cc
+  taken-other s (OfJob m item) other = λ i. record (only l s) { jobs = filter-received_other l m other item s.jobs i }
 
   pub resting-only : (s : State) → IsGood s → AllByRecursion (Rests s.reading) (filter (is_of l) s.jobs)
   resting-only s good = all-filter (Rests s.reading) (is_of l) s.jobs good.rests

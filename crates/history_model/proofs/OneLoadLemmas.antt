@@ -1,4 +1,4 @@
--- The laws of one load of a job: one run lives at a time, spawns are apart, and a KILL waits for its timeout.
+-- The laws of one load of a job: one run is running at a time, spawns are apart, and a KILL waits for its timeout.
 use Rattle.std.proofs.Common.{◌≡◌, inl, inr, ℕ, ◌*◌, ◌≤◌, Bool, true, false, ◌||◌, ◌&&◌, ◌∷◌, Option, refl, arith, nat_lt, length}
 use Rattle.std.specs.List.{list_any}
 use Rattle.std.proofs.lemmas.Bool.Decides.{nat_tests}

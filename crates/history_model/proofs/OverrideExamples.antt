@@ -1,4 +1,4 @@
--- Worked examples of overrides (launchctl(1): enable, disable, load -w and -F, unload -w; launchd.plist(5): Disabled). Each is
+-- Worked examples of settings (launchctl(1): enable, disable, load -w and -F, unload -w; launchd.plist(5): Disabled). Each is
 -- a theorem that computes.
 use Rattle.std.specs.Prelude.{◌≡◌, true, false, [], ◌∷◌, refl, codes}
 use Rattle.std.specs.Fmt.{digits}
@@ -25,7 +25,7 @@ pub store_refused : outcomes (Set a true true ∷ load_as true false true false 
     ≡ none ∷ refuses StoreRefused ∷ refuses Disabled ∷ none ∷ says (codes "PID\tStatus\tLabel\n-\t0\ta\n") ∷ []
 store_refused = refl
 
--- the header's overrides are settings
+-- what a header has under `overrides` are settings
 pub override_of_the_header : outcomes (load a no_definition ∷ load_as false true true true a no_definition ∷ []) (start_with (record { label = a; disabled = true } ∷ []))
     ≡ refuses Disabled ∷ none ∷ []
 override_of_the_header = refl

@@ -1,4 +1,4 @@
--- What a reading, or a sight, does to two jobs of whose pasts the same is known, if only the one hears of it; and what the next reading does to
+-- What a clock reading, or an observation, does to two jobs of whose pasts the same is known, if only the one hears of it; and what the next clock reading does to
 -- both.
 use Rattle.std.proofs.Common.{◌≡◌, inl, inr, ℕ, ◌≤◌, Bool, true, false, ◌||◌, ◌&&◌, cond, Option, Some, None, List, [], ◌∷◌, map, refl, sym, ap, subst, ◌∙◌}
 use Rattle.std.specs.List.{AllByRecursion}
@@ -17,7 +17,7 @@ use Rattle.history_model.specs.Facts.{Facts, facts_of}
 use Rattle.history_model.specs.ByFacts.{fired_by, facts_after}
 use Rattle.history_model.specs.DueByFacts.{due_by}
 use Rattle.history_model.specs.Machine.{Job}
-use Rattle.history_model.specs.Step.{with_item, heard, lists, sight_of}
+use Rattle.history_model.specs.Step.{with_item, received, lists, observation_of}
 use Rattle.history_model.specs.LeftOut.{HaveSeen}
 use Rattle.history_model.proofs.UntouchedLemmas.{list_any-none}
 use Rattle.history_model.proofs.ByFactsLemmas.{due-by, facts-after}
@@ -29,7 +29,7 @@ use Rattle.history_model.proofs.TwinLemmas.{IsTwin, AreTwins, definition-twin}
 use Rattle.history_model.proofs.NewsLemmas.{AreOneMinute, IsQuietFor, IsNear, fires-alike, fires-none}
 use Rattle.history_model.specs.declared.definition.parts.PathState.{PathState}
 
--- ---- a sight that is equal to the last
+-- ---- an observation that is equal to the last
 
 same_bool-self : (b : Bool) → is_same_bool b b ≡ true
 same_bool-self true = refl
@@ -65,8 +65,8 @@ module _ (t : History) (path : List ℕ) (obs : Obs) (seen : last_seen path t �
     seen_queues = map (λ (p : List ℕ). last-same p i) (definition_of t).queue_directories;
   }
 
--- the one job hears of the sight, the other saw it so last
-seen-twin : (path : List ℕ) (obs : Obs) (a b : Job) → IsTwin a b → (lists (definition_of b.past) path ≡ true → last_seen path b.past ≡ Some obs) → IsTwin (with_item a (sight_of path (Saw path obs) a)) b
+-- the one job hears of the observation, the other saw it so last
+seen-twin : (path : List ℕ) (obs : Obs) (a b : Job) → IsTwin a b → (lists (definition_of b.past) path ≡ true → last_seen path b.past ≡ Some obs) → IsTwin (with_item a (observation_of path (Saw path obs) a)) b
 seen-twin path obs a b twin seen = go (lists (definition_of a.past) path) refl where
   go : (v : Bool) → lists (definition_of a.past) path ≡ v → IsTwin (with_item a (cond v (Some (Saw path obs)) None)) b
   go true listed = record {
@@ -77,7 +77,7 @@ seen-twin path obs a b twin seen = go (lists (definition_of a.past) path) refl w
   }
   go false listed = twin
 
-seen-rests : (at : Reading) (path : List ℕ) (obs : Obs) (a b : Job) → IsTwin (with_item a (sight_of path (Saw path obs) a)) b → IsTwin a b → Rests at a → Stands at (with_item a (sight_of path (Saw path obs) a)) → Rests at (with_item a (sight_of path (Saw path obs) a))
+seen-rests : (at : Reading) (path : List ℕ) (obs : Obs) (a b : Job) → IsTwin (with_item a (observation_of path (Saw path obs) a)) b → IsTwin a b → Rests at a → Stands at (with_item a (observation_of path (Saw path obs) a)) → Rests at (with_item a (observation_of path (Saw path obs) a))
 seen-rests at path obs a b after twin rests stands = go (lists (definition_of a.past) path) after stands where
   go : (v : Bool) → IsTwin (with_item a (cond v (Some (Saw path obs)) None)) b → Stands at (with_item a (cond v (Some (Saw path obs)) None)) → Rests at (with_item a (cond v (Some (Saw path obs)) None))
   go true after stands = record {
@@ -90,23 +90,23 @@ seen-rests at path obs a b after twin rests stands = go (lists (definition_of a.
   go false after stands = rests
 
 module _ (at : Reading) (path : List ℕ) (obs : Obs) where
-  pub twins-seen : (xs ys : List Job) → AreTwins xs ys → HaveSeen path obs ys → AreTwins (heard (sight_of path (Saw path obs)) xs) ys
+  pub twins-seen : (xs ys : List Job) → AreTwins xs ys → HaveSeen path obs ys → AreTwins (received (observation_of path (Saw path obs)) xs) ys
   twins-seen [] [] twins seen = tt
   twins-seen [] (b ∷ ys) twins seen = absurd twins
   twins-seen (a ∷ xs) [] twins seen = absurd twins
   twins-seen (a ∷ xs) (b ∷ ys) twins seen = (seen-twin path obs a b twins.0 seen.0, twins-seen xs ys twins.1 seen.1)
 
-  pub rests-seen : (xs ys : List Job) → AreTwins xs ys → AreTwins (heard (sight_of path (Saw path obs)) xs) ys → AllByRecursion (Rests at) xs →
-      AllByRecursion (Stands at) (heard (sight_of path (Saw path obs)) xs) → AllByRecursion (Rests at) (heard (sight_of path (Saw path obs)) xs)
+  pub rests-seen : (xs ys : List Job) → AreTwins xs ys → AreTwins (received (observation_of path (Saw path obs)) xs) ys → AllByRecursion (Rests at) xs →
+      AllByRecursion (Stands at) (received (observation_of path (Saw path obs)) xs) → AllByRecursion (Rests at) (received (observation_of path (Saw path obs)) xs)
   rests-seen [] [] twins after rests stands = tt
   rests-seen [] (b ∷ ys) twins after rests stands = absurd twins
   rests-seen (a ∷ xs) [] twins after rests stands = absurd twins
   rests-seen (a ∷ xs) (b ∷ ys) twins after rests stands =
       (seen-rests at path obs a b after.0 twins.0 rests.0 stands.0, rests-seen xs ys twins.1 after.1 rests.1 stands.1)
 
--- ---- readings
+-- ---- clock readings
 
--- the item that a reading is, for a job
+-- the item that a clock reading is, for a job
 abbrev pub read_as : Zone → Reading → Reading → Job → Option Item
 read_as zone last at job = Some (Read at (calendar_fires zone (definition_of job.past).calendar last.wall at.wall))
 
@@ -116,7 +116,7 @@ one-minute entries before last at (inr same) (inl none) = inl none
 one-minute entries before last at (inr same) (inr other) = inr (sym same ∙ other)
 
 module _ (zone : Zone) (before last at : Reading) where
-  -- the one job hears of a reading that is no news for the other
+  -- the one job hears of a clock reading that changes nothing for the other
   left-twin : (a b : Job) → IsTwin a b → Stands last a → Stands before b → before.up ≤ at.up → IsNear before last b → IsQuietFor before at b → Stands at (with_item a (read_as zone last at a)) → IsTwin (with_item a (read_as zone last at a)) b
   left-twin a b twin sa sb order near quiet ta = record {
     label = twin.label;
@@ -143,7 +143,7 @@ module _ (zone : Zone) (before last at : Reading) where
     staying = ra.staying;
   }
 
-  -- both hear of the next reading
+  -- both hear of the next clock reading
   read-twin : (a b : Job) → IsTwin a b → Stands last a → Stands before b → IsNear before last b → Stands at (with_item a (read_as zone last at a)) → Stands at (with_item b (read_as zone before at b)) →
       IsTwin (with_item a (read_as zone last at a)) (with_item b (read_as zone before at b))
   read-twin a b twin sa sb near ta tb = record {
@@ -164,15 +164,15 @@ module _ (zone : Zone) (before last at : Reading) where
         ∙ fires-alike zone (definition_of b.past).calendar before.wall last.wall at.wall near.minutes
 
   pub twins-left : (xs ys : List Job) → AreTwins xs ys → AllByRecursion (Stands last) xs → AllByRecursion (Stands before) ys → before.up ≤ at.up → AllByRecursion (IsNear before last) ys →
-      AllByRecursion (IsQuietFor before at) ys → AllByRecursion (Stands at) (heard (read_as zone last at) xs) → AreTwins (heard (read_as zone last at) xs) ys
+      AllByRecursion (IsQuietFor before at) ys → AllByRecursion (Stands at) (received (read_as zone last at) xs) → AreTwins (received (read_as zone last at) xs) ys
   twins-left [] [] twins sx sy order near quiet tx = tt
   twins-left [] (b ∷ ys) twins sx sy order near quiet tx = absurd twins
   twins-left (a ∷ xs) [] twins sx sy order near quiet tx = absurd twins
   twins-left (a ∷ xs) (b ∷ ys) twins sx sy order near quiet tx =
       (left-twin a b twins.0 sx.0 sy.0 order near.0 quiet.0 tx.0, twins-left xs ys twins.1 sx.1 sy.1 order near.1 quiet.1 tx.1)
 
-  pub rests-left : (xs ys : List Job) → AreTwins (heard (read_as zone last at) xs) ys → AllByRecursion (Rests last) xs → AllByRecursion (Rests before) ys → before.up ≤ at.up →
-      AllByRecursion (IsQuietFor before at) ys → AllByRecursion (Stands at) (heard (read_as zone last at) xs) → AllByRecursion (Rests at) (heard (read_as zone last at) xs)
+  pub rests-left : (xs ys : List Job) → AreTwins (received (read_as zone last at) xs) ys → AllByRecursion (Rests last) xs → AllByRecursion (Rests before) ys → before.up ≤ at.up →
+      AllByRecursion (IsQuietFor before at) ys → AllByRecursion (Stands at) (received (read_as zone last at) xs) → AllByRecursion (Rests at) (received (read_as zone last at) xs)
   rests-left [] [] after rx ry order quiet tx = tt
   rests-left [] (b ∷ ys) after rx ry order quiet tx = absurd after
   rests-left (a ∷ xs) [] after rx ry order quiet tx = absurd after
@@ -180,7 +180,7 @@ module _ (zone : Zone) (before last at : Reading) where
       (left-rests a b after.0 rx.0 ry.0 order quiet.0 tx.0, rests-left xs ys after.1 rx.1 ry.1 order quiet.1 tx.1)
 
   pub twins-read : (xs ys : List Job) → AreTwins xs ys → AllByRecursion (Stands last) xs → AllByRecursion (Stands before) ys → AllByRecursion (IsNear before last) ys →
-      AllByRecursion (Stands at) (heard (read_as zone last at) xs) → AllByRecursion (Stands at) (heard (read_as zone before at) ys) → AreTwins (heard (read_as zone last at) xs) (heard (read_as zone before at) ys)
+      AllByRecursion (Stands at) (received (read_as zone last at) xs) → AllByRecursion (Stands at) (received (read_as zone before at) ys) → AreTwins (received (read_as zone last at) xs) (received (read_as zone before at) ys)
   twins-read [] [] twins sx sy near tx ty = tt
   twins-read [] (b ∷ ys) twins sx sy near tx ty = absurd twins
   twins-read (a ∷ xs) [] twins sx sy near tx ty = absurd twins

@@ -76,7 +76,7 @@ pub refused_late : why (Loaded at_load (read_at 0) ∷ Read (read_at 9500) false
     ≡ record unwanted { wants = record no_wants { demand = true }; throttled_until = Some 10500 }
 refused_late = refl
 
--- all that holds is told: the job is being removed, its child is stopped, the answer to TERM is awaited, nothing wants it, it is
+-- all that holds is reported: the job is being removed, its child is stopped, the answer to TERM is awaited, nothing wants it, it is
 -- throttled, and it may run once only; a kickstart -k after the unload is refused, and so no reason
 pub all_at_once : why (
     Loaded (record at_load { launch_only_once = true }) (read_at 0) ∷ Answered (Spawned 1 7) ∷ Read (read_at 4000) false ∷ Asked (Kickstart false)
@@ -99,7 +99,7 @@ pub spent : why (
     ≡ record unwanted { wants = record no_wants { demand = true }; is_launch_spent = true }
 spent = refl
 
--- what wants it is told each for itself: two waiting connections and a condition on the last end
+-- what wants it is reported each for itself: two waiting connections and a condition on the last end
 pub wants : (why (
     Loaded (record no_definition { has_sockets = true; successful_exit = Some true }) (read_at 0) ∷ Answered (Spawned 1 7) ∷ Came 1 ∷ Came 2
     ∷ RunEnded 1 (Code 0) ∷ []
@@ -120,7 +120,7 @@ by_load = refl
 pub followed : demand (Loaded at_load (read_at 0) ∷ Answered (Spawned 1 7) ∷ []) ≡ None
 followed = refl
 
--- a refused spawn leaves the demand, and the newest demand is told
+-- a refused spawn leaves the demand, and the newest demand is reported
 pub refused_keeps : demand (Loaded at_load (read_at 0) ∷ Answered (SpawnRefused 1) ∷ []) ≡ Some kinds.Load
 refused_keeps = refl
 
@@ -137,7 +137,7 @@ struck = refl
 pub by_calendar : demand (Loaded at_load (read_at 0) ∷ Answered (Spawned 1 7) ∷ Read (read_at 4000) true ∷ []) ≡ Some kinds.Calendar
 by_calendar = refl
 
--- an interval of 5 seconds is crossed; with a calendar entry at the same reading the calendar is told
+-- an interval of 5 seconds is crossed; with a calendar entry at the same reading the calendar is reported
 pub by_interval : demand (Loaded (record at_load { start_interval = Some 5 }) (read_at 0) ∷ Answered (Spawned 1 7) ∷ Read (read_at 6000) false ∷ []) ≡ Some kinds.Interval
 by_interval = refl
 

@@ -244,7 +244,7 @@ only-throttle false false false true w' h false false more e = cc
 only-throttle false false false true w' true false true more e = rw (more refl) refl
 only-throttle false false false true w' false false true more e = rw (more refl) refl
 
--- a reading takes away nothing that wants the job
+-- a clock reading takes away nothing that wants the job
 still-wanted : (fires p c l : Bool) → (p || c || l) ≡ true → ((fires || p) || c || l) ≡ true
 still-wanted true p c l e = refl
 still-wanted false p c l e = e
@@ -257,7 +257,7 @@ not-below up m = go (nat_lt up m) (nat_le m up) refl refl where
   go true true ex ey = absurd (grind (arith, nat_tests, ex, ey))
   go false false ex ey = absurd (grind (arith, nat_tests, ex, ey))
 
--- its spawn is due at a reading exactly if the reading is not before the throttle's end
+-- its spawn is due at a clock reading exactly if the clock reading is not before the throttle's end
 pub alone-due : (at : Reading) (calendar : Bool) (t : History) → waits_alone (reasons_of t) ≡ true → is_some_spawn (due (Read at calendar ∷ t)) ≡ nat_le (free_from t) at.up
 alone-due at calendar t alone =
     spawn-due (Read at calendar ∷ t) ∙ ap not (reason-is (Read at calendar ∷ t))
@@ -269,7 +269,7 @@ alone-due at calendar t alone =
 pub told : (t : History) → is_some (throttled_until t) ≡ is_throttled t
 told t = is_some-cond (is_throttled t) (free_from t)
 
--- the moment that is told is the throttle's end
+-- the moment that is reported is the throttle's end
 end-told : (t : History) (m : ℕ) → throttled_until t ≡ Some m → free_from t ≡ m
 end-told t m is = go (is_throttled t) is where
   go : (b : Bool) → cond b (Some (free_from t)) None ≡ Some m → free_from t ≡ m
@@ -288,7 +288,7 @@ pub next-due : (t : History) (m : ℕ) (at : Reading) (calendar : Bool) → wait
     is_some_spawn (due (Read at calendar ∷ t)) ≡ nat_le m at.up
 next-due t m at calendar alone is = alone-due at calendar t alone ∙ ap (λ n. nat_le n at.up) (end-told t m is)
 
--- ---- readings alone
+-- ---- clock readings alone
 
 needs-is : (t : History) → needs_event (reasons_of t)
     ≡ (is_removed t || is_some (child t) || is_some (awaited t) || ((definition_of t).launch_only_once && has_ever_spawned t) || not (nat_lt (runs t) (2 ^ 63)))
@@ -432,6 +432,6 @@ kind-told passes (x ∷ t) = go (passes x) (fires x t) refl (kind-told passes t)
   go false true e rest = fires-kind x t e
   go false false e rest = rest
 
--- a demand is pending exactly if its kind is told
+-- a demand is pending exactly if its kind is reported
 pub demand-told : (t : History) → is_some (latest_demand t) ≡ (reasons_of t).wants.demand
 demand-told t = kind-told (is_spawned_order t) t

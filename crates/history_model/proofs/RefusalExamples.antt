@@ -33,7 +33,7 @@ byte_order = refl
 
 -- ---- events
 
--- what is no label is a bad request, before it is no such job
+-- what is not a label is a bad request, before it is no such job
 pub no_label : outcomes (
     ask [] Start ∷ ask (codes "a/b") Stop ∷ OfJob (codes "a/b") (Came 1) ∷ UnloadJob (codes "a/b") false true ∷ PrintJob (codes "a/b") ∷ Set (replicate 256 97) true true
     ∷ ask (replicate 255 97) Start ∷ UnloadJob (replicate 255 97) false true ∷ PrintJob (replicate 255 97) ∷ Set (replicate 255 97) true true ∷ []
@@ -51,14 +51,14 @@ pub not_loaded : map (λ item. refusal_in start (OfJob a item)) (
 not_loaded = refl
 
 -- items that no call brings: the machine adds them itself
-pub not_heard : map (λ item. refusal_in start (OfJob a item)) (
+pub not_received : map (λ item. refusal_in start (OfJob a item)) (
     Loaded no_definition (record { up = 0; wall = 0 }) ∷ Read (record { up = 0; wall = 0 }) false ∷ Saw [] (record { present = true; nonempty_dir = false; stamp = 0 })
     ∷ Asked Unload ∷ Asked Shutdown ∷ Ordered Gone ∷ []
     )
     ≡ replicate 6 (Some BadRequest)
-not_heard = refl
+not_received = refl
 
--- a process id is at least 1
+-- a PID is at least 1
 pub process_ids : outcomes (load a at_load ∷ spawned a 1 0 ∷ spawned a 1 1 ∷ load b at_load ∷ spawned b 1 4294967295 ∷ []) start
     ≡ gives ((a, Spawn 1 None) ∷ []) ∷ refuses BadRequest ∷ none ∷ gives ((b, Spawn 1 None) ∷ []) ∷ none ∷ []
 process_ids = refl

@@ -1,4 +1,4 @@
--- One run lives at a time, and a spawn is awaited only if none lives.
+-- One run is running at a time, and a spawn is awaited only if none is running.
 use Rattle.std.proofs.Common.{◌≡◌, ◌⊎◌, inl, inr, ◌==◌, ◌+◌, ◌<◌, ℕ, suc, true, false, ◌||◌, cond, Option, Some, None, List, [], ◌∷◌, refl, sym, ◌∙◌, arith}
 use Rattle.std.proofs.lemmas.Bool.{eqb-true}
 use Rattle.std.specs.List.{filter_map, list_any}
@@ -30,7 +30,7 @@ pub answered-settles : (t : History) (answer : Answer) → Answers t answer → 
 answered-settles t answer fact =
     rw (unless_settled-more (Answered answer) (since is_order t) (latest order_in t), fact.stands, fact.fits) refl
 
--- no run lives, or the present one does
+-- no run is running, or the present one does
 abbrev pub IsAlone : History → Type 0
 IsAlone t = (living t ≡ []) ⊎ ((pid : ℕ) × (living t ≡ (record { run = runs t; pid = pid }) ∷ []))
 

@@ -57,7 +57,7 @@ pub stopped_while_spawning : outcomes (load a at_load ∷ ask a Stop ∷ ask a (
 unfolding digits
 stopped_while_spawning = refl
 
--- the last end: a code, an unknown signal, a signal; it is shown until the next one, also beside a child
+-- the last end: a code, an unknown signal, a signal; it is shown until the next one, also while there is a child
 pub last_ends : outcomes (
     load a at_load ∷ spawned a 1 7 ∷ ended a 1 (Code 3) ∷ ListJobs ∷ PrintJob a ∷ read 10000 ∷ ask a Start ∷ spawned a 2 8 ∷ ListJobs ∷ PrintJob a
     ∷ ended a 2 (Signal 0) ∷ ListJobs ∷ PrintJob a ∷ read 20000 ∷ ask a Start ∷ spawned a 3 9 ∷ ended a 3 (Signal 11) ∷ ListJobs ∷ PrintJob a ∷ []

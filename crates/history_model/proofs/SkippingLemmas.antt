@@ -1,4 +1,4 @@
--- A reading before the next moment of a job: the same is known of it, it owes the same order, and its next moment stays.
+-- A clock reading before the next moment of a job: the same is known of it, it owes the same order, and its next moment stays.
 use Rattle.std.proofs.Common.{◌≡◌, ◌≤◌, ◌<◌, ℕ, false, ◌||◌, cond, Option, None, Some, ◌∷◌, refl, sym, ap, ◌∙◌, subst}
 use Rattle.std.specs.Option.{ForSome}
 use Rattle.history_model.specs.declared.Reading.{Reading}

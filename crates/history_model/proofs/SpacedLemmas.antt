@@ -1,4 +1,4 @@
--- Which moments a lawful order leaves behind.
+-- Which moments a lawful order leaves.
 use Rattle.std.proofs.Common.{◌≡◌, ℕ, ◌+◌, ◌≤◌, true, false, Option, Some, None, List, [], ◌∷◌, arith}
 use Rattle.std.specs.List.{list_any, AllByRecursion}
 use Rattle.std.specs.Prelude.{IsSomeAnd}

@@ -19,9 +19,9 @@ use Rattle.history_model.specs.Refusals.{refusal_of, is_clock_refused, IsLawful,
 use Rattle.history_model.specs.FactsOfPast.{ordered}
 use Rattle.history_model.specs.Calendar.{calendar_fires}
 use Rattle.history_model.specs.Labels.{Label, is_label, is_before}
-use Rattle.history_model.specs.Machine.{State, Job, Header, Event, Unreadable, Load, UnloadJob, Set, ListJobs, PrintJob, ShutDown, Tick, Sight, OfJob, is_of, past_in, past_of, opened}
-use Rattle.history_model.specs.Acceptance.{refused_if, is_heard, refusal_at, refusal_in, refusal_stored}
-use Rattle.history_model.specs.Step.{with_item, heard, heard_one, with_job, lists, sight_of, taken, stays, step_by, step, run}
+use Rattle.history_model.specs.Machine.{State, Job, Header, Event, Unreadable, Load, UnloadJob, Set, ListJobs, PrintJob, ShutDown, Tick, Observation, OfJob, is_of, past_in, past_of, opened}
+use Rattle.history_model.specs.Acceptance.{refused_if, is_received, refusal_at, refusal_in, refusal_stored}
+use Rattle.history_model.specs.Step.{with_item, received, received_one, with_job, lists, observation_of, taken, stays, step_by, step, run}
 use Rattle.history_model.proofs.BooleanLemmas.{and-both, and-false, not-false}
 use Rattle.history_model.proofs.LawfulLemmas.{due-Term, due-Kill, due-rest}
 use Rattle.history_model.proofs.ClockLemmas.{Read-later}
@@ -56,7 +56,7 @@ all-with_job P new holds (job ∷ jobs) all = go (all-with_job P new holds jobs 
 
 -- ---- what holds of each job
 
--- its past is lawful, and stands at this reading
+-- its past is lawful, and is at this clock reading
 pub record Stands (at : Reading) (job : Job) : Type 0 where
   pub lawful : IsLawful job.past
   pub loaded : IsBehindLoad job.past
@@ -68,32 +68,32 @@ pub record Rests (at : Reading) (job : Job) : Type 0 where
   pub idle : due job.past ≡ None
   pub staying : is_gone job.past ≡ false
 
-is_heard-event : (x : Item) → is_heard x ≡ true → is_event x ≡ true
-is_heard-event (Asked Start) e = refl
-is_heard-event (Asked Stop) e = refl
-is_heard-event (Asked (Kickstart kills_first)) e = refl
-is_heard-event (Came conn) e = refl
-is_heard-event (Left conn) e = refl
-is_heard-event (Answered answer) e = refl
-is_heard-event (RunEnded run how) e = refl
-is_heard-event (WaitRefused run) e = refl
-is_heard-event _ e = cc
+is_received-event : (x : Item) → is_received x ≡ true → is_event x ≡ true
+is_received-event (Asked Start) e = refl
+is_received-event (Asked Stop) e = refl
+is_received-event (Asked (Kickstart kills_first)) e = refl
+is_received-event (Came conn) e = refl
+is_received-event (Left conn) e = refl
+is_received-event (Answered answer) e = refl
+is_received-event (RunEnded run how) e = refl
+is_received-event (WaitRefused run) e = refl
+is_received-event _ e = cc
 
-is_heard-now : (x : Item) (t : History) → is_heard x ≡ true → now (x ∷ t) ≡ now t
-is_heard-now (Asked ask) t e = refl
-is_heard-now (Came conn) t e = refl
-is_heard-now (Left conn) t e = refl
-is_heard-now (Answered answer) t e = refl
-is_heard-now (RunEnded run how) t e = refl
-is_heard-now (WaitRefused run) t e = refl
-is_heard-now _ t e = cc
+is_received-now : (x : Item) (t : History) → is_received x ≡ true → now (x ∷ t) ≡ now t
+is_received-now (Asked ask) t e = refl
+is_received-now (Came conn) t e = refl
+is_received-now (Left conn) t e = refl
+is_received-now (Answered answer) t e = refl
+is_received-now (RunEnded run how) t e = refl
+is_received-now (WaitRefused run) t e = refl
+is_received-now _ t e = cc
 
 -- an accepted item of the job's own goes on
-pub stands-heard : (at : Reading) (x : Item) (job : Job) → is_heard x ≡ true → refusal_of x job.past ≡ None → Stands at job → Stands at (with_item job (Some x))
-stands-heard at x job heard accepted stands = record {
-  lawful = (event_follows x job.past (is_heard-event x heard) stands.loaded accepted, stands.lawful);
+pub stands-received : (at : Reading) (x : Item) (job : Job) → is_received x ≡ true → refusal_of x job.past ≡ None → Stands at job → Stands at (with_item job (Some x))
+stands-received at x job received accepted stands = record {
+  lawful = (event_follows x job.past (is_received-event x received) stands.loaded accepted, stands.lawful);
   loaded = tt;
-  present = is_heard-now x job.past heard ∙ stands.present;
+  present = is_received-now x job.past received ∙ stands.present;
 }
 
 stands-Unload : (at : Reading) (job : Job) → refusal_of (Asked Unload) job.past ≡ None → Stands at job → Stands at (with_item job (Some (Asked Unload)))
@@ -102,7 +102,7 @@ stands-Unload at job accepted stands = record { lawful = ((stands.loaded, accept
 stands-Shutdown : (at : Reading) (job : Job) → Stands at job → Stands at (with_item job (Some (Asked Shutdown)))
 stands-Shutdown at job stands = record { lawful = ((stands.loaded, refl), stands.lawful); loaded = tt; present = stands.present }
 
-stands-Saw : (at : Reading) (path : List ℕ) (obs : Obs) (job : Job) → Stands at job → Stands at (with_item job (sight_of path (Saw path obs) job))
+stands-Saw : (at : Reading) (path : List ℕ) (obs : Obs) (job : Job) → Stands at job → Stands at (with_item job (observation_of path (Saw path obs) job))
 stands-Saw at path obs job stands = go (lists (definition_of job.past) path) where
   go : (v : Bool) → Stands at (with_item job (cond v (Some (Saw path obs)) None))
   go true = record { lawful = ((stands.loaded, refl), stands.lawful); loaded = tt; present = stands.present }
@@ -116,14 +116,14 @@ stands-Read before at calendar job accepted stands = record {
 }
 
 -- the accepted item finds its job
-pub stands-heard_one : (at : Reading) (label : Label) (x : Item) → ((job : Job) → refusal_of x job.past ≡ None → Stands at job → Stands at (with_item job (Some x))) →
-    (jobs : List Job) → refusal_at (past_in (first (filter (is_of label) jobs))) x ≡ None → AllByRecursion (Stands at) jobs → AllByRecursion (Stands at) (heard_one label x jobs)
-stands-heard_one at label x goes_on [] accepted all = tt
-stands-heard_one at label x goes_on (job ∷ jobs) accepted all =
-    go (λ after. stands-heard_one at label x goes_on jobs after all.1) (is_of label job) accepted where
-      go : (refusal_at (past_in (first (filter (is_of label) jobs))) x ≡ None → AllByRecursion (Stands at) (heard_one label x jobs)) →
+pub stands-received_one : (at : Reading) (label : Label) (x : Item) → ((job : Job) → refusal_of x job.past ≡ None → Stands at job → Stands at (with_item job (Some x))) →
+    (jobs : List Job) → refusal_at (past_in (first (filter (is_of label) jobs))) x ≡ None → AllByRecursion (Stands at) jobs → AllByRecursion (Stands at) (received_one label x jobs)
+stands-received_one at label x goes_on [] accepted all = tt
+stands-received_one at label x goes_on (job ∷ jobs) accepted all =
+    go (λ after. stands-received_one at label x goes_on jobs after all.1) (is_of label job) accepted where
+      go : (refusal_at (past_in (first (filter (is_of label) jobs))) x ≡ None → AllByRecursion (Stands at) (received_one label x jobs)) →
           (v : Bool) → refusal_at (past_in (first (cond v (job ∷ filter (is_of label) jobs) (filter (is_of label) jobs)))) x ≡ None →
-          AllByRecursion (Stands at) (cond v (with_item job (Some x) ∷ jobs) (job ∷ heard_one label x jobs))
+          AllByRecursion (Stands at) (cond v (with_item job (Some x) ∷ jobs) (job ∷ received_one label x jobs))
       go rest true after = (goes_on job after all.0, all.1)
       go rest false after = (all.0, rest after)
 
@@ -190,7 +190,7 @@ stands-taken s (Load (Ok given) writes_setting force bind store) accepted all = 
 stands-taken s (UnloadJob label writes_setting store) accepted all =
     let named = refused-None (not (is_label label)) BadRequest (or_else (refusal_at (past_of s label) (Asked Unload)) (refusal_stored writes_setting store)) accepted in
     let known = or_else-None (refusal_at (past_of s label) (Asked Unload)) (refusal_stored writes_setting store) named.1 in
-    record { range = all.range; stands = stands-heard_one s.reading label (Asked Unload) (stands-Unload s.reading) s.jobs known.0 all.stands }
+    record { range = all.range; stands = stands-received_one s.reading label (Asked Unload) (stands-Unload s.reading) s.jobs known.0 all.stands }
 stands-taken s (Set label disabled store) accepted all = record { range = all.range; stands = all.stands }
 stands-taken s ListJobs accepted all = all
 stands-taken s (PrintJob label) accepted all = all
@@ -206,14 +206,14 @@ stands-taken s (Tick at) accepted all =
           (λ job. with_item job (Some (Read at (calendar_fires s.zone (definition_of job.past).calendar s.reading.wall at.wall))))
           (λ job stands. stands-Read s.reading at (calendar_fires s.zone (definition_of job.past).calendar s.reading.wall at.wall) job moves.0 stands) s.jobs all.stands;
     }
-stands-taken s (Sight path obs) accepted all = record {
+stands-taken s (Observation path obs) accepted all = record {
   range = all.range;
-  stands = all-map (Stands s.reading) (Stands s.reading) (λ job. with_item job (sight_of path (Saw path obs) job)) (stands-Saw s.reading path obs) s.jobs all.stands;
+  stands = all-map (Stands s.reading) (Stands s.reading) (λ job. with_item job (observation_of path (Saw path obs) job)) (stands-Saw s.reading path obs) s.jobs all.stands;
 }
 stands-taken s (OfJob label item) accepted all =
-    let named = refused-None (not (is_label label && is_heard item)) BadRequest (refusal_at (past_of s label) item) accepted in
-    let allowed = and-both (is_label label) (is_heard item) (not-false (is_label label && is_heard item) named.0) in
-    record { range = all.range; stands = stands-heard_one s.reading label item (λ job fits stands. stands-heard s.reading item job allowed.1 fits stands) s.jobs named.1 all.stands }
+    let named = refused-None (not (is_label label && is_received item)) BadRequest (refusal_at (past_of s label) item) accepted in
+    let allowed = and-both (is_label label) (is_received item) (not-false (is_label label && is_received item) named.0) in
+    record { range = all.range; stands = stands-received_one s.reading label item (λ job fits stands. stands-received s.reading item job allowed.1 fits stands) s.jobs named.1 all.stands }
 
 pub good-step : (s : State) (e : Event) → IsGood s → IsGood (step s e)
 good-step s e good = go (refusal_in s e) refl where

@@ -39,7 +39,7 @@ pub no_timeout : play (
     ≡ gives (Spawn 1 None) ∷ none ∷ gives (Term 1) ∷ none ∷ none ∷ []
 no_timeout = refl
 
--- an unknown signal is no crash if the run was ordered to end
+-- an unknown signal is not a crash if the run was ordered to end
 pub ordered_to_end : play (
     load (record no_definition { run_at_load = true; crashed = Some true }) ∷ spawned 1 ∷ Asked Stop ∷ Answered (Termed 1 true) ∷ ended 1 (Signal 0)
     ∷ read 10000 ∷ []
@@ -54,7 +54,7 @@ late_answer = refl
 
 -- ---- kickstart
 
--- a kickstart of a running job is nothing; with -k the child gets KILL at once, and the job starts anew
+-- a kickstart of a running job is nothing; with -k the child gets KILL at once, and the job starts again
 pub struck : play (
     load unthrottled ∷ spawned 1 ∷ read 500 ∷ Asked (Kickstart false) ∷ Asked (Kickstart true) ∷ Answered (Killed 1 true) ∷ ended 1 (Signal 9) ∷ []
     )

@@ -14,16 +14,16 @@ use Rattle.history_model.specs.Due.{due}
 use Rattle.history_model.specs.Clock.{definition_of}
 use Rattle.history_model.specs.Calendar.{calendar_fires}
 use Rattle.history_model.specs.Labels.{Label, is_before}
-use Rattle.history_model.specs.Machine.{State, Job, Header, Event, Unreadable, Load, UnloadJob, Set, ListJobs, PrintJob, ShutDown, Tick, Sight, OfJob, past_of, opened}
+use Rattle.history_model.specs.Machine.{State, Job, Header, Event, Unreadable, Load, UnloadJob, Set, ListJobs, PrintJob, ShutDown, Tick, Observation, OfJob, past_of, opened}
 use Rattle.history_model.specs.Acceptance.{refusal_in, refusal_there, refusal_of_load}
-use Rattle.history_model.specs.Step.{with_job, sight_of, acts_of, orders_of, taken, step, step_by, outcome, outcome_by, run}
+use Rattle.history_model.specs.Step.{with_job, observation_of, acts_of, orders_of, taken, step, step_by, outcome, outcome_by, run}
 use Rattle.history_model.specs.MachineLaws.{AreInOrder, labels_of}
 use Rattle.history_model.proofs.StepLemmas.{IsGood, good-step, good-run, good-opened, refused-None, or_else-None}
 use Rattle.history_model.proofs.LabelOrderLemmas.{order-run, order-taken}
 use Rattle.history_model.specs.Turns.{JobOrder, wanting, AreAnswers, still_waiting}
 use Rattle.history_model.specs.AwaitedOrders.{weight, weigh_orders}
 use Rattle.history_model.proofs.BooleanLemmas.{not-false}
-use Rattle.history_model.proofs.FewLoadsLemmas.{length-heard, length-heard_one, length-stays}
+use Rattle.history_model.proofs.FewLoadsLemmas.{length-received, length-received_one, length-stays}
 use Rattle.history_model.proofs.WaitsLemmas.{weigh, weigh_one, weigh-acts}
 use Rattle.history_model.proofs.FreshOrdersLemmas.{fresh-with_orders}
 use Rattle.history_model.proofs.TurnsLemmas.{weigh-append, weigh-wanting, weigh-labelled, IsTurning, turning-step, wanting-heavy}
@@ -51,15 +51,15 @@ within-taken s (Load (Err fault) writes_setting force bind store) accepted few =
 within-taken s (Load (Ok given) writes_setting force bind store) accepted few =
     let room = has-room s given.label given.definition writes_setting force bind store accepted in
     omega (arith, length-with_job (record { label = given.label; past = Loaded given.definition s.reading ∷ [] }) s.jobs, room)
-within-taken s (UnloadJob label writes_setting store) accepted few = omega (arith, length-heard_one label (Asked Unload) s.jobs)
+within-taken s (UnloadJob label writes_setting store) accepted few = omega (arith, length-received_one label (Asked Unload) s.jobs)
 within-taken s (Set label disabled store) accepted few = few
 within-taken s ListJobs accepted few = few
 within-taken s (PrintJob label) accepted few = few
-within-taken s ShutDown accepted few = omega (arith, length-heard (λ job. Some (Asked Shutdown)) s.jobs)
+within-taken s ShutDown accepted few = omega (arith, length-received (λ job. Some (Asked Shutdown)) s.jobs)
 within-taken s (Tick at) accepted few =
-    omega (arith, length-heard (λ job. Some (Read at (calendar_fires s.zone (definition_of job.past).calendar s.reading.wall at.wall))) s.jobs)
-within-taken s (Sight path obs) accepted few = omega (arith, length-heard (sight_of path (Saw path obs)) s.jobs)
-within-taken s (OfJob label item) accepted few = omega (arith, length-heard_one label item s.jobs)
+    omega (arith, length-received (λ job. Some (Read at (calendar_fires s.zone (definition_of job.past).calendar s.reading.wall at.wall))) s.jobs)
+within-taken s (Observation path obs) accepted few = omega (arith, length-received (observation_of path (Saw path obs)) s.jobs)
+within-taken s (OfJob label item) accepted few = omega (arith, length-received_one label item s.jobs)
 
 pub within-step : (s : State) (e : Event) → length s.jobs ≤ MAX_JOBS → length (step s e).jobs ≤ MAX_JOBS
 within-step s e few = go (refusal_in s e) refl where

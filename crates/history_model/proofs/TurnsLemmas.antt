@@ -16,8 +16,8 @@ use Rattle.history_model.specs.Runs.{is_answer_to}
 use Rattle.history_model.specs.Refusals.{refusal_of, IsLawful}
 use Rattle.history_model.specs.Labels.{Label, is_same, is_label}
 use Rattle.history_model.specs.Machine.{State, Job, Event, OfJob, is_of, past_in, past_of}
-use Rattle.history_model.specs.Acceptance.{refusal_in, refusal_at, is_heard}
-use Rattle.history_model.specs.Step.{with_item, heard_one, acts_of, orders_of, stays, step, step_by, outcome, outcome_by}
+use Rattle.history_model.specs.Acceptance.{refusal_in, refusal_at, is_received}
+use Rattle.history_model.specs.Step.{with_item, received_one, acts_of, orders_of, stays, step, step_by, outcome, outcome_by}
 use Rattle.history_model.specs.MachineLaws.{AreInOrder, labels_of, concerns}
 use Rattle.history_model.proofs.StepLemmas.{Rests, IsGood, good-step, refused-None}
 use Rattle.history_model.proofs.OneLabelLemmas.{filter-stays, taken-other, rest-stays, rest-orders, all-filter, apart}
@@ -61,11 +61,11 @@ wanting-heavy ((label, Gone) ∷ rest) = wanting-heavy rest
 -- ---- the orders of an answer
 
 -- an answer that its job hears makes that job give less
-heard-lighter : (m : Label) (act : Act) (a : Answer) (at : Reading) (jobs : List Job) → AllByRecursion (Rests at) jobs → IsFresh jobs (m, act) →
-    refusal_at (past_in (first (filter (is_of m) jobs))) (Answered a) ≡ None → weigh_orders (wanting (flat_map orders_of (heard_one m (Answered a) jobs))) < weight act
-heard-lighter m act a at [] rests fresh accepted = cc
-heard-lighter m act a at (job ∷ jobs) rests fresh accepted =
-    go (heard-lighter m act a at jobs rests.1) (is_of m job) refl fresh accepted where
+received-lighter : (m : Label) (act : Act) (a : Answer) (at : Reading) (jobs : List Job) → AllByRecursion (Rests at) jobs → IsFresh jobs (m, act) →
+    refusal_at (past_in (first (filter (is_of m) jobs))) (Answered a) ≡ None → weigh_orders (wanting (flat_map orders_of (received_one m (Answered a) jobs))) < weight act
+received-lighter m act a at [] rests fresh accepted = cc
+received-lighter m act a at (job ∷ jobs) rests fresh accepted =
+    go (received-lighter m act a at jobs rests.1) (is_of m job) refl fresh accepted where
       t2 : History
       t2 = Answered a ∷ job.past
 
@@ -81,19 +81,19 @@ heard-lighter m act a at (job ∷ jobs) rests fresh accepted =
           let at_most = weigh-wanting (map (λ act. (job.label, act)) (acts_of t2)) in
           rw whole (omega (arith, less, at_most, weigh-labelled job.label (acts_of t2)))
 
-      go : (IsFresh jobs (m, act) → refusal_at (past_in (first (filter (is_of m) jobs))) (Answered a) ≡ None → weigh_orders (wanting (flat_map orders_of (heard_one m (Answered a) jobs))) < weight act) →
+      go : (IsFresh jobs (m, act) → refusal_at (past_in (first (filter (is_of m) jobs))) (Answered a) ≡ None → weigh_orders (wanting (flat_map orders_of (received_one m (Answered a) jobs))) < weight act) →
           (b : Bool) → is_of m job ≡ b →
           ((t : History) × (past_in (first (cond b (job ∷ filter (is_of m) jobs) (filter (is_of m) jobs))) ≡ Some (Ordered act ∷ t))) →
           refusal_at (past_in (first (cond b (job ∷ filter (is_of m) jobs) (filter (is_of m) jobs)))) (Answered a) ≡ None →
-          weigh_orders (wanting (flat_map orders_of (cond b (with_item job (Some (Answered a)) ∷ jobs) (job ∷ heard_one m (Answered a) jobs)))) < weight act
+          weigh_orders (wanting (flat_map orders_of (cond b (with_item job (Some (Answered a)) ∷ jobs) (job ∷ received_one m (Answered a) jobs)))) < weight act
       go rest true is fresh accepted =
           let past : job.past ≡ Ordered act ∷ fresh.0 = cc (fresh.1) in here fresh.0 past accepted
       go rest false is fresh accepted = rw (rests.0.staying, rests.0.idle) (rest fresh accepted)
 
 -- and no other one
-heard-named : (m : Label) (x : Item) (at : Reading) (jobs : List Job) → AllByRecursion (Rests at) jobs → AllByRecursion (λ (job_order : JobOrder). is_same m job_order.0 ≡ true) (wanting (flat_map orders_of (heard_one m x jobs)))
-heard-named m x at [] rests = tt
-heard-named m x at (job ∷ jobs) rests = go (heard-named m x at jobs rests.1) (is_of m job) refl where
+received-named : (m : Label) (x : Item) (at : Reading) (jobs : List Job) → AllByRecursion (Rests at) jobs → AllByRecursion (λ (job_order : JobOrder). is_same m job_order.0 ≡ true) (wanting (flat_map orders_of (received_one m x jobs)))
+received-named m x at [] rests = tt
+received-named m x at (job ∷ jobs) rests = go (received-named m x at jobs rests.1) (is_of m job) refl where
   own : is_same m job.label ≡ true → (acts : List Act) → AllByRecursion (λ (job_order : JobOrder). is_same m job_order.0 ≡ true) (wanting (map (λ act. (job.label, act)) acts))
   own named [] = tt
   own named (act ∷ acts) = pick (own named acts) (wants_answer (job.label, act)) where
@@ -102,8 +102,8 @@ heard-named m x at (job ∷ jobs) rests = go (heard-named m x at jobs rests.1) (
     pick rest true = (named, rest)
     pick rest false = rest
 
-  go : AllByRecursion (λ (job_order : JobOrder). is_same m job_order.0 ≡ true) (wanting (flat_map orders_of (heard_one m x jobs))) → (b : Bool) → is_of m job ≡ b →
-      AllByRecursion (λ (job_order : JobOrder). is_same m job_order.0 ≡ true) (wanting (flat_map orders_of (cond b (with_item job (Some x) ∷ jobs) (job ∷ heard_one m x jobs))))
+  go : AllByRecursion (λ (job_order : JobOrder). is_same m job_order.0 ≡ true) (wanting (flat_map orders_of (received_one m x jobs))) → (b : Bool) → is_of m job ≡ b →
+      AllByRecursion (λ (job_order : JobOrder). is_same m job_order.0 ≡ true) (wanting (flat_map orders_of (cond b (with_item job (Some x) ∷ jobs) (job ∷ received_one m x jobs))))
   go rest true is =
       let whole : map (λ act. (job.label, act)) (acts_of (x ∷ job.past)) ++ flat_map orders_of jobs ≡ map (λ act. (job.label, act)) (acts_of (x ∷ job.past)) =
       ap (λ (l : List JobOrder). map (λ act. (job.label, act)) (acts_of (x ∷ job.past)) ++ l) (rest-orders at jobs rests.1) ∙ append-nil (map (λ act. (job.label, act)) (acts_of (x ∷ job.past))) in
@@ -127,13 +127,13 @@ heavy (Killed run ok) Gone e = cc
 
 -- the jobs of other labels are as they were
 others-same : (s : State) (m : Label) (x : Item) (waits : List JobOrder) → AllByRecursion (Rests s.reading) s.jobs → AllByRecursion (λ (job_order : JobOrder). is_same m job_order.0 ≡ false) waits →
-    AllByRecursion (λ (one : JobOrder). filter (is_of one.0) (filter_map stays (heard_one m x s.jobs)) ≡ filter (is_of one.0) s.jobs) waits
+    AllByRecursion (λ (one : JobOrder). filter (is_of one.0) (filter_map stays (received_one m x s.jobs)) ≡ filter (is_of one.0) s.jobs) waits
 others-same s m x [] rests differ = tt
 others-same s m x (one ∷ waits) rests differ =
     let other : concerns one.0 (OfJob m x) ≡ false = differ-sym m one.0 differ.0 in
-    let same : filter (is_of one.0) (heard_one m x s.jobs) ≡ filter (is_of one.0) s.jobs = ap (λ (t : State). t.jobs) (taken-other one.0 s (OfJob m x) other) in
+    let same : filter (is_of one.0) (received_one m x s.jobs) ≡ filter (is_of one.0) s.jobs = ap (λ (t : State). t.jobs) (taken-other one.0 s (OfJob m x) other) in
     let resting = all-filter (Rests s.reading) (is_of one.0) s.jobs rests in (
-      filter-stays one.0 (heard_one m x s.jobs) ∙ ap (filter_map stays) same ∙ rest-stays s.reading (filter (is_of one.0) s.jobs) resting,
+      filter-stays one.0 (received_one m x s.jobs) ∙ ap (filter_map stays) same ∙ rest-stays s.reading (filter (is_of one.0) s.jobs) resting,
       others-same s m x waits rests differ.1,
     )
 
@@ -165,8 +165,8 @@ turning-step s job_order waits (OfJob m (Answered a)) turning fits = go (refusal
     heavy a job_order.1 parts.1,
   )
   go None is =
-      let accepted = refused-None (not (is_label m && is_heard x)) BadRequest (refusal_at (past_of s m) x) is in
-      let jobs : List Job = heard_one m x s.jobs in
+      let accepted = refused-None (not (is_label m && is_received x)) BadRequest (refusal_at (past_of s m) x) is in
+      let jobs : List Job = received_one m x s.jobs in
       let rests = turning.good.rests in
       let fresh : IsFresh s.jobs (m, job_order.1) = subst (λ (l : Label). IsFresh s.jobs (l, job_order.1)) same turning.fresh.0 in
       let differ : AllByRecursion (λ (one : JobOrder). is_same m one.0 ≡ false) waits = subst (λ (l : Label). AllByRecursion (λ (one : JobOrder). is_same l one.0 ≡ false) waits) same turning.fresh.1 in
@@ -177,9 +177,9 @@ turning-step s job_order waits (OfJob m (Answered a)) turning fits = go (refusal
         record {
           good = good;
           order = order;
-          fresh = fresh-append (filter_map stays jobs) waits (wanting (flat_map orders_of jobs)) (all-apart m waits (wanting (flat_map orders_of jobs)) differ (heard-named m x s.reading s.jobs rests)) old new;
+          fresh = fresh-append (filter_map stays jobs) waits (wanting (flat_map orders_of jobs)) (all-apart m waits (wanting (flat_map orders_of jobs)) differ (received-named m x s.reading s.jobs rests)) old new;
           heavy = all-append (λ (job_order : JobOrder). 0 < weight job_order.1) waits (wanting (flat_map orders_of jobs)) turning.heavy.1 (wanting-heavy (flat_map orders_of jobs));
         },
-        heard-lighter m job_order.1 a s.reading s.jobs rests fresh accepted.1,
+        received-lighter m job_order.1 a s.reading s.jobs rests fresh accepted.1,
       )
 turning-step s job_order waits _ turning fits = cc

@@ -1,4 +1,4 @@
--- Two jobs of one label of whose pasts the same is known: at one reading they are refused the same, order the same and show the same, and the
+-- Two jobs of one label of whose pasts the same is known: at one clock reading they are refused the same, order the same and show the same, and the
 -- same is known of them afterwards.
 use Rattle.std.proofs.Common.{◌≡◌, Bool, true, false, not, ◌||◌, ◌&&◌, cond, Option, Some, None, is_some, List, [], ◌∷◌, ◌++◌, refl, sym, ap, subst, ◌∙◌, map, length, suc}
 use Rattle.std.specs.Prelude.{⊤}
@@ -22,7 +22,7 @@ use Rattle.history_model.specs.Shown.{shown_of, shown_by}
 use Rattle.history_model.specs.Texts.{line_text, shown_text}
 use Rattle.history_model.specs.Labels.{Label, is_same, is_before}
 use Rattle.history_model.specs.Machine.{Job, is_of, past_in}
-use Rattle.history_model.specs.Step.{with_item, heard, heard_one, with_job, listed, orders_of, stays}
+use Rattle.history_model.specs.Step.{with_item, received, received_one, with_job, listed, orders_of, stays}
 use Rattle.history_model.proofs.ByFactsLemmas.{refusal-by, due-by, facts-after}
 use Rattle.history_model.proofs.StepLemmas.{Stands}
 
@@ -58,7 +58,7 @@ module _ (a b : Job) (twin : IsTwin a b) where
   pub line-twin : shown_text a ≡ shown_text b
   line-twin = λ i. line_text (shown-twin i) (twin.label i)
 
-  -- each at a reading of its own
+  -- each at a clock reading of its own
   module _ (before at : Reading) (sa : Stands before a) (sb : Stands at b) (same : before ≡ at) where
     abbrev nows : now a.past ≡ now b.past
     nows = sa.present ∙ same ∙ sym sb.present
@@ -75,7 +75,7 @@ module _ (a b : Job) (twin : IsTwin a b) where
       facts = facts-after x a.past la sa.loaded ∙ (λ i. facts_after x (nows i).up (twin.facts i)) ∙ sym (facts-after x b.past lb sb.loaded);
     }
 
--- ---- at one reading
+-- ---- at one clock reading
 
 module _ (at : Reading) where
   -- what happens to one, if something does
@@ -123,27 +123,27 @@ module _ (at : Reading) where
         go false rest = (ordered-twin a b twins.0 sx.0 sy.0, rest)
 
   -- the same happens to both of each two
-  pub twins-heard : (p q : Job → Option Item) → ((a b : Job) → IsTwin a b → p a ≡ q b) → (xs ys : List Job) → AreTwins xs ys → AreStanding xs → AreStanding ys →
-      AreStanding (heard p xs) → AreStanding (heard q ys) → AreTwins (heard p xs) (heard q ys)
-  twins-heard p q same [] [] twins sx sy tx ty = tt
-  twins-heard p q same [] (b ∷ ys) twins sx sy tx ty = absurd twins
-  twins-heard p q same (a ∷ xs) [] twins sx sy tx ty = absurd twins
-  twins-heard p q same (a ∷ xs) (b ∷ ys) twins sx sy tx ty = (
+  pub twins-received : (p q : Job → Option Item) → ((a b : Job) → IsTwin a b → p a ≡ q b) → (xs ys : List Job) → AreTwins xs ys → AreStanding xs → AreStanding ys →
+      AreStanding (received p xs) → AreStanding (received q ys) → AreTwins (received p xs) (received q ys)
+  twins-received p q same [] [] twins sx sy tx ty = tt
+  twins-received p q same [] (b ∷ ys) twins sx sy tx ty = absurd twins
+  twins-received p q same (a ∷ xs) [] twins sx sy tx ty = absurd twins
+  twins-received p q same (a ∷ xs) (b ∷ ys) twins sx sy tx ty = (
     subst (λ (o : Option Item). Stands at (with_item b o) → IsTwin (with_item a (p a)) (with_item b o)) (same a b twins.0) (some-twin a b twins.0 sx.0 sy.0 (p a) tx.0) ty.0,
-    twins-heard p q same xs ys twins.1 sx.1 sy.1 tx.1 ty.1,
+    twins-received p q same xs ys twins.1 sx.1 sy.1 tx.1 ty.1,
   )
 
-  pub twins-heard_one : (l : Label) (x : Item) (xs ys : List Job) → AreTwins xs ys → AreStanding xs → AreStanding ys →
-      AreStanding (heard_one l x xs) → AreStanding (heard_one l x ys) → AreTwins (heard_one l x xs) (heard_one l x ys)
-  twins-heard_one l x [] [] twins sx sy tx ty = tt
-  twins-heard_one l x [] (b ∷ ys) twins sx sy tx ty = absurd twins
-  twins-heard_one l x (a ∷ xs) [] twins sx sy tx ty = absurd twins
-  twins-heard_one l x (a ∷ xs) (b ∷ ys) twins sx sy tx ty =
-      subst (λ (v : Bool). AreStanding (cond v (with_item b (Some x) ∷ ys) (b ∷ heard_one l x ys)) → AreTwins (heard_one l x (a ∷ xs)) (cond v (with_item b (Some x) ∷ ys) (b ∷ heard_one l x ys)))
-      (ap (is_same l) twins.0.label) (go (twins-heard_one l x xs ys twins.1 sx.1 sy.1) (is_same l a.label) tx) ty where
-        go : (AreStanding (heard_one l x xs) → AreStanding (heard_one l x ys) → AreTwins (heard_one l x xs) (heard_one l x ys)) →
-            (v : Bool) → AreStanding (cond v (with_item a (Some x) ∷ xs) (a ∷ heard_one l x xs)) → AreStanding (cond v (with_item b (Some x) ∷ ys) (b ∷ heard_one l x ys)) →
-            AreTwins (cond v (with_item a (Some x) ∷ xs) (a ∷ heard_one l x xs)) (cond v (with_item b (Some x) ∷ ys) (b ∷ heard_one l x ys))
+  pub twins-received_one : (l : Label) (x : Item) (xs ys : List Job) → AreTwins xs ys → AreStanding xs → AreStanding ys →
+      AreStanding (received_one l x xs) → AreStanding (received_one l x ys) → AreTwins (received_one l x xs) (received_one l x ys)
+  twins-received_one l x [] [] twins sx sy tx ty = tt
+  twins-received_one l x [] (b ∷ ys) twins sx sy tx ty = absurd twins
+  twins-received_one l x (a ∷ xs) [] twins sx sy tx ty = absurd twins
+  twins-received_one l x (a ∷ xs) (b ∷ ys) twins sx sy tx ty =
+      subst (λ (v : Bool). AreStanding (cond v (with_item b (Some x) ∷ ys) (b ∷ received_one l x ys)) → AreTwins (received_one l x (a ∷ xs)) (cond v (with_item b (Some x) ∷ ys) (b ∷ received_one l x ys)))
+      (ap (is_same l) twins.0.label) (go (twins-received_one l x xs ys twins.1 sx.1 sy.1) (is_same l a.label) tx) ty where
+        go : (AreStanding (received_one l x xs) → AreStanding (received_one l x ys) → AreTwins (received_one l x xs) (received_one l x ys)) →
+            (v : Bool) → AreStanding (cond v (with_item a (Some x) ∷ xs) (a ∷ received_one l x xs)) → AreStanding (cond v (with_item b (Some x) ∷ ys) (b ∷ received_one l x ys)) →
+            AreTwins (cond v (with_item a (Some x) ∷ xs) (a ∷ received_one l x xs)) (cond v (with_item b (Some x) ∷ ys) (b ∷ received_one l x ys))
         go rest true ta tb = (some-twin a b twins.0 sx.0 sy.0 (Some x) ta.0 tb.0, twins.1)
         go rest false ta tb = (twins.0, rest ta.1 tb.1)
 

@@ -1,4 +1,4 @@
--- A reading that touches no moment of a job changes none of its orders.
+-- A clock reading that touches no moment of a job changes none of its orders.
 use Rattle.std.proofs.Common.{ap, ◌≡◌, ℕ, ◌+◌, ◌*◌, ◌≤◌, Bool, true, false, not, ◌||◌, ◌&&◌, cond, Option, Some, None, is_some, List, [], ◌∷◌, ◌++◌, refl, sym, ◌∙◌, subst, nat_lt, nat_le, arith}
 use Rattle.std.proofs.lemmas.Bool.Decides.{nat_tests}
 use Rattle.std.specs.List.{list_any}
@@ -160,7 +160,7 @@ none_at zone ms (entry ∷ entries) none =
           let bq = or-false (q m) (list_any q ms) nq in
           rw (bp.0, bq.0, together p q ms bp.1 bq.1) refl
 
--- a reading that does not touch the job changes none of its orders
+-- a clock reading that does not touch the job changes none of its orders
 pub untouched : (zone : Zone) (at : Reading) (t : History) → (now t).up ≤ at.up → touches zone at t ≡ false →
     due (Read at (calendar_fires zone (definition_of t).calendar (now t).wall at.wall) ∷ t) ≡ due t
 untouched zone at t later none =

@@ -51,7 +51,7 @@ lt-later a n h = grind (arith, nat_tests)
 within-now : (up : ℕ) → is_newest_within SECOND up (Some up) ≡ true
 within-now up = lt-later up SECOND (omega arith)
 
--- beside a child no spawn is due
+-- with a child no spawn is due
 beside-child : (f : Facts) (up : ℕ) (c : Child) → f.living_child ≡ Some c → weigh_one (due_by f up) ≤ 2
 beside-child f up c e = rw e (go (is_some f.awaited_act) (may_kill_by f up) (may_term_by f up)) where
   go : (a k m : Bool) → weigh_one (cond a None (cond k (Some (Kill c.run)) (cond m (Some (Term c.run)) None))) ≤ 2
@@ -72,7 +72,7 @@ unless-spawn f up e = pick (is_some f.awaited_act) f.living_child where
     go false true = omega arith
     go false false = omega arith
 
--- a TERM that is due is no KILL that is due, and so it stays at the same moment
+-- a TERM that is due is not a KILL that is due, and so it stays at the same moment
 term-not-kill : (f : Facts) (up run : ℕ) → due_by f up ≡ Some (Term run) → (may_kill_by f up ≡ false) × (c : Child) × (f.living_child ≡ Some c)
 term-not-kill f up run e = pick (is_some f.awaited_act) f.living_child refl e where
   pick : (a : Bool) (o : Option Child) → f.living_child ≡ o → cond a None (due_beside_by o f up) ≡ Some (Term run) → (may_kill_by f up ≡ false) × (c : Child) × (f.living_child ≡ Some c)

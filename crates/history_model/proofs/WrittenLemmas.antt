@@ -31,7 +31,7 @@ write_step f xs s i x y lt same is made =
     let old : x ≡ get_or xs i x = is ∙ ap (λ l. get_or l i x) same ∙ at_written f xs i x lt in
     (λ j. set (same j) i ((made ∙ ap f old) j)) ∙ write_more f xs i x lt
 
--- the newer sight if there is one
+-- the newer observation if there is one
 pub newer : (b : Bool) (obs : Obs) (before : Option Obs) → cond b (Some obs) before ≡ or_else (cond b (Some obs) None) before
 newer true obs before = refl
 newer false obs before = refl

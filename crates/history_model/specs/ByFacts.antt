@@ -1,7 +1,6 @@
--- No definition but a tie: the facts of a past with one more item, computed from the facts before
--- it. On every lawful past they are those of specs/Facts, which searches the past
--- (proofs/ByFactsLemmas). Of public clauses only `step` of `conditions::Conditions::saw` cites it
--- (`seen_after`), beside `past`, which speaks of the past.
+-- No definition but a tie: the facts of a past with one more item, computed from the facts before it. On every lawful past they
+-- are those of specs/Facts, which searches the past (proofs/ByFactsLemmas). Of public clauses only `step` of
+-- `conditions::Conditions::saw` cites it (`seen_after`), together with `past`, which speaks of the past.
 use Rattle.std.specs.Prelude.{◌≡◌, OnOk, Result, ℕ, ◌==◌, Bool, true, false, not, ◌&&◌, ◌||◌, cond, List, [], ◌∷◌, ◌++◌, Option, Some, None, if◌then◌else◌}
 use Rattle.std.specs.List.{filter}
 use Rattle.history_model.specs.declared.Reading.{Reading}
@@ -23,7 +22,7 @@ use Rattle.history_model.specs.Facts.{Facts}
 use Rattle.history_model.specs.FactsOfPast.{reply}
 use Rattle.history_model.specs.DueByFacts.{is_busy_by, any_seen, refusal_by}
 
--- what is still awaited after an item that is no order
+-- what is still awaited after an item that is not an order
 abbrev pub settle : Item → Option Act → Option Act
 settle x None = None
 settle x (Some act) = cond (settles x act) None (Some act)
@@ -33,7 +32,7 @@ abbrev pub conn_of : Option Act → Option ℕ
 conn_of (Some (Spawn run conn)) = conn
 conn_of _ = None
 
--- what was seen last of each path, after one more sight
+-- what was seen last of each path, after one more observation
 abbrev pub seen_after : {A : Type 0} → (A → List ℕ) → List A → List ℕ → Obs → List (Option Obs) →
     List (Option Obs)
 seen_after path_in [] path obs seen = []

@@ -1,8 +1,7 @@
--- No definition but a tie: what `due` and `refusal_of` (specs/Due, specs/Refusals) search out of a
--- past, computed from its facts alone. On every lawful past the two agree (proofs/ByFactsLemmas).
--- Of public clauses only `step` of `pace::Throttle::free_at` and of `pace::Ending::{term_at,
--- kill_at}` (`is_newest_within`) and `step` of `conditions::Conditions::holds` (`any_seen`) cite
--- it, each beside `past`, which speaks of the past.
+-- No definition but a tie: what `due` and `refusal_of` (specs/Due, specs/Refusals) search out of a past, computed from its facts
+-- alone. On every lawful past the two agree (proofs/ByFactsLemmas). Of public clauses only `step` of `pace::Throttle::free_at`
+-- and of `pace::Ending::{term_at, kill_at}` (`is_newest_within`) and `step` of `conditions::Conditions::holds` (`any_seen`) cite
+-- it, each together with `past`, which speaks of the past.
 use Rattle.std.specs.Prelude.{ℕ, ◌+◌, ◌*◌, ◌^◌, Bool, false, not, ◌&&◌, ◌||◌, nat_lt, List, [], ◌∷◌, length, Option, Some, None, is_some, if◌then◌else◌, ◌==◌}
 use Rattle.std.specs.List.{list_any}
 use Rattle.history_model.specs.declared.TheConstants.{MAX_CONNECTIONS, SECOND}

@@ -1,4 +1,4 @@
--- Which readings of the clocks may change something.
+-- Which clock readings may change something.
 use Rattle.std.specs.Prelude.{ℕ, Bool, true, false, ◌||◌, ◌&&◌, nat_le, nat_lt, List, [], ◌∷◌, Option, Some, None}
 use Rattle.std.specs.List.{list_any}
 use Rattle.history_model.specs.declared.Reading.{Reading}
@@ -22,12 +22,12 @@ abbrev pub is_moment_reached : ℕ → Option ℕ → Bool
 is_moment_reached up None = false
 is_moment_reached up (Some moment) = nat_le moment up
 
--- some civil minute is crossed between the two readings of the wall clock
+-- some civil minute is crossed between the two seconds of the wall clock
 abbrev pub is_any_minute_crossed : ℕ → ℕ → Bool
 is_any_minute_crossed before wall = list_any (λ minute. true) (crossed before wall)
 
--- A reading may change something since the last one: some job's next moment is reached, or some job
--- has calendar entries and a civil minute is crossed, or the wall clock was set back.
+-- A clock reading may change something since the last one: some job's next moment is reached, or the wall clock was set back. It
+-- also may if some job has calendar entries and a civil minute is crossed.
 abbrev pub may_change : List Job → Reading → Reading → Bool
 may_change jobs last at =
     list_any (λ job. is_moment_reached at.up (next_moment job.past)) jobs

@@ -16,7 +16,7 @@ sooner (Some m) (Some n) = Some (min m n)
 abbrev pub coming : ℕ → ℕ → Option ℕ
 coming up moment = if nat_lt up moment then Some moment else None
 
--- so many milliseconds after a moment, if that is still to come
+-- this number of milliseconds after a moment, if that is still to come
 abbrev pub coming_after : ℕ → ℕ → Option ℕ → Option ℕ
 coming_after up wait None = None
 coming_after up wait (Some moment) = coming up (moment + wait)

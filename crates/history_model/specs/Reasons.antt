@@ -1,6 +1,6 @@
--- Why a job has no spawn due (launchd.plist(5): KeepAlive, ThrottleInterval, LaunchOnlyOnce;
--- launchctl(1): unload, stop, kickstart -k). All that holds is told, not the first alone. That a
--- spawn is due exactly if nothing of it holds is proved by `laws::every_wait_is_explained`.
+-- Why a job has no spawn due (launchd.plist(5): KeepAlive, ThrottleInterval, LaunchOnlyOnce; launchctl(1): unload, stop,
+-- kickstart -k). All reasons that hold are listed, not the first alone. That a spawn is due exactly if none of them holds is
+-- proved by `laws::every_wait_is_explained`.
 use Rattle.std.specs.Prelude.{◌≡◌, ℕ, ◌<◌, ◌^◌, max, Bool, true, false, not, ◌&&◌, ◌||◌, nat_lt, List, [], ◌∷◌, length, Option, Some, None, is_some, if◌then◌else◌}
 use Rattle.std.specs.List.{filter, list_any}
 use Rattle.std.specs.Option.{option_map}
@@ -115,8 +115,7 @@ abbrev pub waits_alone : Reasons → Bool
 waits_alone r =
     is_some r.throttled_until && not (some_reason (record r { throttled_until = None }))
 
--- what no reading ends: it is being removed, a run lives, an answer is awaited, or its launches are
--- used up
+-- what only an event ends: it is being removed, a run is running, an answer is awaited, or its launches are used up
 abbrev pub needs_event : Reasons → Bool
 needs_event r =
     r.is_removing || is_some r.child || is_some r.awaited || r.is_launch_spent || r.are_runs_spent
@@ -146,8 +145,8 @@ wanted_from t =
     if is_wanted t then Some 0
     else first (next_period (definition_of t).start_interval (load_of t).at.up (now t).up)
 
--- the moment from which a reading makes its spawn due, if nothing but readings happens and no
--- calendar entry fires; none if no reading does
+-- the moment from which a clock reading makes its spawn due, if only the clock goes on and no calendar entry fires. None if the
+-- clock alone never makes it due
 abbrev pub spawns_from : History → Option ℕ
 spawns_from t =
     if needs_event (reasons_of t) then None else not_before (free_from t) (wanted_from t)

@@ -31,7 +31,7 @@ path_by f =
     (first_seen (λ state. presence_holds state.present) f.definition.path_state f.seen_states))
     (first_seen (λ path. queue_holds) f.definition.queue_directories f.seen_queues)
 
--- so many milliseconds after the moment, 0 if there is none
+-- this number of milliseconds after the moment, 0 if there is none
 abbrev pub end_after : ℕ → Option ℕ → ℕ
 end_after wait None = 0
 end_after wait (Some moment) = moment + wait

@@ -1,4 +1,5 @@
-//! What a job's definition says, key by key: a `Def`, as the reader of definitions makes it, with a getter for each key that is acted on.
+//! What a job's definition says, key by key: a `Def`, as the reader of definitions makes it, with a getter for each key that is
+//! supported.
 
 mod def;
 mod parts;

@@ -10,8 +10,8 @@ pub struct Setting {
     pub disabled: bool,
 }
 
-/// What happens to one job, and is no reading of the clocks and no sight of a path: what a client asks of it, what comes to its
-/// sockets, what the outside answers to its orders, and how its run ends. To a contract, the item that its past grows by.
+/// What happens to one job, apart from clock readings and path checks. A client asks something of it, or a connection comes to
+/// its sockets. The outside answers its orders, or its run ends. To a contract, the item that its past grows by.
 #[derive(Clone, Copy)]
 pub enum JobItem {
     /// A client asks (launchctl(1)).
@@ -24,7 +24,7 @@ pub enum JobItem {
     Answered(Answer),
     /// The run's child was waited for.
     Ended { run: u64, how: Ended },
-    /// The system refused to wait for the run's child, which keeps its process id.
+    /// The system refused to wait for the run's child, which keeps its PID.
     WaitRefused { run: u64 },
 }
 
@@ -33,7 +33,7 @@ pub enum JobItem {
 /// a setting is written.
 #[derive(Drop)]
 pub enum Event<'a> {
-    /// A definition's JSON text is handed in. `writes_setting` also enables the label; with `force` a disabled one is loaded
+    /// A client loads a definition's JSON text. `writes_setting` also enables the label; with `force` a disabled one is loaded
     /// too.
     Load {
         def: TextRef<'a>,

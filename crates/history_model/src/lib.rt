@@ -1,4 +1,4 @@
-//! The words that every layer speaks: readings, orders, answers, ends, refusals and events. What they mean is said by the
+//! The types that every layer uses: clock readings, orders, answers, exits, refusals and events. What they mean is said by the
 //! definitions in specs/, which are read in the order of docs/DEFINITIONS.md; module `laws` states what follows from them.
 #![tactic(auto)]
 
@@ -17,16 +17,16 @@ pub use label::is_label;
 pub use reasons::{DemandKind, Reasons, StandingChild, Wants};
 pub use text::{Text, TextRef};
 
-/// A reading of the clocks. `up` counts milliseconds and never falls (at most `MAX_UP`); `wall` counts seconds of Unix time
-/// and may be set back (at most `MAX_WALL`).
+/// A clock reading. `up` counts milliseconds and never falls (at most `MAX_UP`); `wall` counts seconds of Unix time and may be
+/// set back (at most `MAX_WALL`).
 #[derive(Clone, Copy, PartialEq, Eq)]
 pub struct Reading {
     pub up: u64,
     pub wall: u64,
 }
 
-/// An entry of StartCalendarInterval (launchd.plist(5)): minute 0 to 59, hour 0 to 23, day 1 to 31, weekday 0 to 7 (0 and 7
-/// are Sunday), month 1 to 12. A key that is absent matches everything; of a day and a weekday that both stand one suffices
+/// An entry of StartCalendarInterval (launchd.plist(5)): minute 0 to 59, hour 0 to 23, day 1 to 31, weekday 0 to 7 (0 and 7 are
+/// Sunday), month 1 to 12. A key that is absent matches everything. If both a day and a weekday are set, one suffices
 /// (crontab(5)).
 #[derive(Clone, Copy, PartialEq, Eq)]
 pub struct Entry {
@@ -51,11 +51,11 @@ pub struct CivilMinute {
 /// What is wrong with a definition. Texts write the variant's name.
 #[derive(Clone, Copy, Debug, PartialEq, Eq)]
 pub enum Reason {
-    /// The bytes are no JSON text (RFC 8259).
+    /// The bytes are not a JSON text (RFC 8259).
     NotJson,
-    /// The text is no object.
+    /// The text is not an object.
     NotObject,
-    /// A key that must stand does not.
+    /// A required key is missing.
     Missing,
     /// The value is of another kind than the key's.
     WrongKind,
@@ -63,7 +63,7 @@ pub enum Reason {
     OutOfRange,
     /// The text, or the list, is too long.
     TooLong,
-    /// The text is no label.
+    /// The text is not a label.
     BadLabel,
     /// The key, or the value, is one that this launcher refuses, since to ignore it would change who or where the job is.
     Unsupported,
@@ -99,7 +99,7 @@ pub enum KeyName {
     RootDirectory,
 }
 
-/// What was seen at a path: whether it exists, whether it is a directory that is not empty, and its stamp, which differs if
+/// What was seen at a path: whether it exists, whether it is a directory that is not empty, and its stamp. The stamp differs if
 /// the path was changed (its time of modification in nanoseconds). Follows launchd.plist(5), WatchPaths, QueueDirectories and
 /// PathState.
 #[derive(Clone, Copy, PartialEq, Eq)]
@@ -116,7 +116,7 @@ pub enum Ended {
     Signal(u8),
 }
 
-/// The child of a job: the run that lives, and its process id.
+/// The child of a job: the run that is running, and its PID.
 #[derive(Clone, Copy)]
 pub struct Child {
     pub run: u64,
@@ -131,7 +131,7 @@ pub struct LastEnd {
 }
 
 /// What a job orders: the spawn of its next run, with the connection that it carries if one waits; TERM or KILL for its child's
-/// run; the close of a connection that waits if the job leaves; and that it is gone.
+/// run. A job that leaves orders the close of each waiting connection. Its last order says that it is removed.
 #[derive(Clone, Copy, PartialEq, Eq)]
 pub enum Act {
     Spawn { run: u64, conn: Option<u64> },
@@ -162,8 +162,8 @@ pub enum Ask {
     Kickstart(bool),
 }
 
-/// The answer to an order: a spawn succeeded, with the process id of the child (at least 1), or was refused; TERM or KILL was
-/// sent (`ok`), or could not be.
+/// The answer to an order: a spawn succeeded, with the PID of the child (at least 1), or was refused; TERM or KILL was sent
+/// (`ok`), or could not be.
 #[derive(Clone, Copy, PartialEq, Eq)]
 pub enum Answer {
     Spawned { run: u64, pid: u32 },
@@ -172,19 +172,19 @@ pub enum Answer {
     Killed { run: u64, ok: bool },
 }
 
-/// Why an event is refused. After each of them jobs, settings, readings and timers are as they were. The codes and their order
-/// are this project's own.
+/// Why an event is refused. After each of them jobs, settings, the clock reading and timers are as they were. The codes and their
+/// order are this project's own.
 #[derive(Clone, Copy, PartialEq, Eq)]
 pub enum Refusal {
     /// A growth was refused.
     NoMemory,
-    /// The line is no event, a name is no label, or a process id is 0.
+    /// The line is not an event, a name is not a label, or a PID is 0.
     BadRequest,
     /// No job of this label is loaded.
     NoSuchJob,
     /// A job of this label is loaded.
     AlreadyLoaded,
-    /// The label is disabled, and neither -w nor -F stands.
+    /// The label is disabled, and neither -w nor -F is set.
     Disabled,
     /// The job is being removed.
     Removing,
@@ -200,10 +200,10 @@ pub enum Refusal {
     SocketRefused,
     /// `MAX_CONNECTIONS` connections of the job wait.
     TooManyConnections,
-    /// The event comes out of turn: an answer that is not awaited, an end of a run that is not the child, a connection that does
-    /// not wait, or whose number was used.
+    /// The event comes out of turn: an answer that is not awaited, an exit of a run that is not the child, or a connection that
+    /// does not wait. Or the number of a new connection was used.
     Stale,
-    /// `up` has fallen, or the reading is past its bounds.
+    /// `up` has fallen, or the clock reading is past its bounds.
     ClockRefused,
     /// A shutdown was accepted.
     ShuttingDown,
@@ -260,7 +260,7 @@ pub struct ShownJob {
     pub runs: u64,
     /// How the last run ended, if one did since the load.
     pub last_end: Option<Ended>,
-    /// Whether a one-shot demand is pending.
+    /// Whether a one-shot start request is pending.
     pub demand: bool,
     /// How many connections wait.
     pub connections: usize,
@@ -274,16 +274,16 @@ pub struct Reply {
     pub text: Text,
 }
 
-/// The greatest `up` of a reading, in milliseconds.
+/// The greatest `up` of a clock reading, in milliseconds.
 pub const MAX_UP: u64 = 9_000_000_000_000_000;
 
-/// The greatest `wall` of a reading, in seconds of Unix time.
+/// The greatest `wall` of a clock reading, in seconds of Unix time.
 pub const MAX_WALL: u64 = 250_000_000_000;
 
 /// A second, in milliseconds of `up`.
 pub const SECOND: u64 = 1_000;
 
-/// How far back a reading looks for minutes of the calendar, in seconds of `wall`: 400 days.
+/// How far back a clock reading looks for minutes of the calendar, in seconds of `wall`: 400 days.
 pub const CALENDAR_REACH: u64 = 34_560_000;
 
 /// How many jobs may be loaded.

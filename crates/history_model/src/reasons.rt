@@ -2,7 +2,7 @@
 
 use crate::Act;
 
-/// Which kind of event made a one-shot demand.
+/// Which kind of event made a one-shot start request.
 #[derive(Clone, Copy)]
 pub enum DemandKind {
     /// The load: `RunAtLoad`, or the condition `SuccessfulExit`, which implies it (launchd.plist(5)).
@@ -11,9 +11,9 @@ pub enum DemandKind {
     Start,
     /// `kickstart` of launchctl(1), with `-k` or without.
     Kickstart,
-    /// A reading that crossed `StartInterval`, and at which no calendar entry fired.
+    /// A clock reading that crossed `StartInterval`, and at which no calendar entry fired.
     Interval,
-    /// A reading at which an entry of `StartCalendarInterval` fired.
+    /// A clock reading at which an entry of `StartCalendarInterval` fired.
     Calendar,
     /// A look at a path of `WatchPaths` that had changed.
     Path,
@@ -22,7 +22,7 @@ pub enum DemandKind {
 /// What wants a job, each way for itself (launchd.plist(5)). A job that nothing wants has no spawn due.
 #[derive(Clone, Copy)]
 pub struct Wants {
-    /// A one-shot demand is pending.
+    /// A one-shot start request is pending.
     pub demand: bool,
     /// How many connections wait.
     pub connections: usize,
@@ -54,7 +54,7 @@ pub struct StandingChild {
 pub struct Reasons {
     /// An unload or a shutdown was asked.
     pub is_removing: bool,
-    /// A run lives.
+    /// A run is running.
     pub child: Option<StandingChild>,
     /// The order whose answer is awaited.
     pub awaited: Option<Act>,
@@ -62,7 +62,7 @@ pub struct Reasons {
     pub wants: Wants,
     /// If the job is throttled, the least `up` from which it is not.
     pub throttled_until: Option<u64>,
-    /// `LaunchOnlyOnce` stands, and a spawn succeeded.
+    /// `LaunchOnlyOnce` is set, and a spawn succeeded.
     pub is_launch_spent: bool,
     /// 2^63 spawns were ordered.
     pub are_runs_spent: bool,

@@ -1,4 +1,4 @@
-//! A text that stands inside another value, its own or lent to it: contracts see its bytes.
+//! A text that is part of another value, its own or lent to it: contracts see its bytes.
 ghost use Rattle.std.specs.Prelude.{◌≡◌, ℕ, List, IfOk};
 ghost use Rattle.std.specs.String.{string_bytes};
 
@@ -41,7 +41,7 @@ impl Text {
         self.inner.as_str()
     }
 
-    /// The string that holds the text, handed out. Takes no memory.
+    /// The string that holds the text, moved out of it. Takes no memory.
     pub fn into_string(self) -> String
         ensures { string_bytes result ≡ self }
     {
@@ -50,7 +50,8 @@ impl Text {
     }
 }
 
-/// A text that an event borrows: of the line that was read, or of whoever tells what happened. To a contract it is its bytes of UTF-8.
+/// A text that an event borrows: from the line that was read, or from the caller that says what happened. To a contract it is its
+/// bytes of UTF-8.
 #[derive(Drop)]
 pub struct TextRef<'a> {
     inner: &'a str,

@@ -3,7 +3,7 @@ use Rattle.std.proofs.Common.{◌≡◌, ◌⊎◌, inl, inr, ℕ, List, [], Opt
 use Rattle.std.specs.Option.{option_map}
 use Rattle.std.specs.Prelude.{IfOk, OnErr}
 use Rattle.slab.specs.Slab.{Slab, SameValues, Updates, get}
-use Rattle.job_clients.specs.Callers.{ComesIn, Enters, GrowsAt, GrowsFrom, HearsAt, HearsIf, IsShort, MayComeIn, Sets, coming_at, coming_of}
+use Rattle.job_clients.specs.Callers.{ComesIn, Enters, GrowsAt, GrowsFrom, ReceivesAt, ReceivesIf, IsShort, MayComeIn, Sets, coming_at, coming_of}
 use Rattle.job_clients.specs.declared.caller.Caller.{Caller}
 use Rattle.job_clients.specs.declared.caller.Gathered.{Gathered}
 use Rattle.job_clients.specs.declared.caller.Origin.{Origin}
@@ -30,12 +30,12 @@ module _ {C : Type 0} (remaining : C → Option (List ℕ)) where
   may_come_in origin client old new (inl enters) = inl (enters_by origin client old new enters)
   may_come_in origin client old new (inr same) = inr (λ i key. option_map coming_of (same key i))
 
-  pub grows_by : (key : ℕ) (gathered : Gathered) (old new : Slab (Caller C)) → HearsAt remaining key gathered old new → GrowsAt key (coming_at old) (coming_at new)
-  grows_by key gathered old new hears = go (get old key) (get new key) refl hears.its where
-    go : (a b : Option (Caller C)) → get new key ≡ b → HearsIf remaining gathered a b → GrowsFrom key (option_map coming_of a) (coming_at old) (coming_at new)
+  pub grows_by : (key : ℕ) (gathered : Gathered) (old new : Slab (Caller C)) → ReceivesAt remaining key gathered old new → GrowsAt key (coming_at old) (coming_at new)
+  grows_by key gathered old new receives = go (get old key) (get new key) refl receives.its where
+    go : (a b : Option (Caller C)) → get new key ≡ b → ReceivesIf remaining gathered a b → GrowsFrom key (option_map coming_of a) (coming_at old) (coming_at new)
     go None b is none = record {
       its = ap (option_map coming_of) (is ∙ none);
-      others = λ other apart. ap (option_map coming_of) (hears.others other apart);
+      others = λ other apart. ap (option_map coming_of) (receives.others other apart);
     }
     go (Some a) None is it = absurd it
     go (Some a) (Some b) is it = (
@@ -43,7 +43,7 @@ module _ {C : Type 0} (remaining : C → Option (List ℕ)) where
       (λ short. subst IsShort it.grows.request (it.grows.within short)),
       record {
         its = ap (option_map coming_of) is ∙ (λ i. Some (record { origin = it.grows.origin i; request = it.grows.request i }));
-        others = λ other apart. ap (option_map coming_of) (hears.others other apart);
+        others = λ other apart. ap (option_map coming_of) (receives.others other apart);
       },
     )
 

@@ -1,2 +1,3 @@
 mod Jobs
 mod CallersLemmas
+mod CrowdsLemmas

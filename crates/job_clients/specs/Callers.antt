@@ -43,20 +43,20 @@ pub record Grows {C : Type 0} (bytes : List ℕ) (old new : Caller C) : Type 0 w
 
 module _ {C : Type 0} (remaining : C → Option (List ℕ)) where
   -- what the client itself sent is what came of its request
-  pub record Hears (gathered : Gathered) (old new : Caller C) : Type 0 where
+  pub record Receives (gathered : Gathered) (old new : Caller C) : Type 0 where
     pub bytes : List ℕ
     pub grows : Grows bytes old new
     pub gives : Gives gathered (remaining old.client) (remaining new.client) bytes
 
   -- where there is no client, nothing comes
-  abbrev pub HearsIf : Gathered → Option (Caller C) → Option (Caller C) → Type 0
-  HearsIf gathered None new = new ≡ None
-  HearsIf gathered (Some old) None = ⊥
-  HearsIf gathered (Some old) (Some new) = Hears gathered old new
+  abbrev pub ReceivesIf : Gathered → Option (Caller C) → Option (Caller C) → Type 0
+  ReceivesIf gathered None new = new ≡ None
+  ReceivesIf gathered (Some old) None = ⊥
+  ReceivesIf gathered (Some old) (Some new) = Receives gathered old new
 
   -- the client of the key sent what came of its request, and each other one is as it was
-  pub record HearsAt (key : ℕ) (gathered : Gathered) (old new : Slab (Caller C)) : Type 0 where
-    pub its : HearsIf gathered (get old key) (get new key)
+  pub record ReceivesAt (key : ℕ) (gathered : Gathered) (old new : Slab (Caller C)) : Type 0 where
+    pub its : ReceivesIf gathered (get old key) (get new key)
     pub others : (other : ℕ) → other ≢ key → get new other ≡ get old other
 
   -- The client is held under a key that was free. Nothing came of its request yet, and no byte of it was read.

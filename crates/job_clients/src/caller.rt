@@ -1,9 +1,10 @@
 //! A client of a job's socket whose request still comes.
 
 ghost use Rattle.std.specs.Prelude.{◌≡◌};
-ghost use Rattle.job_clients.specs.Callers.{Hears, Takes, WaitsOrLost};
+ghost use Rattle.job_clients.specs.Callers.{Receives, Takes, WaitsOrLost};
+ghost use Rattle.job_clients.specs.Crowds.{came_before};
 
-use crate::losses::Loss;
+use crate::drop_notices::Loss;
 use crate::sender::Sender;
 use child_edge::Client;
 use history_model::{JobNo, SECOND};
@@ -46,7 +47,7 @@ pub struct Caller<C = Client> {
     // The `up` at which it came.
     pub came: u64,
     // The `up` at which bytes came last, or the client itself.
-    pub heard_at: u64,
+    pub received_at: u64,
     // Something may be there to be read.
     pub is_ready: bool,
     // It was not read yet.
@@ -58,7 +59,9 @@ pub struct Caller<C = Client> {
 impl<C> Caller<C> {
     /// The `up` at which it counts as come, for a client that comes now by this bind. If it is of the same job and its
     /// request is whole, it counts as come at this `up`.
-    pub(crate) fn came_before(&self, bind: u64, up: u64) -> u64 {
+    pub(crate) fn came_before(&self, bind: u64, up: u64) -> u64
+        ensures { result ≡ came_before bind up self.now }
+    {
         if self.turn.is_some() && self.origin.bind == bind {
             up
         } else {
@@ -71,7 +74,7 @@ impl<C: Sender> Caller<C> {
     /// Takes what came of the request by this `up`, at most 65,536 bytes. Once a client's request is whole, nothing
     /// more comes of it, and it may be silent.
     pub fn gather(&mut self, up: u64) -> Gathered
-        ensures { Hears C.remaining result self.old self.new }
+        ensures { Receives C.remaining result self.old self.new }
     {
         if self.turn.is_some() {
             return Gathered::Waits;
@@ -92,7 +95,7 @@ impl<C: Sender> Caller<C> {
     fn waits(&self, up: u64) -> Gathered
         ensures { WaitsOrLost result }
     {
-        if up.saturating_sub(self.heard_at) >= LONGEST_SILENCE {
+        if up.saturating_sub(self.received_at) >= LONGEST_SILENCE {
             Gathered::Lost(Some(Loss::Silent))
         } else {
             Gathered::Waits
@@ -100,7 +103,7 @@ impl<C: Sender> Caller<C> {
     }
 
     fn read(&mut self, up: u64) -> Gathered
-        ensures { Hears C.remaining result self.old self.new }
+        ensures { Receives C.remaining result self.old self.new }
     {
         let mut piece = [0u8; 4096];
         match self.client.read(&mut piece) {
@@ -122,7 +125,7 @@ impl<C: Sender> Caller<C> {
         ensures client { self.new.client ≡ self.old.client }
         ensures origin { self.new.origin ≡ self.old.origin }
     {
-        self.heard_at = up;
+        self.received_at = up;
         match self.exchange.request(piece) {
             Ok(()) => Gathered::MayGoOn,
             Err(_) => Gathered::Lost(Some(Loss::TooLong)),

@@ -1,14 +1,15 @@
 //! The clients of jobs' sockets whose request still comes, within the room that there is.
 
-ghost use Rattle.std.specs.Prelude.{◌≡◌, IfOk, None};
+ghost use Rattle.std.specs.Prelude.{◌≡◌, ◌≤◌, ◌+◌, ◌++◌, [], IfOk, None, vec_capacity, vec_len};
 ghost use Rattle.std.specs.Option.{option_map};
-ghost use Rattle.slab.specs.Slab.{get};
-ghost use Rattle.job_clients.specs.Callers.{GrowsAt, HearsAt, IsNobody, MayComeIn, Rouses, Sets, Welcomes, coming_in, coming_of};
-ghost use Rattle.job_clients.specs.Places.{room_by};
+ghost use Rattle.slab.specs.Slab.{get, slab_len};
+ghost use Rattle.job_clients.specs.Callers.{GrowsAt, ReceivesAt, IsNobody, MayComeIn, Rouses, Sets, Welcomes, coming_in, coming_of};
+ghost use Rattle.job_clients.specs.Crowds.{CanListBinds, CanListClients, binds_in, received_in};
+ghost use Rattle.job_clients.specs.Places.{IsPlace, room_by, shared_room};
 
 use crate::caller::{Caller, Gathered, Origin};
-use crate::losses::Loss;
-use crate::places::{CallerRoom, Heard, Place, jobs_among, place_for, share_of};
+use crate::drop_notices::Loss;
+use crate::places::{CallerPlace, CallerRoom, Received, jobs_among, place_for, share_of};
 use crate::sender::Sender;
 use child_edge::Client;
 use mio::{Registry, Token};
@@ -31,7 +32,7 @@ pub struct Callers<C = Client> {
     alloc: Global,
     held: Slab<Caller<C>>,
     // Those of `held`, when a further one comes.
-    heard: Vec<Heard>,
+    received: Vec<Received>,
     // The binds of those that had no place in this pass and in the last one, though their job had fewer than its share.
     waits: Vec<u64>,
     waited: Vec<u64>,
@@ -60,14 +61,14 @@ impl<C: Sender + Drop> Callers<C> {
         ensures { IfOk result (λ callers. IsNobody (coming_in callers)) }
     {
         let held = Slab::with_capacity(alloc, CALLERS)?;
-        let heard = Vec::with_capacity(alloc, CALLERS)?;
+        let received = Vec::with_capacity(alloc, CALLERS)?;
         let waits = Vec::with_capacity(alloc, CALLERS)?;
         let waited = Vec::with_capacity(alloc, CALLERS)?;
         let binds = Vec::with_capacity(alloc, 2 * CALLERS)?;
         Ok(Callers {
             alloc,
             held,
-            heard,
+            received,
             waits,
             waited,
             binds,
@@ -100,19 +101,19 @@ impl<C: Sender + Drop> Callers<C> {
     }
 
     /// Whether bytes of the client of the key, or itself, came at this `up`.
-    pub fn was_heard_at(&self, key: usize, up: u64) -> bool {
+    pub fn was_received_at(&self, key: usize, up: u64) -> bool {
         match self.held.get(key) {
-            Some(caller) => caller.heard_at == up,
+            Some(caller) => caller.received_at == up,
             None => false,
         }
     }
 
     /// Takes what the client of the key has sent by this `up`, as [`Caller::gather`] does. Where there is none, nothing comes.
     pub fn gather(&mut self, key: usize, up: u64) -> Gathered
-        ensures hears { HearsAt C.remaining key result self.old.held self.new.held }
+        ensures receives { ReceivesAt C.remaining key result self.old.held self.new.held }
         ensures grows { GrowsAt key (coming_in self.old) (coming_in self.new) }
     {
-        hear(&mut self.held, key, up)
+        receive(&mut self.held, key, up)
     }
 
     /// Gives the client of the key, if there is one, which is held no more.
@@ -135,37 +136,32 @@ impl<C: Sender + Drop> Callers<C> {
     }
 
     /// A pass over all sockets begins: those that had no place in the last one are those that wait. It counts the share
-    /// of a job from the jobs whose clients are heard or wait.
+    /// of a job from the jobs whose clients are heard or wait, if there is room to list all of these.
     pub fn begin_pass(&mut self)
-        ensures { coming_in self.new ≡ coming_in self.old }
+        ensures coming { coming_in self.new ≡ coming_in self.old }
+        ensures waited { self.new.waited.items ≡ self.old.waits.items }
+        ensures none_yet { self.new.waits.items ≡ [] }
+        ensures share { CanListBinds self.old → self.new.room ≡ shared_room self.old.room
+            (binds_in self.old.held ++ self.old.waits.items) }
     {
         mem::swap(&mut self.waits, &mut self.waited);
         self.waits.clear();
-        self.binds.clear();
-        for (_, caller) in self.held.iter() {
-            let _listed = self.binds.push(caller.origin.bind);
-        }
-        for bind in self.waited.iter() {
-            let _listed = self.binds.push(*bind);
-        }
+        list_binds(&self.held, &self.waited, &mut self.binds);
         self.room.share = share_of(self.room.in_all, jobs_among(&self.binds));
     }
 
-    /// Where a client can be that comes at this `up`, by this bind. A client whose request is whole is not disconnected
-    /// for another one of its own job.
-    pub fn place(&mut self, bind: u64, up: u64) -> Place
-        ensures { coming_in self.new ≡ coming_in self.old }
+    /// Where a client can be that comes at this `up`, by this bind. The place is that of [`place_for`], for all clients
+    /// that are heard, those that wait since the last pass, and the room. Without room to list all clients, it leaves
+    /// some out. A client whose request is whole is not disconnected for another one of its own job.
+    pub fn place(&mut self, bind: u64, up: u64) -> CallerPlace
+        ensures coming { coming_in self.new ≡ coming_in self.old }
+        ensures place { CanListClients self.old → IsPlace self.old.room
+            (received_in bind up self.old.held) self.old.waited.items bind up result }
+        ensures kept { self.new.room ≡ self.old.room }
     {
-        self.heard.clear();
-        for (key, caller) in self.held.iter() {
-            let _listed = self.heard.push(Heard {
-                key,
-                bind: caller.origin.bind,
-                came: caller.came_before(bind, up),
-            });
-        }
-        let place = place_for(&self.heard, &self.waited, bind, self.room, up);
-        if matches!(place, Place::Next) && self.waits.len() < CALLERS {
+        list_received(&self.held, bind, up, &mut self.received);
+        let place = place_for(&self.received, &self.waited, bind, self.room, up);
+        if matches!(place, CallerPlace::Next) && self.waits.len() < CALLERS {
             let _noted = self.waits.push(bind);
         }
         place
@@ -231,7 +227,7 @@ impl<C: Sender + Drop> Callers<C> {
             client,
             exchange,
             came: up,
-            heard_at: up,
+            received_at: up,
             is_ready: true,
             is_new: true,
             turn: None,
@@ -247,9 +243,36 @@ impl<C: Sender + Drop> Callers<C> {
     }
 }
 
+// Lists the bind of each client that is heard, and then those that wait.
+fn list_binds<C>(held: &Slab<Caller<C>>, waited: &Vec<u64>, binds: &mut Vec<u64>)
+    ensures { slab_len held.now + vec_len waited.now ≤ vec_capacity binds.old →
+        binds.new.items ≡ binds_in held.now ++ waited.now.items }
+{
+    binds.clear();
+    for (_, caller) in held.iter() {
+        let _listed = binds.push(caller.origin.bind);
+    }
+    let _listed = binds.extend_from_slice(waited.as_slice());
+}
+
+// Lists the clients that are heard, as one sees them that comes at this `up`, by this bind.
+fn list_received<C>(held: &Slab<Caller<C>>, bind: u64, up: u64, received: &mut Vec<Received>)
+    ensures { slab_len held.now ≤ vec_capacity received.old →
+        received.new.items ≡ received_in bind up held.now }
+{
+    received.clear();
+    for (key, caller) in held.iter() {
+        let _listed = received.push(Received {
+            key,
+            bind: caller.origin.bind,
+            came: caller.came_before(bind, up),
+        });
+    }
+}
+
 // What the client of the key has sent by this `up`.
-fn hear<C: Sender>(held: &mut Slab<Caller<C>>, key: usize, up: u64) -> Gathered
-    ensures { HearsAt C.remaining key result held.old held.new }
+fn receive<C: Sender>(held: &mut Slab<Caller<C>>, key: usize, up: u64) -> Gathered
+    ensures { ReceivesAt C.remaining key result held.old held.new }
 {
     let Some(caller) = held.get_mut(key) else {
         return Gathered::Waits;

@@ -5,12 +5,12 @@
 
 mod caller;
 mod callers;
-mod losses;
+mod drop_notices;
 mod places;
 mod sender;
 
 pub use caller::{Caller, Gathered, Origin};
 pub use callers::{CALLERS, Callers};
-pub use losses::{Loss, Losses};
-pub use places::{CallerRoom, Heard, Place, jobs_among, place_for, share_of};
+pub use drop_notices::{DropNotices, Loss};
+pub use places::{CallerPlace, CallerRoom, Received, jobs_among, place_for, share_of};
 pub use sender::Sender;

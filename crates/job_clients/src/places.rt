@@ -1,9 +1,9 @@
 //! Where a further client of a job's socket can be. Which of the clients whose request still comes is disconnected for
 //! it.
 
-ghost use Rattle.std.specs.Prelude.{◌≡◌, ◌≤◌, ◌⊎◌, max, ◌/◌};
+ghost use Rattle.std.specs.Prelude.{◌≡◌, ◌≤◌, ◌⊎◌};
 ghost use Rattle.std.specs.Option.{IfSome, MatchOption};
-ghost use Rattle.job_clients.specs.Places.{IsFirstOld, IsPlace, by_first, gives_way, how_many_jobs, is_at_bound, is_below_share, is_full, is_rival, others_wait, place_by};
+ghost use Rattle.job_clients.specs.Places.{IsFirstOld, IsPlace, by_first, gives_way, how_many_jobs, is_at_bound, is_below_share, is_full, is_rival, others_wait, place_by, share_by};
 
 /// After how many milliseconds a client may be disconnected for a further one.
 const OLD: u64 = 5_000;
@@ -11,7 +11,7 @@ const OLD: u64 = 5_000;
 /// A client whose request still comes: its key, the bind that gave the job the socket to which it came, and the `up` at which it
 /// came.
 #[derive(Clone, Copy)]
-pub struct Heard {
+pub struct Received {
     pub key: usize,
     pub bind: u64,
     pub came: u64,
@@ -27,7 +27,7 @@ pub struct CallerRoom {
 
 /// Where a further client can be.
 #[derive(Clone, Copy)]
-pub enum Place {
+pub enum CallerPlace {
     Free,
     /// In the place of the client of this key, which is disconnected.
     Of(usize),
@@ -52,7 +52,13 @@ pub enum Place {
 /// If all jobs together have all that they may have, it takes the place of the first of all that came 5 seconds ago or
 /// more. If its own job has its share and others wait, it takes the place of the first of its own job's. If no such
 /// client is there, it waits.
-pub fn place_for(callers: &[Heard], waiting: &[u64], bind: u64, room: CallerRoom, up: u64) -> Place
+pub fn place_for(
+    callers: &[Received],
+    waiting: &[u64],
+    bind: u64,
+    room: CallerRoom,
+    up: u64,
+) -> CallerPlace
     ensures { IsPlace room callers.now waiting.now bind up result }
 {
     let crowd = crowd_of(callers, waiting, bind, room);
@@ -62,32 +68,32 @@ pub fn place_for(callers: &[Heard], waiting: &[u64], bind: u64, room: CallerRoom
 }
 
 // Where the client can be, if this one may go for it.
-fn place_with(crowd: Crowd, first: Option<usize>) -> Place
+fn place_with(crowd: Crowd, first: Option<usize>) -> CallerPlace
     ensures { result ≡ place_by crowd.is_at_bound crowd.is_full crowd.is_below_share crowd.gives_way first }
 {
     if crowd.is_at_bound {
-        return place_of(first, Place::Nowhere);
+        return place_of(first, CallerPlace::Nowhere);
     }
     if crowd.is_full {
         let otherwise = if crowd.is_below_share {
-            Place::Next
+            CallerPlace::Next
         } else {
-            Place::Later
+            CallerPlace::Later
         };
         return place_of(first, otherwise);
     }
     if crowd.gives_way {
-        Place::Later
+        CallerPlace::Later
     } else {
-        Place::Free
+        CallerPlace::Free
     }
 }
 
-fn place_of(first: Option<usize>, otherwise: Place) -> Place
+fn place_of(first: Option<usize>, otherwise: CallerPlace) -> CallerPlace
     ensures { result ≡ by_first otherwise first }
 {
     match first {
-        Some(key) => Place::Of(key),
+        Some(key) => CallerPlace::Of(key),
         None => otherwise,
     }
 }
@@ -102,7 +108,7 @@ struct Crowd {
 }
 
 #[tactic(auto, unfolding(crate::specs::Places::is_at_bound, crate::specs::Places::is_full, crate::specs::Places::is_below_share, crate::specs::Places::gives_way))]
-fn crowd_of(callers: &[Heard], waiting: &[u64], bind: u64, room: CallerRoom) -> Crowd
+fn crowd_of(callers: &[Received], waiting: &[u64], bind: u64, room: CallerRoom) -> Crowd
     ensures bound { result.is_at_bound ≡ is_at_bound room callers.now bind }
     ensures full { result.is_full ≡ is_full room callers.now }
     ensures share { result.is_below_share ≡ is_below_share room callers.now bind }
@@ -124,10 +130,10 @@ fn do_others_wait(waiting: &[u64], bind: u64) -> bool
     waiting.iter().filter(|one| **one != bind).count() > 0
 }
 
-fn first_old(callers: &[Heard], bind: u64, of_any: bool, up: u64) -> Option<usize>
+fn first_old(callers: &[Received], bind: u64, of_any: bool, up: u64) -> Option<usize>
     ensures { IsFirstOld (is_rival of_any bind) callers.now up result }
 {
-    let mut first: Option<Heard> = None;
+    let mut first: Option<Received> = None;
     for one in callers {
         if of_any || one.bind == bind {
             first = Some(earlier(first, *one));
@@ -139,7 +145,7 @@ fn first_old(callers: &[Heard], bind: u64, of_any: bool, up: u64) -> Option<usiz
     }
 }
 
-fn earlier(first: Option<Heard>, one: Heard) -> Heard
+fn earlier(first: Option<Received>, one: Received) -> Received
     ensures either { MatchOption first (result ≡ one)
         (λ best. (result ≡ best) ⊎ (result ≡ one)) }
     ensures not_after { result.came ≤ one.came }
@@ -168,7 +174,7 @@ pub fn jobs_among(binds: &[u64]) -> usize
 
 /// How many places each of `jobs` jobs can have, one at least.
 pub fn share_of(in_all: usize, jobs: usize) -> usize
-    ensures { result ≡ max 1 (in_all / max 1 jobs) }
+    ensures { result ≡ share_by in_all jobs }
 {
     (in_all / jobs.max(1)).max(1)
 }

@@ -1,4 +1,4 @@
--- What a core's facts are, which lie behind its pointer.
+-- What a core's facts are, to which it holds a pointer.
 use Rattle.std.proofs.Common.{◌≡◌, ℕ, Option, subst, sym}
 use Rattle.std.specs.Prelude.{Result}
 use Rattle.history_model.specs.declared.Act.{Act}

@@ -1,4 +1,4 @@
--- The watched paths and queue directories of a job, with what was seen there last: searches and sights.
+-- The watched paths and queue directories of a job, with what was seen there last: searches and observations.
 use Rattle.std.proofs.Common.{◌≡◌, ℕ, ◌+◌, ◌<◌, Bool, true, false, ◌||◌, ◌&&◌, cond, Option, Some, List, [], ◌∷◌, ◌++◌, map, take, get_or, length, refl, ap, ◌∙◌}
 use Rattle.std.specs.List.{find, list_any, filter}
 use Rattle.std.specs.Option.{option_map}
@@ -11,7 +11,7 @@ use Rattle.history_model.specs.DueByFacts.{any_seen, first_seen}
 use Rattle.history_model.proofs.WrittenLemmas.{newer}
 use Rattle.job_core.specs.declared.paths.Watched.{Watched}
 use Rattle.job_core.specs.declared.paths.QueueDirectory.{QueueDirectory}
-use Rattle.job_core.specs.ListedPaths.{watched_path, watched_sight, watched_after_sight, queue_path, queue_sight, queue_after}
+use Rattle.job_core.specs.ListedPaths.{watched_path, watched_observation, watched_after_observation, queue_path, queue_observation, queue_after}
 use Rattle.history_model.proofs.BooleanLemmas.{or-false-right, or-assoc}
 
 -- the watched path makes a demand
@@ -19,21 +19,21 @@ abbrev pub fires_at : List ℕ → Obs → Watched → Bool
 fires_at path obs w = is_same_path w.path path && differs obs w.watch
 
 pub any-fires : (path : List ℕ) (obs : Obs) (ws : List Watched) →
-    list_any (fires_at path obs) ws ≡ any_seen (λ (watched : List ℕ) (before : Option Obs). is_same_path watched path && differs obs before) (map watched_path ws) (map watched_sight ws)
+    list_any (fires_at path obs) ws ≡ any_seen (λ (watched : List ℕ) (before : Option Obs). is_same_path watched path && differs obs before) (map watched_path ws) (map watched_observation ws)
 any-fires path obs [] = refl
 any-fires path obs (w ∷ ws) = ap (λ b. fires_at path obs w || b) (any-fires path obs ws)
 
 pub watched-after : (path : List ℕ) (obs : Obs) (ws : List Watched) →
-    map watched_sight (map (watched_after_sight path obs) ws) ≡ seen_after (λ p. p) (map watched_path ws) path obs (map watched_sight ws)
+    map watched_observation (map (watched_after_observation path obs) ws) ≡ seen_after (λ p. p) (map watched_path ws) path obs (map watched_observation ws)
 watched-after path obs [] = refl
 watched-after path obs (w ∷ ws) = λ i. newer (is_same_path w.path path) obs w.watch i ∷ watched-after path obs ws i
 
-pub watched-paths : (path : List ℕ) (obs : Obs) (ws : List Watched) → map watched_path (map (watched_after_sight path obs) ws) ≡ map watched_path ws
+pub watched-paths : (path : List ℕ) (obs : Obs) (ws : List Watched) → map watched_path (map (watched_after_observation path obs) ws) ≡ map watched_path ws
 watched-paths path obs [] = refl
 watched-paths path obs (w ∷ ws) = ap (λ l. watched_path w ∷ l) (watched-paths path obs ws)
 
 pub queues-after : (path : List ℕ) (obs : Obs) (qs : List QueueDirectory) →
-    map queue_sight (map (queue_after path obs) qs) ≡ seen_after (λ p. p) (map queue_path qs) path obs (map queue_sight qs)
+    map queue_observation (map (queue_after path obs) qs) ≡ seen_after (λ p. p) (map queue_path qs) path obs (map queue_observation qs)
 queues-after path obs [] = refl
 queues-after path obs (q ∷ qs) = λ i. newer (is_same_path q.path path) obs q.queue i ∷ queues-after path obs qs i
 
@@ -41,18 +41,18 @@ pub queue-paths : (path : List ℕ) (obs : Obs) (qs : List QueueDirectory) → m
 queue-paths path obs [] = refl
 queue-paths path obs (q ∷ qs) = ap (λ l. queue_path q ∷ l) (queue-paths path obs qs)
 
-pub any-queues : (qs : List QueueDirectory) → list_any (λ (q : QueueDirectory). queue_holds q.queue) qs ≡ any_seen (λ (path : List ℕ). queue_holds) (map queue_path qs) (map queue_sight qs)
+pub any-queues : (qs : List QueueDirectory) → list_any (λ (q : QueueDirectory). queue_holds q.queue) qs ≡ any_seen (λ (path : List ℕ). queue_holds) (map queue_path qs) (map queue_observation qs)
 any-queues [] = refl
 any-queues (q ∷ qs) = ap (λ b. queue_holds q.queue || b) (any-queues qs)
 
 pub first-queue : (qs : List QueueDirectory) → option_map queue_path (find (λ (q : QueueDirectory). queue_holds q.queue) qs)
-    ≡ first_seen (λ (path : List ℕ). queue_holds) (map queue_path qs) (map queue_sight qs)
+    ≡ first_seen (λ (path : List ℕ). queue_holds) (map queue_path qs) (map queue_observation qs)
 first-queue [] = refl
 first-queue (q ∷ qs) = go (queue_holds q.queue) (first-queue qs)
   where
-    go : (b : Bool) → option_map queue_path (find (λ (q : QueueDirectory). queue_holds q.queue) qs) ≡ first_seen (λ (path : List ℕ). queue_holds) (map queue_path qs) (map queue_sight qs) →
+    go : (b : Bool) → option_map queue_path (find (λ (q : QueueDirectory). queue_holds q.queue) qs) ≡ first_seen (λ (path : List ℕ). queue_holds) (map queue_path qs) (map queue_observation qs) →
         option_map queue_path (cond b (Some q) (find (λ (q : QueueDirectory). queue_holds q.queue) qs))
-        ≡ cond b (Some (queue_path q)) (first_seen (λ (path : List ℕ). queue_holds) (map queue_path qs) (map queue_sight qs))
+        ≡ cond b (Some (queue_path q)) (first_seen (λ (path : List ℕ). queue_holds) (map queue_path qs) (map queue_observation qs))
     go true rest = refl
     go false rest = rest
 

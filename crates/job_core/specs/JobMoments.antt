@@ -1,5 +1,5 @@
--- From when on a reading makes the end of a run due, and when its interval is over, if nothing but
--- readings happens (launchd.plist(5): ExitTimeOut, StartInterval; launchctl(1): stop, kickstart -k).
+-- When a clock reading makes the end of a run due, and when its interval is over (launchd.plist(5): ExitTimeOut, StartInterval;
+-- launchctl(1): stop, kickstart -k). Until then only the clock goes on.
 use Rattle.std.specs.Prelude.{◌≡◌, ℕ, ◌*◌, Bool, true, not, ◌&&◌, ◌||◌, nat_lt, Option}
 use Rattle.std.specs.List.{list_any}
 use Rattle.history_model.specs.Items.{History}

@@ -11,20 +11,20 @@ abbrev pub watched_path : Watched → List ℕ
 watched_path w = w.path
 
 -- what was seen there last
-abbrev pub watched_sight : Watched → Option Obs
-watched_sight w = w.watch
+abbrev pub watched_observation : Watched → Option Obs
+watched_observation w = w.watch
 
 -- the watched path after this was seen at this path
-abbrev pub watched_after_sight : List ℕ → Obs → Watched → Watched
-watched_after_sight path obs w = record w { watch = cond (is_same_path w.path path) (Some obs) w.watch }
+abbrev pub watched_after_observation : List ℕ → Obs → Watched → Watched
+watched_after_observation path obs w = record w { watch = cond (is_same_path w.path path) (Some obs) w.watch }
 
 -- a queue directory's path
 abbrev pub queue_path : QueueDirectory → List ℕ
 queue_path q = q.path
 
 -- what was seen there last
-abbrev pub queue_sight : QueueDirectory → Option Obs
-queue_sight q = q.queue
+abbrev pub queue_observation : QueueDirectory → Option Obs
+queue_observation q = q.queue
 
 -- the queue directory after this was seen at this path
 abbrev pub queue_after : List ℕ → Obs → QueueDirectory → QueueDirectory

@@ -1,5 +1,5 @@
-//! The calendar of a job's definition. Whether a reading fires it is said with the reading, so its entries decide nothing here;
-//! they are kept because the facts of a past name its whole definition.
+//! The calendar of a job's definition. The event of a clock reading says whether the calendar fires, so its entries decide
+//! nothing here. They are kept because the facts of a past name its whole definition.
 
 ghost use Rattle.std.specs.Prelude.{◌≡◌, IfOk};
 

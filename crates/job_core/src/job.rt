@@ -61,7 +61,7 @@ impl Job {
     ghost use Rattle.job_core.specs.JobFields.{facts};
     ghost use Rattle.history_model.specs.Facts.{facts_of};
 
-    /// A job that was loaded at this reading.
+    /// A job that was loaded at this clock reading.
     pub fn new(alloc: Global, def: &Def, at: Reading) -> Result<Job, AllocError>
         requires { at.up ≤ MAX_UP }
         ensures { IfOk result (λ job. facts job ≡ facts_of (Loaded (definition def.now) at ∷ [])) }
@@ -101,7 +101,7 @@ impl Job {
         })
     }
 
-    /// Takes in what happened. `now` is the reading before it.
+    /// Takes in what happened. `now` is the clock reading before it.
     pub fn apply(&mut self, event: JobEvent<'_>, now: Reading) -> Result<(), Refusal>
         requires { now.up ≤ MAX_UP }
         ensures follows { Follows (facts self.old) (item_of_event event.entry) now result
@@ -111,12 +111,12 @@ impl Job {
         match event {
             JobEvent::Read(at, calendar) => self.read(at, calendar, now),
             JobEvent::Saw(path, obs) => self.saw(path, obs, now),
-            JobEvent::Item(item) => self.take_in(item, now),
+            JobEvent::Item(item) => self.apply_item(item, now),
         }
     }
 
     /// Takes in an item of the job.
-    fn take_in(&mut self, item: JobItem, now: Reading) -> Result<(), Refusal>
+    fn apply_item(&mut self, item: JobItem, now: Reading) -> Result<(), Refusal>
         requires { now.up ≤ MAX_UP }
         ensures follows { Follows (facts self.old) (item_of item) now result (facts self.new) }
         ensures unchanged { OnErr result (self.new ≡ self.old) }
@@ -145,7 +145,7 @@ impl Job {
         }
     }
 
-    /// Whether a child or an awaited spawn stands.
+    /// Whether there is a child or an awaited spawn.
     fn is_busy(&self) -> bool
         ensures { result ≡ is_busy_by (facts self.now) }
     {
@@ -206,7 +206,7 @@ impl Job {
     }
 }
 
-/// What the load demands: it is a demand by `RunAtLoad`, or by the condition `SuccessfulExit`, which implies it.
+/// The start request that the load makes: it makes one by `RunAtLoad`, or by the condition `SuccessfulExit`, which implies it.
 fn demand_at_load(def: &Def) -> Option<DemandKind>
     ensures { result
         ≡ cond (def.now.run_at_load || is_some def.now.successful_exit) (Some kinds.Load) None }

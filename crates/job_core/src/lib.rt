@@ -27,7 +27,7 @@ pub use job::Moments;
 use std::alloc::{AllocError, Global};
 use std::marker::Model;
 
-/// What happens to a job: a reading of the clocks, a sight of a path, or an item of its own.
+/// What happens to a job: a clock reading, an observation of a path, or an item of its own.
 #[derive(Clone, Copy)]
 pub enum JobEvent<'a> {
     /// The clock, and whether a calendar entry matches a minute that it crossed.
@@ -44,8 +44,8 @@ struct Held {
     decided: u64,
 }
 
-/// One loaded job: to a contract, the facts of its past, and how often it was asked for its order. What it keeps lies behind a
-/// pointer, so a core is small, and quick to move.
+/// One loaded job: to a contract, the facts of its past, and how often it was asked for its order. It holds a pointer to what it
+/// keeps, so a core is small, and quick to move.
 #[derive(Drop)]
 pub struct JobCore {
     held: Box<Held>,
@@ -71,7 +71,8 @@ impl JobCore {
     ghost use Rattle.job_core.specs.Memory.{NeedsNoMemory};
     ghost use Rattle.history_model.specs.Definitions.{definition};
 
-    /// A job that was loaded at this reading. It takes all memory that the job ever needs, and its one refusal is of memory.
+    /// A job that was loaded at this clock reading. It takes all memory that the job ever needs, and its one refusal is of
+    /// memory.
     pub fn new(alloc: Global, def: &Def, at: Reading) -> Result<JobCore, AllocError>
         requires { at.up ≤ MAX_UP }
         ensures kept { IfOk result
@@ -88,14 +89,19 @@ impl JobCore {
         }
     }
 
-    /// Takes in what happened. `now` is the reading before it. A refused event leaves the job as it was. The refusals, in
-    /// the order in which they are looked for:
-    /// - `ClockRefused`: a reading before `now`, or past the greatest one;
+    /// Takes in what happened. `now` is the clock reading before it. A refused event leaves the job as it was. The refusals, in
+    /// the order in which it looks for them:
+    ///
+    /// - `ClockRefused`: a clock reading before `now`, or past the greatest one;
+    ///
     /// - `Removing`: a start, a stop, a kickstart, an unload or a connection after an unload or a shutdown;
+    ///
     /// - `NotRunning`: a stop if there is neither a child nor an awaited spawn;
-    /// - `Stale`: an answer that is not awaited for that run; an end, or a refused wait, of a run that is not the child; a
-    ///   connection that leaves and does not wait, or that comes to a job without sockets or with a number not above
-    ///   every earlier one;
+    ///
+    /// - `Stale`: an answer that is not awaited for that run; an exit, or a refused wait, of a run that is not the child. Also a
+    ///   connection that leaves and does not wait, or one that comes to a job without sockets or with a number not above every
+    ///   earlier one;
+    ///
     /// - `TooManyConnections`: a connection if 64 wait.
     ///
     /// It takes no memory, and never answers `NoMemory`.
@@ -115,9 +121,12 @@ impl JobCore {
     }
 
     /// What the job orders now, if anything; the order then counts as given, and none comes before it is answered.
-    /// - A spawn, which carries the first waiting connection: the job is not being removed, has no child, is wanted by a
-    ///   pending demand, a connection or a level, is not throttled, and did not spend its only launch.
-    /// - KILL: the child is being stopped and its time to end is over, or a kickstart struck it.
+    ///
+    /// - A spawn, which carries the first waiting connection. The job is wanted by a pending start request, a connection or a level.
+    ///   It is not being removed, has no child, is not throttled, and did not spend its only launch.
+    ///
+    /// - KILL: the child is being stopped and its time to end is over, or a `kickstart -k` asked for its end.
+    ///
     /// - TERM: the child is being stopped.
     ///
     /// KILL and TERM are not given again after an ok, and after a refusal not within a second.
@@ -141,13 +150,13 @@ impl JobCore {
         self.held.decided
     }
 
-    /// The next moment at which time alone may make an order due, by the interval, the throttle, the time to end, or a
-    /// refused order; those of the calendar are left aside.
+    /// The next time at which the clock alone may make an order due, by the interval, the throttle, the time to end, or a refused
+    /// order. It does not consider the calendar.
     pub fn next_moment(&self, now: Reading) -> Option<u64>
         requires { now.up ≤ MAX_UP }
         ensures next { (past : History) → Keeps self.now.facts past → now ≡ clock.now past →
             result ≡ moments.next_moment past }
-        // By what is kept of the job, so that an index of moments need name no past.
+        // By what is kept of the job, so that an index of wake-up times need name no past.
         ensures known { result ≡ next_by self.now.facts now.up }
     {
         self.held.job.next_moment(now.up)
@@ -161,9 +170,9 @@ impl JobCore {
         self.held.job.reasons(now.up)
     }
 
-    /// The moment, in milliseconds of `up`, from which a reading makes the spawn due if nothing but readings happens and no calendar
-    /// entry fires: that of the throttle's end, or of the next end of the interval if nothing wants the job before. None if
-    /// no reading does. It takes no memory, and changes nothing.
+    /// The time, in milliseconds of `up`, from which a clock reading makes the spawn due if only the clock goes on and no
+    /// calendar entry fires. It is the throttle's end, or the next end of the interval if nothing wants the job before. None if
+    /// the clock alone never makes it due. It takes no memory, and changes nothing.
     pub fn spawns_from(&self, now: Reading) -> Option<u64>
         requires { now.up ≤ MAX_UP }
         ensures { (past : History) → Keeps self.now.facts past → now ≡ clock.now past →
@@ -172,8 +181,8 @@ impl JobCore {
         self.held.job.spawns_from(now.up)
     }
 
-    /// From when on TERM and KILL are due for the run that lives, and when the interval is over, if nothing but readings
-    /// happens. It takes no memory, and changes nothing.
+    /// From when on TERM and KILL are due for the child's run, and when the interval is over, if only the clock goes on. It takes
+    /// no memory, and changes nothing.
     pub fn moments(&self, now: Reading) -> Moments
         requires { now.up ≤ MAX_UP }
         ensures { (past : History) → Keeps self.now.facts past → now ≡ clock.now past →
@@ -182,7 +191,7 @@ impl JobCore {
         self.held.job.moments(now.up)
     }
 
-    /// What made the pending demand: the newest event that is a demand and that no successful spawn followed; none if no demand
+    /// What made the pending start request: the newest event that makes one and that no successful spawn followed. None if none
     /// is pending. It takes no memory, and changes nothing.
     pub fn latest_demand(&self) -> Option<DemandKind>
         ensures { (past : History) → Keeps self.now.facts past → result ≡ latest_demand past }
@@ -190,9 +199,9 @@ impl JobCore {
         self.held.job.latest_demand()
     }
 
-    /// The path that holds the job wanted: the first of `PathState`, in the order of the definition, that was last seen as its
-    /// condition wants it, or else the first of `QueueDirectories` that was last seen with something in it. None if none of them
-    /// holds. It takes no memory, and changes nothing.
+    /// The path that holds the job wanted. It is the first of `PathState`, in the order of the definition, that was last seen as
+    /// its condition wants it. Else it is the first of `QueueDirectories` that was last seen with something in it. None if none
+    /// of them holds. It takes no memory, and changes nothing.
     pub fn path_that_holds(&self) -> Option<&str>
         ensures { (past : History) → Keeps self.now.facts past →
             option_map (λ path. path.now) result ≡ path_that_holds past }

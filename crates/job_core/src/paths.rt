@@ -7,7 +7,7 @@ ghost use Rattle.history_model.specs.Demands.{is_same_path, differs};
 ghost use Rattle.history_model.specs.Levels.{queue_holds};
 ghost use Rattle.history_model.specs.ByFacts.{seen_after};
 ghost use Rattle.history_model.specs.DueByFacts.{any_seen, first_seen};
-ghost use Rattle.job_core.specs.ListedPaths.{watched_path, watched_sight, watched_after_sight, queue_path, queue_sight, queue_after};
+ghost use Rattle.job_core.specs.ListedPaths.{watched_path, watched_observation, watched_after_observation, queue_path, queue_observation, queue_after};
 
 use conditions::{Queue, Watch};
 use history_model::{Obs, Text};
@@ -27,19 +27,19 @@ pub struct Watches {
 }
 
 impl Model for Watches {
-    ghost use Rattle.job_core.specs.Sights.{Sights};
+    ghost use Rattle.job_core.specs.Observations.{Observations};
 
-    ghost Value = { Sights };
+    ghost Value = { Observations };
 
     ghost use Rattle.std.specs.Prelude.{map};
-    ghost use Rattle.job_core.specs.ListedPaths.{watched_path, watched_sight};
+    ghost use Rattle.job_core.specs.ListedPaths.{watched_path, watched_observation};
 
     ghost view = { λ w. record
-        { paths = map watched_path w.listed.items; seen = map watched_sight w.listed.items } };
+        { paths = map watched_path w.listed.items; seen = map watched_observation w.listed.items } };
 }
 
 impl Watches {
-    ghost use Rattle.job_core.specs.Sights.{Sights, unseen};
+    ghost use Rattle.job_core.specs.Observations.{Observations, unseen};
 
     pub fn new(alloc: Global, paths: &[Text]) -> Result<Watches, AllocError>
         ensures { IfOk result (λ w. w ≡ unseen paths.now) }
@@ -49,7 +49,7 @@ impl Watches {
         })
     }
 
-    /// Takes in what was seen at a path, and tells whether that makes a demand.
+    /// Takes in what was seen at a path, and returns whether that makes a start request.
     pub fn saw(&mut self, path: &str, obs: Obs) -> bool
         ensures fires { result ≡ any_seen
             (λ watched before. is_same_path watched path.now && differs obs before) self.old.paths
@@ -63,7 +63,7 @@ impl Watches {
 
 fn watches_of(alloc: Global, paths: &[Text]) -> Result<Vec<Watched>, AllocError>
     ensures paths { IfOk result (λ v. map watched_path v.items ≡ paths.now) }
-    ensures unseen { IfOk result (λ v. map watched_sight v.items ≡ map (λ _. None) paths.now) }
+    ensures unseen { IfOk result (λ v. map watched_observation v.items ≡ map (λ _. None) paths.now) }
 {
     let mut listed = Vec::new(alloc);
     for path in paths {
@@ -78,7 +78,7 @@ fn watches_of(alloc: Global, paths: &[Text]) -> Result<Vec<Watched>, AllocError>
 fn watch(listed: &mut Vec<Watched>, path: &str, obs: Obs) -> bool
     ensures fires { result ≡ list_any
         (λ w. is_same_path w.path path.now && differs obs w.watch) listed.old.items }
-    ensures seen { listed.new.items ≡ map (watched_after_sight path.now obs) listed.old.items }
+    ensures seen { listed.new.items ≡ map (watched_after_observation path.now obs) listed.old.items }
 {
     let mut fires = false;
     for watched in listed.iter_mut() {
@@ -103,19 +103,19 @@ pub struct Queues {
 }
 
 impl Model for Queues {
-    ghost use Rattle.job_core.specs.Sights.{Sights};
+    ghost use Rattle.job_core.specs.Observations.{Observations};
 
-    ghost Value = { Sights };
+    ghost Value = { Observations };
 
     ghost use Rattle.std.specs.Prelude.{map};
-    ghost use Rattle.job_core.specs.ListedPaths.{queue_path, queue_sight};
+    ghost use Rattle.job_core.specs.ListedPaths.{queue_path, queue_observation};
 
     ghost view = { λ q. record
-        { paths = map queue_path q.listed.items; seen = map queue_sight q.listed.items } };
+        { paths = map queue_path q.listed.items; seen = map queue_observation q.listed.items } };
 }
 
 impl Queues {
-    ghost use Rattle.job_core.specs.Sights.{Sights, unseen};
+    ghost use Rattle.job_core.specs.Observations.{Observations, unseen};
 
     pub fn new(alloc: Global, paths: &[Text]) -> Result<Queues, AllocError>
         ensures { IfOk result (λ q. q ≡ unseen paths.now) }
@@ -153,7 +153,7 @@ impl Queues {
 
 fn queues_of(alloc: Global, paths: &[Text]) -> Result<Vec<QueueDirectory>, AllocError>
     ensures paths { IfOk result (λ v. map queue_path v.items ≡ paths.now) }
-    ensures unseen { IfOk result (λ v. map queue_sight v.items ≡ map (λ _. None) paths.now) }
+    ensures unseen { IfOk result (λ v. map queue_observation v.items ≡ map (λ _. None) paths.now) }
 {
     let mut listed = Vec::new(alloc);
     for path in paths {

@@ -36,7 +36,7 @@ entry_at d = do
     month = in_month;
   })
 
--- at most so many entries
+-- at most this number of entries
 unfoldable pub calendar_at : Data → Result (List Entry) Fault
 calendar_at d =
     if nat_lt LIST_LIMIT (items_len (members_or_one d)) then Err (bad TooLong StartCalendarInterval)

@@ -23,7 +23,7 @@ label_key d = do
 abbrev pub word_at : Data → Result (List ℕ) Fault
 word_at d = plain_at 4096 ProgramArguments d
 
--- beside `Program` the first element is checked and not used; without it, it is the executable
+-- with `Program` the first element is checked and not used; without it, it is the executable
 unfoldable pub command_in : Option (List ℕ) → Items → Result Command Fault
 command_in (Some program) no_items = Ok (record { program = program; arguments = [] })
 command_in (Some program) (item first rest) = do
@@ -36,14 +36,14 @@ command_in None (item first rest) = do
   arguments ← each_item word_at rest
   Ok (record { program = program; arguments = arguments })
 
--- at most 256 words
+-- at most 256 arguments
 unfoldable pub command_at : Option (List ℕ) → Data → Result Command Fault
 command_at program d = do
   words ← array_at ProgramArguments d
   if nat_lt 256 (items_len words) then Err (bad TooLong ProgramArguments)
       else command_in program words
 
--- one of `Program` and `ProgramArguments` has to stand
+-- one of `Program` and `ProgramArguments` has to be present
 unfoldable pub command_key : Option (List ℕ) → Data → Result Command Fault
 command_key program d = command_by program (get (key_text ProgramArguments) d) where
   command_by : Option (List ℕ) → Option Data → Result Command Fault

@@ -1,5 +1,5 @@
--- `KeepAlive` of launchd.plist(5): a boolean, or a dictionary of conditions. The conditions are
--- gone through in byte order. One that is not here never holds and is no fault.
+-- `KeepAlive` of launchd.plist(5): a boolean, or an object of conditions. The conditions are gone through in byte order. One that
+-- is not here never holds and is not a fault.
 use Rattle.std.specs.Prelude.{List, [], ◌∷◌, Bool, false, not, nat_lt, Result, Ok, Err, Option, Some, None, if◌then◌else◌}
 use Rattle.serde_json.specs.Data.{Data}
 use Rattle.serde_json.specs.Events.{members_len}
@@ -32,7 +32,7 @@ path_state_in name d = do
   present ← bool_at KeepAlive d
   Ok (record { path = path; present = present } ∷ [])
 
--- at most so many paths
+-- at most this number of paths
 unfoldable pub path_state_at : Data → Result (List PathState) Fault
 path_state_at d = do
   paths ← object_at KeepAlive d

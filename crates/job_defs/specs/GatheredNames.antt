@@ -9,6 +9,6 @@ use Rattle.job_defs.specs.Ignored.{with_names}
 abbrev pub names_of : BTreeSet (String Global) → List Key
 names_of names = map string_bytes names.keys
 
--- these names were gathered beside the earlier ones
+-- these names were gathered with the earlier ones
 abbrev pub Gains : BTreeSet (String Global) → List Key → BTreeSet (String Global) → Type 0
 Gains old more new = names_of new ≡ with_names (names_of old) more

@@ -1,4 +1,4 @@
--- The keys of a definition that nothing acts on.
+-- The keys of a definition that are not supported.
 use Rattle.std.specs.Prelude.{List, [], ◌∷◌, ◌++◌, Bool, not, ◌&&◌, is_some, Option, Some, None, if◌then◌else◌, codes}
 use Rattle.std.specs.List.{list_any, fold}
 use Rattle.std.specs.Str.{bytes_eq}
@@ -49,18 +49,18 @@ abbrev pub unlisted : Members → List Key
 unlisted no_members = []
 unlisted (member k d ms) = if is_key k then unlisted ms else k ∷ unlisted ms
 
--- the keys of a dictionary that are not read, each behind the prefix
+-- the keys of an object that are not read, each after the prefix
 abbrev pub others : Key → List Key → Members → List Key
 others prefix known no_members = []
 others prefix known (member k d ms) =
     if is_among known k then others prefix known ms else (prefix ++ k) ∷ others prefix known ms
 
--- the members, if the value is a dictionary
+-- the members, if the value is an object
 abbrev pub members_in : Option Members → Members
 members_in None = no_members
 members_in (Some ms) = ms
 
--- the same of any value: one that is no dictionary has none
+-- the same of any value: one that is not an object has none
 abbrev pub others_in : Key → List Key → Data → List Key
 others_in prefix known d = others prefix known (members_in (as_object d))
 
@@ -83,12 +83,12 @@ abbrev pub others_in_sockets : Members → List Key
 others_in_sockets no_members = []
 others_in_sockets (member name d ms) = others_under name d ++ others_in_sockets ms
 
--- the names in the value, if the key stands
+-- the names in the value, if the key is present
 abbrev pub where_found : (Data → List Key) → Option Data → List Key
 where_found names None = []
 where_found names (Some d) = names d
 
--- the key stands
+-- the key is present
 abbrev pub has_key : KeyName → Data → Bool
 has_key key d = is_some (get (key_text key) d)
 
@@ -102,7 +102,7 @@ overruled has_sockets d =
     named_if (has_key OnDemand d && has_key KeepAlive d) OnDemand
     ++ named_if (has_key InetdCompatibility d && not has_sockets) InetdCompatibility
 
--- the keys of the dictionaries inside a definition
+-- the keys of the objects inside a definition
 unfoldable pub inside : Data → List Key
 inside d =
     where_found (others_in (codes "KeepAlive.") conditions) (get (key_text KeepAlive) d)

@@ -112,7 +112,7 @@ def_at d = do
 abbrev pub json_at : List ℕ → Result Data Fault
 json_at bytes = or_fault (json_in bytes) (bad NotJson NoKey)
 
--- what a value that was read defines, or the first fault; no value is no JSON
+-- what a value that was read defines, or the first fault; no value means that the text is not JSON
 abbrev pub def_or_fault : Option Data → Result Described Fault
 def_or_fault found = do
   d ← or_fault found (bad NotJson NoKey)

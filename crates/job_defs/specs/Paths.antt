@@ -11,7 +11,7 @@ use Rattle.json_kinds.specs.DefFaults.{bad, ◌>>=◌}
 use Rattle.json_kinds.specs.JsonKinds.{array_at, path_at, each_item, where_there}
 use Rattle.job_defs.specs.declared.demand.TheConstants.{LIST_LIMIT}
 
--- at most so many paths in a definition, of which some were counted before
+-- at most this number of paths in a definition, of which some were counted before
 unfoldable pub paths_at : ℕ → KeyName → Data → Result (List (List ℕ)) Fault
 paths_at before key d = do
   paths ← array_at key d

@@ -35,7 +35,7 @@ passive_at d = do
   listens ← bool_at keys.Sockets d
   if listens then Ok tt else Err (bad Unsupported keys.Sockets)
 
--- the number that one to so many decimal digits write
+-- the number that decimal digits write, from one digit to this number of them
 unfoldable pub number_in : ℕ → List ℕ → Option ℕ
 number_in most text =
     if nat_lt 0 (length text) && nat_le (length text) most && list_all is_digit text
@@ -88,7 +88,7 @@ port_in text = do
   n ← or_fault (number_in 5 text) (bad Unsupported keys.Sockets)
   if nat_le 1 n && nat_le n 65535 then Ok n else Err (bad OutOfRange keys.Sockets)
 
--- a number is the port, or else a text tells it
+-- a number is the port, or else a string names it
 unfoldable pub port_by : Option Num → Data → Result ℕ Fault
 port_by (Some n) d = in_range 1 65535 keys.Sockets n
 port_by None d = do
@@ -144,12 +144,12 @@ sockets_key d = where_there sockets_at [] (get (key_text keys.Sockets) d)
 
 -- ---- inetdCompatibility
 
--- the boolean stands and is false
+-- the boolean is present and false
 abbrev pub is_off : Option Bool → Bool
 is_off (Some false) = true
 is_off _ = false
 
--- `Wait` has to be a boolean if it stands, and to stand and be false if there are sockets
+-- `Wait` has to be a boolean if it is present, and to be present and false if there are sockets
 unfoldable pub inetd_at : Bool → Data → Result ⊤ Fault
 inetd_at has_sockets d = do
   compatibility ← object_at keys.InetdCompatibility d

@@ -17,7 +17,7 @@ use Rattle.json_kinds.specs.JsonKinds.{object_at, plain, filled, each_member, wh
 abbrev pub is_equals : ℕ → Bool
 is_equals b = b == 61
 
--- a value that is no string is left out
+-- a value that is not a string is left out
 unfoldable pub variable_by : Key → Option (List ℕ) → Result (List Variable) Fault
 variable_by name None = Ok []
 variable_by name (Some text) = do

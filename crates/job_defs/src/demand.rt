@@ -60,7 +60,7 @@ pub(crate) fn pace_keys(def: &Value) -> Result<Pace, DefFault>
     })
 }
 
-/// A list of paths, if the definition had so many before.
+/// A list of paths, in a definition that had `before` paths before this list.
 #[tactic(auto, using(json_kinds::proofs::CountLemmas::items_count), unfolding(crate::specs::Paths::paths_key, crate::specs::Paths::paths_at))]
 fn paths_key_of(
     alloc: Global,

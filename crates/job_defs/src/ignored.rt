@@ -1,4 +1,4 @@
-//! The keys of a definition that nothing acts on.
+//! The keys of a definition that are not supported.
 
 ghost use Rattle.std.specs.Prelude.{◌≡◌, [], ◌∷◌, ◌++◌, codes, string_bytes, IfOk, OnOk};
 ghost use Rattle.serde_json.specs.View.{view, items_view, members_view};
@@ -20,7 +20,7 @@ use serde_json::{Map, Value};
 use std::alloc::{AllocError, Global};
 use std::collections::BTreeSet;
 
-/// The keys that nothing acts on, in byte order and each once.
+/// The keys that are not supported, in byte order and each once.
 #[tactic(auto, using(crate::proofs::IgnoredLemmas::with_both), unfolding(crate::specs::Ignored::not_acted_on))]
 pub(crate) fn not_acted_on_of(
     alloc: Global,
@@ -101,7 +101,7 @@ fn add_unlisted(
     Ok(())
 }
 
-/// The keys that are read only beside others, or only without them.
+/// The keys that are read only together with others, or only without them.
 #[tactic(auto, using(crate::proofs::IgnoredLemmas::with_both), unfolding(crate::specs::Ignored::overruled))]
 fn add_overruled(
     alloc: Global,
@@ -138,7 +138,7 @@ fn add_if(
     Ok(())
 }
 
-// ---- keys of the dictionaries inside
+// ---- keys of the objects inside
 
 const CONDITIONS: [&str; 3] = [CRASHED, PATH_STATE, SUCCESSFUL_EXIT];
 
@@ -179,7 +179,7 @@ fn add_inside(alloc: Global, names: &mut BTreeSet<String>, def: &Value) -> Resul
     )
 }
 
-/// Adds those of the dictionary under a key of the definition.
+/// Adds those of the object under a key of the definition.
 fn add_under(
     alloc: Global,
     names: &mut BTreeSet<String>,
@@ -324,7 +324,7 @@ fn add_others_under(
     add_others_in_each(alloc, names, prefix.as_str(), &SOCKET_KEYS, items)
 }
 
-/// What stands before a key of the sockets under this name.
+/// What is written before a key of the sockets under this name.
 fn prefix_of(alloc: Global, name: &str) -> Result<String, AllocError>
     ensures { IfOk result (λ prefix. string_bytes prefix
         ≡ codes "Sockets." ++ name.now ++ codes ".") }

@@ -88,7 +88,7 @@ fn command_of(alloc: Global, program: Option<Text>, found: &Value) -> Result<Com
     }
 }
 
-/// With `Program`, the first word is checked and not used.
+/// With `Program`, the first argument is checked and not used.
 #[tactic(auto, unfolding(crate::specs::Commands::command_in))]
 fn command_beside(alloc: Global, program: Text, words: &[Value]) -> Result<Command, DefFault>
     ensures { Gives command_of result (command_in (Some program) (items_view words.now)) }
@@ -103,7 +103,7 @@ fn command_beside(alloc: Global, program: Text, words: &[Value]) -> Result<Comma
     Ok(Command { program, arguments })
 }
 
-/// Without `Program`, the first word is the executable.
+/// Without `Program`, the first argument is the executable.
 #[tactic(auto, unfolding(crate::specs::Commands::command_in))]
 fn command_alone(alloc: Global, words: &[Value]) -> Result<Command, DefFault>
     ensures { Gives command_of result (command_in None (items_view words.now)) }

@@ -1,4 +1,4 @@
-//! Reads the definitions of jobs, a profile of launchd.plist(5) in JSON, and tells which of their keys nothing acts on.
+//! Reads the definitions of jobs, a profile of launchd.plist(5) in JSON, and says which of their keys are not supported.
 #![tactic(auto)]
 
 /// What went well; or else the function ends here with the fault. As `?`, which is two calls more for the proof.

@@ -1,4 +1,4 @@
-//! The text that answers a load: the keys of its definition that are not acted on (launchctl(1), load; the layout is this
+//! The text that answers a load: the keys of its definition that are not supported (launchctl(1), load; the layout is this
 //! project's own). What `list` and `print` show is the table's.
 
 ghost use Rattle.std.specs.Prelude.{◌≡◌, ◌∷◌, ◌++◌, IfOk, OnOk, codes};
@@ -9,7 +9,7 @@ ghost use Rattle.history_model.specs.Texts.{load_text};
 use history_model::Text;
 use std::alloc::{AllocError, Global};
 
-/// What a load answers: the keys that are not acted on, by name, or nothing if each key is.
+/// What a load answers: the keys that are not supported, by name, or nothing if each key is.
 pub fn loaded(alloc: Global, ignored: &[Text]) -> Result<String, AllocError>
     ensures { IfOk result (λ text. string_bytes text ≡ load_text ignored.now) }
 {

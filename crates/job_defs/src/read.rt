@@ -1,4 +1,4 @@
-//! The reading of a definition.
+//! How a definition is read.
 
 ghost use Rattle.std.specs.Prelude.{◌≡◌, option_map};
 ghost use Rattle.serde_json.specs.View.{view};
@@ -19,13 +19,12 @@ use std::alloc::Global;
 
 /// Reads the bytes of a job's definition: a JSON object (RFC 8259) with the keys of launchd.plist(5).
 ///
-/// The keys are checked from `Label` to `RootDirectory`. Within a key a collection is checked for
-/// its kind, then for its count, then member by member, arrays by position and dictionaries by byte order of keys; a
-/// value for its kind, its length, its range or form, and then for what is not supported. The first fault is the answer.
+/// The keys are checked from `Label` to `RootDirectory`. Within a key a collection is checked for its kind, then for its count,
+/// then member by member: arrays by position, objects by byte order of keys. A value is checked for its kind, its length, its
+/// range or form, and then for what is not supported. The first fault is the answer.
 ///
-/// Refusals: `NotJson` (no UTF-8, no JSON text, or nested more than 127 deep) and `NotObject`, both with the key
-/// `NoKey`; else the fault of the first key that has one, with that key. `DefFault::NoMemory` says only that
-/// memory ran out.
+/// Refusals: `NotJson` (not UTF-8, not a JSON text, or nested more than 127 deep) and `NotObject`, both with the key `NoKey`.
+/// Else it is the fault of the first key that has one, with that key. `DefFault::NoMemory` says only that memory ran out.
 #[tactic(auto, unfolding(crate::specs::Keys::def_of))]
 pub fn read_def(alloc: Global, bytes: &[u8]) -> Result<Def, DefFault>
     ensures { Gives (λ def. def) result (def_of bytes.now) }

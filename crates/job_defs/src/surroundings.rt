@@ -68,7 +68,7 @@ fn each_variable(alloc: Global, members: &Map<String, Value>) -> Result<Vec<Vari
     Ok(variables)
 }
 
-/// A variable; None if its value is no string.
+/// A variable; None if its value is not a string.
 #[tactic(auto, unfolding(crate::specs::Variables::variable_in))]
 fn variable_of(alloc: Global, name: &str, value: &Value) -> Result<Option<Variable>, DefFault>
     ensures { Gives (λ variable. option_to_list variable) result

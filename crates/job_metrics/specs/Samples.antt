@@ -4,7 +4,7 @@ use Rattle.std.specs.Fmt.{decimal}
 use Rattle.std.specs.List.{flat_map}
 use Rattle.plain_text.specs.Plain.{is_hidden}
 use Rattle.job_metrics.specs.declared.Family.{Family}
-use Rattle.job_metrics.specs.declared.Family.TheVariants.{Up, JournalOpen, Told, LeftOut, CountedSince, Running, Starts, Failures, Refusals, LastEnd, NextStart, LastSuccess, LastExit, Resident, Processor, Disabled}
+use Rattle.job_metrics.specs.declared.Family.TheVariants.{Up, JournalOpen, Told, LeftOut, CountedSince, FailedCalls, Running, Starts, Failures, Refusals, LastEnd, NextStart, LastSuccess, LastExit, Resident, Processor, Disabled}
 use Rattle.job_metrics.specs.declared.JobSample.{JobSample}
 use Rattle.job_metrics.specs.declared.LauncherSample.{LauncherSample}
 
@@ -14,6 +14,7 @@ family_name JournalOpen = codes "jobd_journal_open"
 family_name Told = codes "jobd_status_timestamp_seconds"
 family_name LeftOut = codes "jobd_definitions_not_loaded"
 family_name CountedSince = codes "jobd_counted_since_timestamp_seconds"
+family_name FailedCalls = codes "jobd_edge_failures_total"
 family_name Running = codes "jobd_job_running"
 family_name Starts = codes "jobd_job_starts_total"
 family_name Failures = codes "jobd_job_failures_total"
@@ -31,6 +32,7 @@ family_kind Starts = codes "counter"
 family_kind Failures = codes "counter"
 family_kind Refusals = codes "counter"
 family_kind Processor = codes "counter"
+family_kind FailedCalls = codes "counter"
 family_kind _ = codes "gauge"
 
 abbrev pub family_help : Family → List ℕ
@@ -39,6 +41,7 @@ family_help JournalOpen = codes "Whether the journal of the launcher is open."
 family_help Told = codes "When the launcher wrote the status file."
 family_help LeftOut = codes "Job definitions that were not loaded at boot, nor since."
 family_help CountedSince = codes "Since when starts, failures and refused starts are counted. Absent if since each load."
+family_help FailedCalls = codes "Calls of the launcher for its jobs that failed since it began, as starts and path checks."
 family_help Running = codes "Whether a run of the job is running."
 family_help Starts = codes "Starts that were ordered, including refused ones."
 family_help Failures = codes "Runs that did not exit with code 0."
@@ -82,13 +85,13 @@ job_value _ job = None
 abbrev pub hex_digit : ℕ → ℕ
 hex_digit n = if nat_lt (n % 16) 10 then 0x30 + n % 16 else 0x57 + n % 16
 
--- a character by its number, in four digits, behind a backslash that is escaped: \\u202e
+-- a character by its number, in four digits, after a backslash that is escaped: \\u202e
 abbrev pub escape : ℕ → List ℕ
 escape c =
     codes "\\\\u" ++ (encode_utf8 (hex_digit (c / 4096)) ++ (encode_utf8 (hex_digit (c / 256))
     ++ (encode_utf8 (hex_digit (c / 16)) ++ encode_utf8 (hex_digit c))))
 
--- a character of a label, as it stands between quotes
+-- a character of a label, as it is written between quotes
 abbrev pub label_char : ℕ → List ℕ
 label_char c =
     if is_hidden c then escape c
@@ -133,6 +136,7 @@ launcher_samples launcher =
     ++ launcher_text Told (Some launcher.told)
     ++ launcher_text LeftOut launcher.left_out
     ++ launcher_text CountedSince launcher.counted_since
+    ++ launcher_text FailedCalls launcher.failed_calls
 
 -- all samples: those of the launcher, then those of jobs, a family after the other
 abbrev pub metrics_text : LauncherSample → List JobSample → List ℕ

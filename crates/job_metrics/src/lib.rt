@@ -7,7 +7,7 @@ ghost use Rattle.run_times.specs.Written.{Adds};
 ghost use Rattle.job_metrics.specs.Samples.{family_name, family_kind, family_help, head_text, flag_value, job_value, escape, hex_digit, label_char, label_text, sample_text, samples_text, bare_sample, family_text, families_text, launcher_text, launcher_samples, metrics_text};
 
 use plain_text::is_hidden;
-use run_times::{Ink, Piece};
+use run_times::{Piece, TextWriter};
 use std::alloc::{AllocError, Global};
 
 /// What a monitor asks of a launcher.
@@ -23,6 +23,8 @@ pub struct LauncherSample {
     pub left_out: Option<u64>,
     /// Since which second of Unix time the counts of jobs go on. None: each since its job's load.
     pub counted_since: Option<u64>,
+    /// How many calls for its jobs the system refused since the launcher began. None if that is not known.
+    pub failed_calls: Option<u64>,
 }
 
 /// What a monitor asks of a job.
@@ -60,6 +62,7 @@ pub enum Family {
     Told,
     LeftOut,
     CountedSince,
+    FailedCalls,
     Running,
     Starts,
     Failures,
@@ -97,6 +100,7 @@ fn family_name(family: Family) -> &'static str
         Family::Told => "jobd_status_timestamp_seconds",
         Family::LeftOut => "jobd_definitions_not_loaded",
         Family::CountedSince => "jobd_counted_since_timestamp_seconds",
+        Family::FailedCalls => "jobd_edge_failures_total",
         Family::Running => "jobd_job_running",
         Family::Starts => "jobd_job_starts_total",
         Family::Failures => "jobd_job_failures_total",
@@ -116,6 +120,7 @@ fn family_kind(family: Family) -> &'static str
 {
     match family {
         Family::Starts | Family::Failures | Family::Refusals | Family::Processor => "counter",
+        Family::FailedCalls => "counter",
         _ => "gauge",
     }
 }
@@ -130,6 +135,8 @@ fn family_help(family: Family) -> &'static str
         Family::LeftOut => "Job definitions that were not loaded at boot, nor since.",
         Family::CountedSince =>
             "Since when starts, failures and refused starts are counted. Absent if since each load.",
+        Family::FailedCalls =>
+            "Calls of the launcher for its jobs that failed since it began, as starts and path checks.",
         Family::Running => "Whether a run of the job is running.",
         Family::Starts => "Starts that were ordered, including refused ones.",
         Family::Failures => "Runs that did not exit with code 0.",
@@ -165,11 +172,11 @@ fn job_value(family: Family, job: &JobSample<'_>) -> Option<u64>
     }
 }
 
-fn put_head(ink: &mut Ink, family: Family)
-    ensures { Adds (head_text family) ink.old ink.new }
+fn put_head(writer: &mut TextWriter, family: Family)
+    ensures { Adds (head_text family) writer.old writer.new }
 {
     let name = Piece::Text(family_name(family));
-    ink.put_all(&[
+    writer.put_all(&[
         Piece::Text("# HELP "),
         name,
         Piece::Text(" "),
@@ -183,96 +190,96 @@ fn put_head(ink: &mut Ink, family: Family)
 }
 
 // A label between the quotes of a sample: a text of others, with its backslashes and quotes escaped, and a hidden character by its number, as in JSON.
-fn put_label(ink: &mut Ink, label: &str)
-    ensures { Adds (label_text (chars label.now)) ink.old ink.new }
+fn put_label(writer: &mut TextWriter, label: &str)
+    ensures { Adds (label_text (chars label.now)) writer.old writer.new }
 {
     for c in label.chars() {
-        put_label_char(ink, c);
+        put_label_char(writer, c);
     }
 }
 
-fn put_label_char(ink: &mut Ink, c: char)
-    ensures { Adds (label_char c) ink.old ink.new }
+fn put_label_char(writer: &mut TextWriter, c: char)
+    ensures { Adds (label_char c) writer.old writer.new }
 {
     if is_hidden(c) {
-        put_escape(ink, u32::from(c));
+        put_escape(writer, u32::from(c));
     } else {
         if c == '\\' || c == '"' {
-            ink.put("\\");
+            writer.put("\\");
         }
-        ink.put_char(c);
+        writer.put_char(c);
     }
 }
 
 // A character by its number: each that is hidden has four digits at most. The format has no such escape, so its backslash is escaped.
-fn put_escape(ink: &mut Ink, c: u32)
-    ensures { Adds (escape c) ink.old ink.new }
+fn put_escape(writer: &mut TextWriter, c: u32)
+    ensures { Adds (escape c) writer.old writer.new }
 {
-    ink.put("\\\\u");
-    put_digit(ink, c / 4096);
-    put_digit(ink, c / 256);
-    put_digit(ink, c / 16);
-    put_digit(ink, c);
+    writer.put("\\\\u");
+    put_digit(writer, c / 4096);
+    put_digit(writer, c / 256);
+    put_digit(writer, c / 16);
+    put_digit(writer, c);
 }
 
-fn put_digit(ink: &mut Ink, number: u32)
-    ensures { Adds (encode_utf8 (hex_digit number)) ink.old ink.new }
+fn put_digit(writer: &mut TextWriter, number: u32)
+    ensures { Adds (encode_utf8 (hex_digit number)) writer.old writer.new }
 {
     let digit = (number % 16) as u8;
-    ink.put_char(char::from(if digit < 10 {
+    writer.put_char(char::from(if digit < 10 {
         b'0' + digit
     } else {
         b'W' + digit
     }));
 }
 
-fn put_sample(ink: &mut Ink, family: Family, job: &JobSample<'_>)
-    ensures { Adds (sample_text family job.now) ink.old ink.new }
+fn put_sample(writer: &mut TextWriter, family: Family, job: &JobSample<'_>)
+    ensures { Adds (sample_text family job.now) writer.old writer.new }
 {
     if let Some(value) = job_value(family, job) {
-        ink.put_all(&[Piece::Text(family_name(family)), Piece::Text("{label=\"")]);
-        put_label(ink, job.label);
-        ink.put_all(&[Piece::Text("\"} "), Piece::Number(value), Piece::Text("\n")]);
+        writer.put_all(&[Piece::Text(family_name(family)), Piece::Text("{label=\"")]);
+        put_label(writer, job.label);
+        writer.put_all(&[Piece::Text("\"} "), Piece::Number(value), Piece::Text("\n")]);
     }
 }
 
-fn put_family(ink: &mut Ink, family: Family, jobs: &[JobSample<'_>])
-    ensures { Adds (family_text jobs.now family) ink.old ink.new }
+fn put_family(writer: &mut TextWriter, family: Family, jobs: &[JobSample<'_>])
+    ensures { Adds (family_text jobs.now family) writer.old writer.new }
 {
-    put_head(ink, family);
-    put_samples(ink, family, jobs);
+    put_head(writer, family);
+    put_samples(writer, family, jobs);
 }
 
-fn put_samples(ink: &mut Ink, family: Family, jobs: &[JobSample<'_>])
-    ensures { Adds (samples_text family jobs.now) ink.old ink.new }
+fn put_samples(writer: &mut TextWriter, family: Family, jobs: &[JobSample<'_>])
+    ensures { Adds (samples_text family jobs.now) writer.old writer.new }
 {
     for job in jobs {
-        put_sample(ink, family, job);
+        put_sample(writer, family, job);
     }
 }
 
-fn put_families(ink: &mut Ink, families: &[Family], jobs: &[JobSample<'_>])
-    ensures { Adds (families_text jobs.now families.now) ink.old ink.new }
+fn put_families(writer: &mut TextWriter, families: &[Family], jobs: &[JobSample<'_>])
+    ensures { Adds (families_text jobs.now families.now) writer.old writer.new }
 {
     for family in families {
-        put_family(ink, *family, jobs);
+        put_family(writer, *family, jobs);
     }
 }
 
 // A family with the one sample of the launcher; nothing, if there is none.
-fn put_single(ink: &mut Ink, family: Family, value: Option<u64>)
-    ensures { Adds (launcher_text family value) ink.old ink.new }
+fn put_single(writer: &mut TextWriter, family: Family, value: Option<u64>)
+    ensures { Adds (launcher_text family value) writer.old writer.new }
 {
     if let Some(value) = value {
-        put_head(ink, family);
-        put_value(ink, family, value);
+        put_head(writer, family);
+        put_value(writer, family, value);
     }
 }
 
-fn put_value(ink: &mut Ink, family: Family, value: u64)
-    ensures { Adds (bare_sample family value) ink.old ink.new }
+fn put_value(writer: &mut TextWriter, family: Family, value: u64)
+    ensures { Adds (bare_sample family value) writer.old writer.new }
 {
-    ink.put_all(&[
+    writer.put_all(&[
         Piece::Text(family_name(family)),
         Piece::Text(" "),
         Piece::Number(value),
@@ -288,24 +295,25 @@ pub fn metrics(
 ) -> Result<String, AllocError>
     ensures { IfOk result (λ text. string_bytes text ≡ metrics_text launcher.now jobs.now) }
 {
-    let mut ink = Ink::new(alloc);
-    put_launcher(&mut ink, launcher);
-    put_families(&mut ink, &OF_JOBS, jobs);
-    ink.into_text()
+    let mut writer = TextWriter::new(alloc);
+    put_launcher(&mut writer, launcher);
+    put_families(&mut writer, &OF_JOBS, jobs);
+    writer.into_text()
 }
 
-fn put_launcher(ink: &mut Ink, launcher: &LauncherSample)
-    ensures { Adds (launcher_samples launcher.now) ink.old ink.new }
+fn put_launcher(writer: &mut TextWriter, launcher: &LauncherSample)
+    ensures { Adds (launcher_samples launcher.now) writer.old writer.new }
 {
-    put_single(ink, Family::Up, flag_value(launcher.is_up));
+    put_single(writer, Family::Up, flag_value(launcher.is_up));
     put_single(
-        ink,
+        writer,
         Family::JournalOpen,
         flag_value(launcher.journal_is_open),
     );
-    put_single(ink, Family::Told, Some(launcher.told));
-    put_single(ink, Family::LeftOut, launcher.left_out);
-    put_single(ink, Family::CountedSince, launcher.counted_since);
+    put_single(writer, Family::Told, Some(launcher.told));
+    put_single(writer, Family::LeftOut, launcher.left_out);
+    put_single(writer, Family::CountedSince, launcher.counted_since);
+    put_single(writer, Family::FailedCalls, launcher.failed_calls);
 }
 
 fn flag_value(flag: Option<bool>) -> Option<u64>

@@ -1,4 +1,4 @@
--- What the table does on an event of a journal, in which the outside's answers stand.
+-- What the table does on an event of a journal, which has the outside's answers.
 use Rattle.std.specs.Prelude.{◌≡◌, false, true, List, [], Some, None, Result, Ok, Err, OnOk}
 use Rattle.std.specs.List.{AllByRecursion}
 use Rattle.history_model.specs.declared.event.Event as journal
@@ -6,7 +6,7 @@ use Rattle.history_model.specs.declared.event.Event.TheVariants as journaled
 use Rattle.history_model.specs.declared.Refusal.{Refusal}
 use Rattle.history_model.specs.declared.Refusal.TheVariants.{NoMemory}
 use Rattle.history_model.specs.JobItems.{item_of}
-use Rattle.history_model.specs.Machine.{State, Event, UnloadJob, Set, ListJobs, PrintJob, ShutDown, Tick, Sight, OfJob}
+use Rattle.history_model.specs.Machine.{State, Event, UnloadJob, Set, ListJobs, PrintJob, ShutDown, Tick, Observation, OfJob}
 use Rattle.history_model.specs.Step.{Outcome, outcome, step, refused}
 use Rattle.job_core.specs.Memory.{NeedsNoMemory}
 use Rattle.loaded_jobs.specs.Tables.{Table, definition_of_number}
@@ -31,7 +31,7 @@ machine_event journaled.List = ListJobs
 machine_event (journaled.Print job) = PrintJob job
 machine_event journaled.Shutdown = ShutDown
 machine_event (journaled.Clock at) = Tick at
-machine_event (journaled.Saw path obs) = Sight path obs
+machine_event (journaled.Saw path obs) = Observation path obs
 machine_event (journaled.OfJob job item) = OfJob job (item_of item)
 
 -- the outcome that an event had which was accepted: the orders of a step are those that the table
@@ -66,8 +66,8 @@ NamesGoOn journaled.List result old new = new ≡ old
 NamesGoOn (journaled.Print job) result old new = new ≡ old
 NamesGoOn e result old new = KeepsNames result old new
 
--- Memory may be wanting for a load, for a setting, for a text, and for a reading if a loaded job has
--- calendar entries; for no other event
+-- Memory may be wanting for a load, for a setting, for a text, and for a clock reading if a loaded job has calendar entries; for
+-- no other event
 abbrev pub WantsMemory : journal.Event → Table → Result Taken Refusal → Type 0
 WantsMemory (journaled.Load def writes_setting force bind store) table result = Unit {0}
 WantsMemory (journaled.Unload job writes_setting store) table result =
@@ -79,13 +79,13 @@ WantsMemory (journaled.Clock at) table result =
     result ≡ Err NoMemory → has_calendars table.rows ≡ true
 WantsMemory e table result = NeedsNoMemory result
 
--- An event that is no question asks each job once or not at all, and none that it is not for; a reading asks none that it does not touch.
--- But for a load and a setting, no room of the table grows
+-- An event that is not a question asks each job once or not at all, and none that it is not for. A clock reading asks none that
+-- it does not touch. But for a load and a setting, no room of the table grows
 abbrev pub Spares : journal.Event → Result Taken Refusal → Table → Table → Type 0
 Spares (journaled.Clock at) result old new =
     Counts result old new × OnOk result (SparesUntouched at old new) × HasSameRoom old new
 Spares (journaled.Saw path obs) result old new =
-    Counts result old new × SparesOthers (Sight path obs) old new × HasSameRoom old new
+    Counts result old new × SparesOthers (Observation path obs) old new × HasSameRoom old new
 Spares journaled.Shutdown result old new =
     Counts result old new × SparesOthers ShutDown old new × HasSameRoom old new
 Spares (journaled.OfJob job item) result old new =

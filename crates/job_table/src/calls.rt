@@ -1,4 +1,4 @@
-//! The calls of the table for one event of one job each: [`JobTable::hear`] with the event's item, and an answer by the job's number.
+//! The calls of the table for one event of one job each: [`JobTable::receive`] with the event's item, and an answer by the job's number.
 
 ghost use Rattle.std.specs.Prelude.{IfOk};
 ghost use Rattle.std.specs.Borrow.{sem};
@@ -14,15 +14,15 @@ impl JobTable {
     ghost use Rattle.loaded_jobs.specs.Tables.{label_of};
     ghost use Rattle.job_core.specs.Memory.{NeedsNoMemory};
 
-    /// Starts the job, as `start` of launchctl(1): a demand that is pending until a later spawn went well. A job whose child
-    /// runs and is not being stopped is left as it is. Refusals: BadRequest (no label), NoSuchJob, Removing.
+    /// Starts the job, as `start` of launchctl(1): a start request that is pending until a later spawn succeeds. A job whose
+    /// child runs and is not being stopped is left as it is. Refusals: BadRequest (no label), NoSuchJob, Removing.
     pub fn start(&mut self, label: &str) -> Result<Step<'_>, Refusal>
         ensures answer { IsAnswer (OfJob label.now (Asked Ask.Start)) self.old result }
         ensures memory { NeedsNoMemory result }
         ensures known { IfOk result AreKnown }
         ensures* kept { sem 𝓛 (TableGoesOn self.entry result (OfJob label.now (Asked Ask.Start))) }
     {
-        self.hear(label, JobItem::Asked(Ask::Start))
+        self.receive(label, JobItem::Asked(Ask::Start))
     }
 
     /// Stops the job's child, as `stop` of launchctl(1): by TERM, and by KILL once the definition's `ExitTimeOut` is over.
@@ -33,7 +33,7 @@ impl JobTable {
         ensures known { IfOk result AreKnown }
         ensures* kept { sem 𝓛 (TableGoesOn self.entry result (OfJob label.now (Asked Ask.Stop))) }
     {
-        self.hear(label, JobItem::Asked(Ask::Stop))
+        self.receive(label, JobItem::Asked(Ask::Stop))
     }
 
     /// Starts the job; with `kills_first` its child is first ended by KILL, as `kickstart -k` of launchctl(1). Refusals:
@@ -46,7 +46,7 @@ impl JobTable {
         ensures* kept { sem 𝓛
             (TableGoesOn self.entry result (OfJob label.now (Asked (Ask.Kickstart kills_first)))) }
     {
-        self.hear(label, JobItem::Asked(Ask::Kickstart(kills_first)))
+        self.receive(label, JobItem::Asked(Ask::Kickstart(kills_first)))
     }
 
     /// A connection came to one of the job's sockets; its number is above every earlier one of this load. Refusals: BadRequest
@@ -57,7 +57,7 @@ impl JobTable {
         ensures known { IfOk result AreKnown }
         ensures* kept { sem 𝓛 (TableGoesOn self.entry result (OfJob label.now (Came conn))) }
     {
-        self.hear(label, JobItem::Came(conn))
+        self.receive(label, JobItem::Came(conn))
     }
 
     /// A waiting connection was given up by its client. Refusals: BadRequest (no label), NoSuchJob, Stale (it does not wait).
@@ -67,10 +67,10 @@ impl JobTable {
         ensures known { IfOk result AreKnown }
         ensures* kept { sem 𝓛 (TableGoesOn self.entry result (OfJob label.now (Left conn))) }
     {
-        self.hear(label, JobItem::Left(conn))
+        self.receive(label, JobItem::Left(conn))
     }
 
-    /// The spawn of a run went well, under this process id. Refusals: BadRequest (no label, or an id of 0), NoSuchJob, Stale
+    /// The spawn of a run succeeded, and its child has this PID. Refusals: BadRequest (no label, or a PID of 0), NoSuchJob, Stale
     /// (this answer is not awaited).
     pub fn spawned(&mut self, label: &str, run: u64, pid: u32) -> Result<Step<'_>, Refusal>
         ensures answer { IsAnswer (OfJob label.now (Answered (answers.Spawned run pid)))
@@ -80,11 +80,11 @@ impl JobTable {
         ensures* kept { sem 𝓛
             (TableGoesOn self.entry result (OfJob label.now (Answered (answers.Spawned run pid)))) }
     {
-        self.hear(label, JobItem::Answered(Answer::Spawned { run, pid }))
+        self.receive(label, JobItem::Answered(Answer::Spawned { run, pid }))
     }
 
-    /// The spawn of a run was refused. Its demand stays, and the next spawn waits at least a second. Refusals: BadRequest (no
-    /// label), NoSuchJob, Stale (this answer is not awaited).
+    /// The spawn of a run was refused. Its start request stays, and the next spawn waits at least a second. Refusals: BadRequest
+    /// (no label), NoSuchJob, Stale (this answer is not awaited).
     pub fn spawn_refused(&mut self, label: &str, run: u64) -> Result<Step<'_>, Refusal>
         ensures answer { IsAnswer (OfJob label.now (Answered (answers.SpawnRefused run)))
             self.old result }
@@ -93,7 +93,7 @@ impl JobTable {
         ensures* kept { sem 𝓛
             (TableGoesOn self.entry result (OfJob label.now (Answered (answers.SpawnRefused run)))) }
     {
-        self.hear(label, JobItem::Answered(Answer::SpawnRefused { run }))
+        self.receive(label, JobItem::Answered(Answer::SpawnRefused { run }))
     }
 
     /// TERM was given to a run, or refused. Refusals: BadRequest (no label), NoSuchJob, Stale (this answer is not awaited).
@@ -105,7 +105,7 @@ impl JobTable {
         ensures* kept { sem 𝓛
             (TableGoesOn self.entry result (OfJob label.now (Answered (answers.Termed run ok)))) }
     {
-        self.hear(label, JobItem::Answered(Answer::Termed { run, ok }))
+        self.receive(label, JobItem::Answered(Answer::Termed { run, ok }))
     }
 
     /// KILL was given to a run, or refused. Refusals: BadRequest (no label), NoSuchJob, Stale (this answer is not awaited).
@@ -117,7 +117,7 @@ impl JobTable {
         ensures* kept { sem 𝓛
             (TableGoesOn self.entry result (OfJob label.now (Answered (answers.Killed run ok)))) }
     {
-        self.hear(label, JobItem::Answered(Answer::Killed { run, ok }))
+        self.receive(label, JobItem::Answered(Answer::Killed { run, ok }))
     }
 
     /// A run ended. Refusals: BadRequest (no label), NoSuchJob, Stale (it is not the present child's run).
@@ -127,7 +127,7 @@ impl JobTable {
         ensures known { IfOk result AreKnown }
         ensures* kept { sem 𝓛 (TableGoesOn self.entry result (OfJob label.now (RunEnded run how))) }
     {
-        self.hear(label, JobItem::Ended { run, how })
+        self.receive(label, JobItem::Ended { run, how })
     }
 
     /// The wait for a run was refused: nothing is known of its end. Refusals: BadRequest (no label), NoSuchJob, Stale (it is
@@ -138,12 +138,12 @@ impl JobTable {
         ensures known { IfOk result AreKnown }
         ensures* kept { sem 𝓛 (TableGoesOn self.entry result (OfJob label.now (WaitRefused run))) }
     {
-        self.hear(label, JobItem::WaitRefused { run })
+        self.receive(label, JobItem::WaitRefused { run })
     }
 
-    /// The outside's answer to an order of the job with this number: what `hear` says of it under the label that the number
-    /// stands for. The job's place is known by its number, so no label is looked for. Refusals: BadRequest (a number that stands
-    /// for no label, or a process id of 0), NoSuchJob (its job went at the last event), Stale (this answer is not awaited).
+    /// The outside's answer to an order of the job with this number: what `receive` says of it under the label that the number
+    /// stands for. The number gives the job's place, so no label is looked for. Refusals: BadRequest (a number that stands for no
+    /// label, or a PID of 0), NoSuchJob (the last event removed its job), Stale (this answer is not awaited).
     pub fn answered(&mut self, number: JobNo, answer: Answer) -> Result<Step<'_>, Refusal>
         ensures answer { IsAnswer (OfJob (label_of self.old.names number) (Answered answer))
             self.old result }
@@ -152,7 +152,7 @@ impl JobTable {
         ensures* kept { sem 𝓛 (TableGoesOn self.entry result
             (OfJob (label_of self.old.names number) (Answered answer))) }
     {
-        self.jobs.hear_answer(number, answer)?;
+        self.jobs.receive_answer(number, answer)?;
         Ok(self.last_step())
     }
 }

@@ -11,7 +11,7 @@ ghost use Rattle.history_model.specs.declared.TheConstants.{MAX_UP, MAX_WALL};
 ghost use Rattle.calendar_due.specs.ZoneRules.{minute_at};
 ghost use Rattle.history_model.specs.Acceptance.{refusal_in};
 ghost use Rattle.history_model.specs.declared.Refusal.TheVariants.{NoMemory};
-ghost use Rattle.history_model.specs.Machine.{State, opened, past_of, is_disabled, ListJobs, PrintJob, OfJob, UnloadJob, ShutDown, Tick, Sight};
+ghost use Rattle.history_model.specs.Machine.{State, opened, past_of, is_disabled, ListJobs, PrintJob, OfJob, UnloadJob, ShutDown, Tick, Observation};
 
 mod calls;
 mod moments;
@@ -95,9 +95,9 @@ impl JobTable {
     ghost use Rattle.loaded_jobs.specs.Triggers.{listed_in};
     ghost use Rattle.history_model.specs.JobItems.{item_of};
 
-    /// A table with no job, opened at a reading in a zone, with the overrides that `enable` and `disable` left, oldest
-    /// first: of a label given twice the last counts. Refusals: BadRequest, if an override's name is no label; then
-    /// ClockRefused, if the reading is past a limit. NoMemory is not answered.
+    /// A table with no job, opened at a clock reading in a zone, with the settings that `enable` and `disable` left. The settings
+    /// are oldest first: of a label given twice the last counts. Refusals: BadRequest, if a setting's name is not a label; then
+    /// ClockRefused, if the clock reading is past a limit. NoMemory is not answered.
     pub fn new(
         alloc: Global,
         reading: Reading,
@@ -118,7 +118,7 @@ impl JobTable {
         })
     }
 
-    /// The last reading. It is within the limits of a reading.
+    /// The last clock reading. It is within the limits of clock readings.
     pub fn reading(&self) -> Reading
         ensures last { result ≡ self.now.reading }
         ensures up { result.up ≤ MAX_UP }
@@ -144,16 +144,16 @@ impl JobTable {
         }
     }
 
-    /// Tells the job with this label what happened to it. The calls of `calls.rt` are this one, each for its event. Refusals:
-    /// BadRequest (no label, a process id of 0, or an unload or a shutdown, which are the calls `unload` and `shutdown`), NoSuchJob, and
-    /// those of the event.
-    pub fn hear(&mut self, label: &str, item: JobItem) -> Result<Step<'_>, Refusal>
+    /// Delivers to the job with this label what happened to it. The calls of `calls.rt` are this one, each for its event.
+    /// Refusals: BadRequest (no label, a PID of 0, or an unload or a shutdown, which are the calls `unload` and `shutdown`),
+    /// NoSuchJob, and those of the event.
+    pub fn receive(&mut self, label: &str, item: JobItem) -> Result<Step<'_>, Refusal>
         ensures answer { IsAnswer (OfJob label.now (item_of item)) self.old result }
         ensures memory { NeedsNoMemory result }
         ensures known { IfOk result AreKnown }
         ensures* kept { sem 𝓛 (TableGoesOn self.entry result (OfJob label.now (item_of item))) }
     {
-        self.jobs.hear(label, item)?;
+        self.jobs.receive(label, item)?;
         Ok(self.last_step())
     }
 
@@ -184,19 +184,19 @@ impl JobTable {
 
     /// A look at a path, which counts for the jobs that list it. It is never refused.
     pub fn saw(&mut self, path: &str, obs: Obs) -> Result<Step<'_>, Refusal>
-        ensures answer { IsAnswer (Sight path.now obs) self.old result }
+        ensures answer { IsAnswer (Observation path.now obs) self.old result }
         ensures ok { IsOk result }
         ensures known { IfOk result AreKnown }
-        ensures* kept { sem 𝓛 (TableGoesOn self.entry result (Sight path.now obs)) }
+        ensures* kept { sem 𝓛 (TableGoesOn self.entry result (Observation path.now obs)) }
     {
         self.jobs.saw(path, obs);
         Ok(self.last_step())
     }
 
-    /// A reading of the clocks: milliseconds of `up`, which never fall, and seconds of `wall`. The civil minutes that it
-    /// crosses are computed once, and only if a job with calendar entries is loaded. Refusals: ClockRefused, if `up`
-    /// falls or one of the two is past its limit; NoMemory, only if a job with calendar entries is loaded: the reading
-    /// is then not taken in.
+    /// A clock reading: milliseconds of `up`, which never fall, and seconds of `wall`. The civil minutes that it crosses are
+    /// computed once, and only if a job with calendar entries is loaded. Refusals: ClockRefused, if `up` falls or one of the two
+    /// is past its limit; NoMemory, only if a job with calendar entries is loaded. The table does not take in a refused clock
+    /// reading.
     pub fn clock(&mut self, alloc: Global, at: Reading) -> Result<Step<'_>, Refusal>
         ensures answer { UnlessMemory result (IsAnswer (Tick at) self.old result) }
         ensures memory { result ≡ Err NoMemory → has_calendars self.old.rows ≡ true }
@@ -207,8 +207,8 @@ impl JobTable {
         Ok(self.last_step())
     }
 
-    /// The text of `list` of launchctl(1): for each loaded job the process id of its child, its last end and its label.
-    /// Refusal: NoMemory.
+    /// The text of `list` of launchctl(1): for each loaded job the PID of its child, its last exit and its label. Refusal:
+    /// NoMemory.
     pub fn list(&self, alloc: Global) -> Result<String, Refusal>
         ensures text { IfOk result (λ text. IsReplyText ListJobs self.now (string_bytes text)) }
         ensures memory { IfErr result (λ refusal. refusal ≡ NoMemory) }
@@ -227,8 +227,8 @@ impl JobTable {
         self.jobs.print(alloc, label)
     }
 
-    /// What keeps the next spawn of the job with this label from being due at the last reading, and what wants the job: all that holds.
-    /// None if no such job is loaded. It takes no memory, and changes nothing.
+    /// What keeps the next spawn of the job with this label from being due at the last clock reading, and what wants the job: all
+    /// that holds. None if no such job is loaded. It takes no memory, and changes nothing.
     pub fn reasons(&self, label: &str) -> Option<Reasons>
         ensures { (s : State) → KeepsState self.now s →
             result ≡ option_map reasons_of (past_of s label.now) }
@@ -236,33 +236,34 @@ impl JobTable {
         self.jobs.reasons(label)
     }
 
-    /// From when on TERM and KILL are due for the run of the job with this label if nothing but readings happens, and when its interval
-    /// is over, in milliseconds of `up`. None if no such job is loaded. It takes no memory, and changes nothing.
+    /// From when on TERM and KILL are due for the run of the job with this label, and when its interval is over, if only the
+    /// clock goes on. The times are milliseconds of `up`. None if no such job is loaded. It takes no memory, and changes nothing.
     pub fn moments(&self, label: &str) -> Option<Moments>
         ensures { (s : State) → KeepsState self.now s → HasMoments (past_of s label.now) result }
     {
         self.jobs.moments(label)
     }
 
-    /// The moment, in milliseconds of `up`, from which a reading makes the spawn of the job with this label due if nothing but
-    /// readings happens and no calendar entry fires. None if no reading does, and if no such job is loaded. It takes no memory, and changes nothing.
+    /// The time from which a clock reading makes the spawn of the job with this label due, in milliseconds of `up`. Only the
+    /// clock goes on until then, and no calendar entry fires. None if the clock alone never makes it due, and if no such job is
+    /// loaded. It takes no memory, and changes nothing.
     pub fn spawns_from(&self, label: &str) -> Option<u64>
         ensures { (s : State) → KeepsState self.now s → result ≡ spawning (past_of s label.now) }
     {
         self.jobs.spawns_from(label)
     }
 
-    /// What made the pending demand of the job with this label: the newest event that is a demand and that no successful spawn followed. None
-    /// if no demand is pending, and if no such job is loaded. It takes no memory, and changes nothing.
+    /// What made the pending start request of the job with this label: the newest event that makes one and that no successful
+    /// spawn followed. None if none is pending, and if no such job is loaded. It takes no memory, and changes nothing.
     pub fn latest_demand(&self, label: &str) -> Option<DemandKind>
         ensures { (s : State) → KeepsState self.now s → result ≡ demanding (past_of s label.now) }
     {
         self.jobs.latest_demand(label)
     }
 
-    /// The path that holds the job with this label wanted: the first of `PathState`, in the order of the definition, that was last seen
-    /// as its condition wants it, or else the first of `QueueDirectories` that was last seen with something in it. None if none of them
-    /// holds, and if no such job is loaded. It takes no memory, and changes nothing.
+    /// The path that holds the job with this label wanted. It is the first of `PathState`, in the order of the definition, that
+    /// was last seen as its condition wants it. Else it is the first of `QueueDirectories` that was last seen with something in
+    /// it. None if none of them holds, and if no such job is loaded. It takes no memory, and changes nothing.
     pub fn path_that_holds(&self, label: &str) -> Option<&str>
         ensures { (s : State) → KeepsState self.now s →
             option_map (λ path. path.now) result ≡ holding (past_of s label.now) }

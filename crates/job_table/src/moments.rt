@@ -1,4 +1,4 @@
-//! When time alone may next make an order due: the moments of all loaded jobs, and whether some have calendar entries.
+//! When time alone may next make an order due: the wake-up times of all loaded jobs, and whether some have calendar entries.
 
 ghost use Rattle.std.specs.Prelude.{◌≡◌};
 ghost use Rattle.history_model.specs.Machine.{State};
@@ -10,9 +10,9 @@ ghost use Rattle.history_model.specs.News.{have_calendars};
 use crate::JobTable;
 
 impl JobTable {
-    /// The least moment, in milliseconds of `up` and after the last reading, at which time alone may make an order of a loaded
-    /// job due; none, if no job has one. Until then only an event of a job needs to wake the launcher, and a calendar if
-    /// `has_calendars` tells that there is one. It takes no memory.
+    /// The least time, in milliseconds of `up` and after the last clock reading, at which the clock alone may make an order of a
+    /// loaded job due. None, if no job has one. Until then only an event of a job needs to wake the launcher, or a calendar if
+    /// `has_calendars` says that there is one. It takes no memory.
     pub fn next_up(&self) -> Option<u64>
         ensures { (s : State) → KeepsState self.now s → IsNextUp s.jobs result }
     {

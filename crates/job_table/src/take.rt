@@ -1,4 +1,4 @@
-//! The step of the machine: an event of a journal goes to the table, with the outside's answers that stand in it.
+//! The step of the machine: an event of a journal goes to the table, with the outside's answers that the line has.
 
 ghost use Rattle.std.specs.Prelude.{◌≡◌, true, false, [], OnErr};
 ghost use Rattle.history_model.specs.Machine.{State, UnloadJob};
@@ -51,10 +51,10 @@ pub fn refused_outside(def: &Def, writes_setting: bool, bind: bool, store: bool)
 }
 
 impl JobTable {
-    /// The machine's step on an event of a journal. Refusals: those of the machine, and NoMemory, after which the table stands for what it
-    /// stood for: only to a load, to a setting that is written, to a question, and to a reading if a loaded job has calendar entries. A
-    /// refused event leaves each row. After one that was accepted each loaded job has the number that it had, and `last_step` lends the
-    /// names.
+    /// The machine's step on an event of a journal. Refusals: those of the machine, and NoMemory, after which the table
+    /// represents what it represented. NoMemory comes only to a load, to a setting that is written, to a question, and to a clock
+    /// reading if a loaded job has calendar entries. A refused event leaves each row. After one that was accepted each loaded job
+    /// has the number that it had, and `last_step` lends the names.
     pub fn take(&mut self, alloc: Global, event: &Event<'_>) -> Result<Taken, Refusal>
         ensures takes { Takes (machine_event event.now) self.old result self.new }
         ensures names { NamesGoOn event.now result self.old self.new }
@@ -95,7 +95,7 @@ impl JobTable {
                 Ok(made(alloc))
             }
             Event::OfJob { job, item } => {
-                self.jobs.hear(job.as_str(), *item)?;
+                self.jobs.receive(job.as_str(), *item)?;
                 Ok(made(alloc))
             }
         }
@@ -114,7 +114,7 @@ impl JobTable {
         }
     }
 
-    /// A definition is handed in; `bind` and `store` are what the outside answers, if it is asked.
+    /// A client loads a definition; `bind` and `store` are what the outside answers, if it is asked.
     fn take_load(
         &mut self,
         alloc: Global,

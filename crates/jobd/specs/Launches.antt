@@ -18,15 +18,14 @@ use Rattle.child_edge.specs.declared.plain.EdgeFault.{EdgeFault}
 use Rattle.child_edge.specs.declared.plain.Scripted.TheVariants.{Done}
 use Rattle.outside.specs.Stores.{Stamp, StoreCall}
 use Rattle.launcher.specs.declared.host.Host.{Host}
-use Rattle.launcher.specs.Hosts.{HostHears, HostStamps}
 use Rattle.launcher.specs.Inputs.{Incoming, asked_by, event_if_label, happened}
 use Rattle.launcher.specs.LoadTurns.{is_memory}
 use Rattle.launcher.specs.Journals.{reported}
-use Rattle.launcher.specs.Accepting.{is_accepted_load}
+use Rattle.launcher.specs.TakenTurns.{TakesTurn}
 use Rattle.launcher.specs.Writable.{WritesWhat}
-use Rattle.live_loop.specs.Looks.{PathCall, BeginsLooks, HasLoaded, AsksAt, Awaits, LookedAt, Sighted}
-use Rattle.live_loop.specs.declared.loop_host.HandedIn.{HandedIn}
-use Rattle.live_loop.specs.declared.loop_host.HandedIn.TheVariants as handed
+use Rattle.live_loop.specs.Looks.{PathCall, BeginsLooks, HasLoaded, AsksAt, Awaits, LookedAt, Observed}
+use Rattle.live_loop.specs.declared.loop_host.Delivered.{Delivered}
+use Rattle.live_loop.specs.declared.loop_host.Delivered.TheVariants as handed
 use Rattle.history_model.specs.News.{may_change}
 use Rattle.history_model.specs.LeftOut.{last_read}
 use Rattle.jobd.specs.KillWaits.{IsHanded, with_sleep}
@@ -57,9 +56,9 @@ seen_by (Ok obs) = Some obs
 seen_by (Err fault) = None
 
 -- whether the edge holds the connection of a client that was delivered, as it was found then
-abbrev pub is_held : HandedIn → Bool
+abbrev pub is_held : Delivered → Bool
 is_held handed.Dropped = false
-is_held handed.Heard = true
+is_held handed.Received = true
 is_held (handed.Refused refusal) = true
 
 -- the label of the job, which fits the room that is reserved for labels
@@ -82,19 +81,17 @@ Shows (Err fault) slept old handed shown = (handed ≡ old.slept) × (shown ≡ 
 
 module _ {T E W : Type 0} (calls : E → Option (List ToldCall)) (stores : T → Option (List StoreCall))
     (holds : T → List Setting → Type 0) (stamped : T → List Stamp → Type 0) where
-  -- the launcher heard it, and answered so: all that a turn promises
-  pub record Heard (event : Option Incoming) (refusal : Option Refusal) (words : List ℕ)
+  -- the launcher took it and replied so, and a line can say it: all that a turn promises
+  pub record Received (event : Option Incoming) (refusal : Option Refusal) (words : List ℕ)
       (old new : Host T E W) : Type 0 where
-    pub hears : HostHears calls stores holds event refusal words old new
-    pub stamps : HostStamps stamped event refusal old new
+    pub turn : TakesTurn calls stores holds stamped event refusal words old new
     pub writable : WritesWhat refusal event
-    pub loaded : new.has_loaded ≡ is_accepted_load event refusal
 
   -- The clock reading of the pass was delivered, once; whether it was refused is noted.
-  pub record HeardReading (old new : RoundLauncher T E W) : Type 0 where
+  pub record ReceivedReading (old new : RoundLauncher T E W) : Type 0 where
     pub refusal : Option Refusal
     pub words : List ℕ
-    pub heard : Heard (Some (happened (journaled.Clock old.at))) refusal words old.host new.host
+    pub received : Received (Some (happened (journaled.Clock old.at))) refusal words old.host new.host
     pub at : new.at ≡ old.at
     pub sleep : (new.before ≡ old.before) × (new.slept ≡ old.slept)
     pub loaded : new.has_loaded ≡ old.has_loaded
@@ -103,14 +100,14 @@ module _ {T E W : Type 0} (calls : E → Option (List ToldCall)) (stores : T →
   -- it is delivered, unless it is the launcher's own already
   abbrev pub Reads : RoundLauncher T E W → RoundLauncher T E W → Type 0
   Reads old new = ((old.host.table.reading ≡ old.at) × (new ≡ old))
-      ⊎ ((old.host.table.reading ≢ old.at) × HeardReading old new)
+      ⊎ ((old.host.table.reading ≢ old.at) × ReceivedReading old new)
 
   -- What happened was delivered, once, after the clock reading of the pass.
   pub record Gives (event : Option Incoming) (refusal : Option Refusal) (words : List ℕ)
       (old new : RoundLauncher T E W) : Type 0 where
     pub mid : RoundLauncher T E W
     pub reading : Reads old mid
-    pub heard : Heard event refusal words mid.host new.host
+    pub received : Received event refusal words mid.host new.host
     pub at : new.at ≡ mid.at
     pub sleep : (new.before ≡ mid.before) × (new.slept ≡ mid.slept)
     pub loaded : new.has_loaded ≡ mid.has_loaded
@@ -142,15 +139,15 @@ module _ {T E W : Type 0} (calls : E → Option (List ToldCall)) (stores : T →
     pub read : new ≡ record (lent edge old) { at = last_read old.at (Tick shown); slept = handed }
 
   -- a clock reading is delivered by itself exactly if it may change something
-  abbrev pub HeardIf : Bool → RoundLauncher T E W → RoundLauncher T E W → Type 0
-  HeardIf true old new = HeardReading old new
-  HeardIf false old new = new ≡ old
+  abbrev pub ReceivedIf : Bool → RoundLauncher T E W → RoundLauncher T E W → Type 0
+  ReceivedIf true old new = ReceivedReading old new
+  ReceivedIf false old new = new ≡ old
 
-  pub record HandsNews (old new : RoundLauncher T E W) : Type 0 where
+  pub record DeliversNews (old new : RoundLauncher T E W) : Type 0 where
     pub is_news : Bool
     pub decided : (s : State) → KeepsState old.host.table s →
         is_news ≡ may_change s.jobs old.host.table.reading old.at
-    pub handed : HeardIf is_news old new
+    pub handed : ReceivedIf is_news old new
 
   -- A pass begins: first comes a clock reading for which the launcher had no memory, then a new one.
   pub record Begins (old new : RoundLauncher T E W) : Type 0 where
@@ -158,7 +155,7 @@ module _ {T E W : Type 0} (calls : E → Option (List ToldCall)) (stores : T →
     pub missed : ReadsIf old.is_refused (record old { is_active = false }) first
     pub begun : RoundLauncher T E W
     pub reads : ReadsClock first begun
-    pub news : HandsNews begun new
+    pub news : DeliversNews begun new
 
   -- ---- children
 
@@ -203,17 +200,17 @@ module _ {T E W : Type 0} (calls : E → Option (List ToldCall)) (stores : T →
       × TellsOne (calls old.host.edge) (Look, look_answer answer) (calls edge)
       × Looks path answer old.host.edge edge
       × (seen ≡ seen_by answer) × (new ≡ lent edge old)
-  DoesPath Looks (Sighted path obs) old new = (refusal : Option Refusal)
+  DoesPath Looks (Observed path obs) old new = (refusal : Option Refusal)
       × (is_memory refusal ≢ true) × Tells (Some (happened (journaled.Saw path obs))) refusal old new
 
   -- ---- clients
 
   -- What became of a client under this number. The edge did not hold it, and nothing was delivered. Or the job heard
   -- that it came. Or the launcher refused it, and it was closed under this number.
-  abbrev pub TellsCame : List ℕ → ℕ → ℕ → HandedIn →
+  abbrev pub TellsCame : List ℕ → ℕ → ℕ → Delivered →
       RoundLauncher T E W → RoundLauncher T E W → Type 0
   TellsCame label job conn handed.Dropped old new = new ≡ old
-  TellsCame label job conn handed.Heard old new =
+  TellsCame label job conn handed.Received old new =
       Tells (event_if_label label (journaled.OfJob label (happens.Came conn))) None old new
   TellsCame label job conn (handed.Refused refusal) old new =
       (mid : RoundLauncher T E W) × (edge : E)
@@ -221,7 +218,7 @@ module _ {T E W : Type 0} (calls : E → Option (List ToldCall)) (stores : T →
       × TellsOne (calls mid.host.edge) (Close job conn, Done) (calls edge) × (new ≡ lent edge mid)
 
   -- A client of the job came, under this number. The edge was given its connection to hold, under the number and for the job, with this request.
-  pub record ComesIn (Holds : ℕ → ℕ → List ℕ → Bool → E → E → Type 0) (conn job : ℕ) (request : List ℕ) (answer : HandedIn)
+  pub record ComesIn (Holds : ℕ → ℕ → List ℕ → Bool → E → E → Type 0) (conn job : ℕ) (request : List ℕ) (answer : Delivered)
       (old new : RoundLauncher T E W) : Type 0 where
     pub edge : E
     pub told : calls edge ≡ calls old.host.edge

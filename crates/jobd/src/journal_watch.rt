@@ -15,7 +15,7 @@ const PAUSE: u64 = SECOND;
 
 /// Which file one is: the number of its device, and that of the file on it.
 #[derive(Clone, Copy)]
-struct Place {
+struct FileId {
     device: u64,
     inode: u64,
 }
@@ -29,7 +29,7 @@ pub struct JournalWatch<R: System> {
     // The journal by a handle of its own, which shares the lock.
     file: Option<File>,
     // That of the journal, once the launcher serves.
-    own: Option<Place>,
+    own: Option<FileId>,
     looked: u64,
     is_told: bool,
     untold: Option<Notice>,
@@ -63,9 +63,9 @@ pub(crate) fn journal_watch<R: System>(
     }
 }
 
-impl Place {
-    fn of(data: &Metadata) -> Place {
-        Place {
+impl FileId {
+    fn of(data: &Metadata) -> FileId {
+        FileId {
             device: data.dev(),
             inode: data.ino(),
         }
@@ -81,7 +81,7 @@ impl<R: System> JournalWatch<R> {
     pub(crate) fn begin(&mut self) {
         if self.own.is_none() && !self.is_told {
             if let Ok(data) = fs::metadata(&self.rt, self.path.as_str()) {
-                self.own = Some(Place::of(&data));
+                self.own = Some(FileId::of(&data));
             }
         }
     }

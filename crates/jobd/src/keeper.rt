@@ -47,6 +47,8 @@ pub struct Keeper {
     // Whether the file has had a job, and whether its text is due. If it is not, the table is only looked at.
     has_told: bool,
     is_due: bool,
+    // How many calls of the edge had failed when it was lent.
+    pub(crate) failed_calls: u64,
     pub(crate) notes: RunNotes,
     order: Vec<JobNo>,
     pub(crate) text: StatusText,
@@ -70,6 +72,7 @@ impl Keeper {
             has_refused: false,
             has_told: false,
             is_due: false,
+            failed_calls: 0,
             notes: RunNotes::new(alloc, at),
             order: Vec::new(alloc),
             text: StatusText::new(alloc),
@@ -148,6 +151,7 @@ impl Keeper {
             journal,
             store,
             renewed_each: Some(RENEWED / SECOND),
+            failed_calls: Some(self.failed_calls),
             jobs,
         };
         add_launcher(&mut self.text, self.alloc, &launcher);

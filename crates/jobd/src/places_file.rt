@@ -57,7 +57,7 @@ pub(crate) fn places_file<R: System + Env>(
         Ok(file) => Some(file),
         Err(error) => {
             let socket = plan.places.socket.as_str();
-            report(rt, plan.wishes.level, "places next to", socket, &error);
+            report(rt, plan.requested.level, "places next to", socket, &error);
             None
         }
     }

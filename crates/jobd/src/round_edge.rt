@@ -87,7 +87,7 @@ pub trait RoundEdge: ChildEdge + SleepEdge + PathEdge + SocketEdge {
         ensures told { Self.told self.new ≡ Self.told self.old };
 
     /// Drops each connection that is held.
-    fn let_all_go(&mut self)
+    fn release_all(&mut self)
         ensures told { Self.told self.new ≡ Self.told self.old };
 
     /// The oldest notice that has to be logged and was not.
@@ -96,6 +96,10 @@ pub trait RoundEdge: ChildEdge + SleepEdge + PathEdge + SocketEdge {
 
     /// Why the last start was refused, as the edge puts it; none if it went well.
     fn start_refusal(&self) -> Option<&str>;
+
+    /// How many of its calls failed. After the greatest `u64` comes 0. Takes no memory.
+    fn failed_calls(&self) -> u64
+        ensures { result ≡ Self.failures self.now };
 
     /// A client's line was answered: with this refusal, or well. `has_loaded`: it is a load, and was accepted.
     fn note_reply(&mut self, line: &[u8], has_loaded: bool, refusal: Option<Refusal>)
@@ -187,8 +191,8 @@ impl<R: System> RoundEdge for OsEdge<R> {
         OsEdge::forward(self)
     }
 
-    fn let_all_go(&mut self) {
-        OsEdge::let_all_go(self);
+    fn release_all(&mut self) {
+        OsEdge::release_all(self);
     }
 
     fn next_notice(&mut self) -> Option<Notice> {
@@ -197,6 +201,10 @@ impl<R: System> RoundEdge for OsEdge<R> {
 
     fn start_refusal(&self) -> Option<&str> {
         OsEdge::start_refusal(self)
+    }
+
+    fn failed_calls(&self) -> u64 {
+        OsEdge::failures(self)
     }
 
     fn note_reply(&mut self, _line: &[u8], _has_loaded: bool, refusal: Option<Refusal>) {

@@ -12,7 +12,7 @@ use child_edge::{ChildEdge, Client, EdgeFault, Notice, PathEdge, SocketEdge};
 use control_socket::Answers;
 use history_model::{JobNo, Obs, Reading, Refusal, Reply};
 use launcher::{Host, Input};
-use live_loop::{Caller, HandedIn, LabelRoom, LoopHost, Origin, PathHost, Standing};
+use live_loop::{Caller, Delivered, LabelRoom, LauncherState, LoopHost, Origin, PathHost};
 use mio::{Registry, Token};
 use outside::SettingStore;
 use std::alloc::Global;
@@ -38,7 +38,7 @@ pub struct RoundLauncher<T: SettingStore, E: ChildEdge + SocketEdge, W: Write> {
 }
 
 impl<T: SettingStore, E: ChildEdge + SocketEdge, W: Write> RoundLauncher<T, E, W> {
-    ghost use Rattle.jobd.specs.Launches.{Heard, HeardReading, Reads, ReadsIf, ReadsClock, HandsNews, Shows, Gives, Tells, Begins, PollsRun, AnswersLine};
+    ghost use Rattle.jobd.specs.Launches.{Received, ReceivedReading, Reads, ReadsIf, ReadsClock, DeliversNews, Shows, Gives, Tells, Begins, PollsRun, AnswersLine};
 
     /// The launcher at its own latest clock reading, from which on sleeps count; `before` is what its edge said of
     /// sleeps then.
@@ -46,7 +46,7 @@ impl<T: SettingStore, E: ChildEdge + SocketEdge, W: Write> RoundLauncher<T, E, W
         ensures host { result.host ≡ host }
         ensures at { result.at ≡ host.table.reading }
         ensures sleep { (result.before ≡ before) × (result.slept ≡ 0) }
-        ensures heard { (result.is_refused ≡ false) × (result.has_loaded ≡ false) }
+        ensures received { (result.is_refused ≡ false) × (result.has_loaded ≡ false) }
     {
         let at = host.table().reading();
         RoundLauncher {
@@ -69,17 +69,17 @@ impl<T: SettingStore, E: ChildEdge + SocketEdge, W: Write> RoundLauncher<T, E, W
         ensures { Begins E.told T.told T.holds T.stamped self.old self.new }
     {
         self.is_active = false;
-        self.hand_in_missed(alloc);
+        self.deliver_missed(alloc);
         self.read();
-        self.hand_in_news(alloc);
+        self.deliver_news(alloc);
     }
 
     // Delivers the clock reading of the pass before, if the launcher had no memory for it.
-    fn hand_in_missed(&mut self, alloc: Global)
+    fn deliver_missed(&mut self, alloc: Global)
         ensures { ReadsIf E.told T.told T.holds T.stamped self.old.is_refused self.old self.new }
     {
         if self.is_refused {
-            self.hand_in_time(alloc);
+            self.deliver_time(alloc);
         }
     }
 
@@ -113,26 +113,26 @@ impl<T: SettingStore, E: ChildEdge + SocketEdge, W: Write> RoundLauncher<T, E, W
     }
 
     // Delivers the clock reading of the pass, if it may change something.
-    fn hand_in_news(&mut self, alloc: Global)
-        ensures { HandsNews E.told T.told T.holds T.stamped self.old self.new }
+    fn deliver_news(&mut self, alloc: Global)
+        ensures { DeliversNews E.told T.told T.holds T.stamped self.old self.new }
     {
         if is_news(self.host.table(), self.at) {
-            self.hear_time(alloc);
+            self.receive_time(alloc);
         }
     }
 
     // Delivers the clock reading of the pass, unless it is the launcher's own already.
-    fn hand_in_time(&mut self, alloc: Global)
+    fn deliver_time(&mut self, alloc: Global)
         ensures { Reads E.told T.told T.holds T.stamped self.old self.new }
     {
         if self.host.table().reading() == self.at {
             return;
         }
-        self.hear_time(alloc);
+        self.receive_time(alloc);
     }
 
-    fn hear_time(&mut self, alloc: Global)
-        ensures { HeardReading E.told T.told T.holds T.stamped self.old self.new }
+    fn receive_time(&mut self, alloc: Global)
+        ensures { ReceivedReading E.told T.told T.holds T.stamped self.old self.new }
     {
         let reply = self.turn(alloc, Input::Clock(self.at));
         let is_refused = reply.refusal.is_some();
@@ -143,7 +143,7 @@ impl<T: SettingStore, E: ChildEdge + SocketEdge, W: Write> RoundLauncher<T, E, W
 
     // for the proof: what the launcher's turn says of itself ends here
     fn turn(&mut self, alloc: Global, input: Input<'_>) -> Reply
-        ensures heard { Heard E.told T.told T.holds T.stamped (input_event input.entry) result.refusal result.text self.old.host self.new.host }
+        ensures received { Received E.told T.told T.holds T.stamped (input_event input.entry) result.refusal result.text self.old.host self.new.host }
         ensures at { self.new.at ≡ self.old.at }
         ensures sleep { (self.new.before ≡ self.old.before) × (self.new.slept ≡ self.old.slept) }
         ensures loaded { self.new.has_loaded ≡ self.old.has_loaded }
@@ -160,7 +160,7 @@ impl<T: SettingStore, E: ChildEdge + SocketEdge, W: Write> RoundLauncher<T, E, W
         ensures gives { Gives E.told T.told T.holds T.stamped (input_event input.entry) result.refusal result.text self.old self.new }
     {
         let is_active = self.is_active || !matches!(input, Input::WaitRefused(_, _));
-        self.hand_in_time(alloc);
+        self.deliver_time(alloc);
         self.is_active = is_active;
         self.turn(alloc, input)
     }
@@ -319,12 +319,12 @@ impl<T: SettingStore, E: RoundEdge, W: Write> LoopHost for RoundLauncher<T, E, W
         }
     }
 
-    fn standing(&self) -> Standing {
+    fn standing(&self) -> LauncherState {
         let table = self.host.table();
         let is_ending = table.is_shutting_down();
         let is_empty = table.is_empty();
         let next = table.next_up();
-        Standing {
+        LauncherState {
             is_active: self.is_active,
             has_ended: is_ending && is_empty,
             next_moment: if self.is_refused { None } else { next },
@@ -369,23 +369,23 @@ impl<T: SettingStore, E: RoundEdge, W: Write> LoopHost for RoundLauncher<T, E, W
         self.host.edge().accept(job)
     }
 
-    fn hand_in(
+    fn deliver(
         &mut self,
         alloc: Global,
         room: &mut LabelRoom,
         conn: u64,
         caller: Caller,
-    ) -> HandedIn {
+    ) -> Delivered {
         let job = caller.origin.job;
         if !self.host.edge().take(conn, caller) {
-            return HandedIn::Dropped;
+            return Delivered::Dropped;
         }
         room.copy(self.host.table().last_step().label(job));
         match self.tell(alloc, Input::Came(room.as_str(), conn)) {
-            None => HandedIn::Heard,
+            None => Delivered::Received,
             Some(refusal) => {
                 self.host.edge().close(job, conn);
-                HandedIn::Refused(refusal)
+                Delivered::Refused(refusal)
             }
         }
     }
@@ -397,8 +397,8 @@ impl<T: SettingStore, E: RoundEdge, W: Write> LoopHost for RoundLauncher<T, E, W
     }
 
     // The status file says how things are at the end.
-    fn let_all_go(&mut self) {
-        self.host.edge().let_all_go();
+    fn release_all(&mut self) {
+        self.host.edge().release_all();
         let _is_written = self.write_status();
     }
 

@@ -12,7 +12,7 @@ use crate::standing_file::StandingFile;
 use crate::status_edge::StatusEdge;
 use child_edge::{OsEdge, room_for};
 use control_socket::ControlSocket;
-use ctl_protocol::{Header, Settings, ZoneText, header_line};
+use ctl_protocol::{Header, HeaderSettings, ZoneText, header_line};
 use exit_status::{CLOCK_OR_WAITING, NO_MEMORY, STORE};
 use files_and_process::run_names::LauncherId;
 use files_and_process::socket_file;
@@ -67,7 +67,7 @@ fn serve_by<L: Wait>(
     plan: &Plan,
     zone: ZoneWords,
 ) -> u8 {
-    let zone = match zone_of(host, alloc, plan.wishes.level, zone) {
+    let zone = match zone_of(host, alloc, plan.requested.level, zone) {
         Ok(zone) => zone,
         Err(status) => return status,
     };
@@ -134,7 +134,7 @@ fn kept_for<R: System + Env>(
         Some(keeper) => held_with(rt, alloc, plan, path.as_str(), group, keeper),
         None => {
             let why = "this process is not known, or there is no memory";
-            report(rt, plan.wishes.level, "status file", path.as_str(), &why);
+            report(rt, plan.requested.level, "status file", path.as_str(), &why);
             None
         }
     };
@@ -176,7 +176,7 @@ fn group_of<R: System + Env>(rt: &R, plan: &Plan) -> Option<u32> {
         Ok(group) => Some(group),
     };
     if group.is_none() && !word.is_empty() {
-        let level = plan.wishes.level;
+        let level = plan.requested.level;
         report(
             rt,
             level,
@@ -223,7 +223,7 @@ fn held_with<R: System>(
         Ok(file) => Some((file, keeper)),
         Err(error) => {
             drop(keeper);
-            report(rt, plan.wishes.level, "status file", path, &error);
+            report(rt, plan.requested.level, "status file", path, &error);
             None
         }
     }
@@ -234,7 +234,7 @@ fn headed(alloc: Global, zone: ZoneText, reading: Reading) -> (ZoneText, Option<
     let header = Header {
         reading,
         zone,
-        overrides: Settings::new(Vec::new(alloc)),
+        overrides: HeaderSettings::new(Vec::new(alloc)),
     };
     let text = match header_line(alloc, &header) {
         Ok(line) => match str::from_utf8(line.as_slice()) {
@@ -384,7 +384,7 @@ impl<L: Wait, R: System + Print, E: RoundEdge + Drop> Serving<'_, L, R, E> {
         let header = Header {
             reading,
             zone,
-            overrides: Settings::new(settings),
+            overrides: HeaderSettings::new(settings),
         };
         let status = match writer_of(rt, alloc, plan, &header, journal) {
             Ok(journal) => match Host::new(alloc, header, store, edge, journal) {
@@ -428,7 +428,7 @@ fn writer_of<R: System>(
 }
 
 fn report_host(rt: &impl Eprint, plan: &Plan, fault: HostFault) -> u8 {
-    let level = plan.wishes.level;
+    let level = plan.requested.level;
     match fault {
         HostFault::NoMemory => NO_MEMORY,
         HostFault::Store => {
@@ -456,7 +456,7 @@ fn serve_with<L: Wait, R: System + Print, H: LoopHost + Drop>(
             return Err(report_loop(rt, plan, fault));
         }
     };
-    set_wishes(plan, &mut live);
+    set_requested(plan, &mut live);
     tell_standing(rt, plan);
     // The first pass writes the files that others read. That it was the last, or that the system refuses to wait, the next pass finds too.
     let _is_last = round(rt, alloc, &mut live);
@@ -468,8 +468,8 @@ fn serve_with<L: Wait, R: System + Print, H: LoopHost + Drop>(
     }
 }
 
-fn set_wishes<H>(plan: &Plan, live: &mut Live<H>) {
-    if plan.wishes.level.is_told {
+fn set_requested<H>(plan: &Plan, live: &mut Live<H>) {
+    if plan.requested.level.is_told {
         live.set_leveled();
     }
     live.set_room(room_for(plan.standing.descriptors, 0));
@@ -482,7 +482,7 @@ fn report_loop(rt: &impl Eprint, plan: &Plan, fault: ServeFault) -> u8 {
             let path = plan.places.socket.as_str();
             report(
                 rt,
-                plan.wishes.level,
+                plan.requested.level,
                 "control socket",
                 path,
                 &"the poll failed",

@@ -29,7 +29,7 @@ pub struct StandingFile<R: System> {
     // The group that may read it.
     group: Option<u32>,
     lock: LockFile,
-    // Whether a text was handed in that is not in place yet, the file that has some of it, and how much.
+    // Whether there is a text to write that is not in place yet, the file that has some of it, and how much.
     is_going: bool,
     file: Option<File>,
     written: usize,
@@ -281,7 +281,7 @@ impl<R: System> StandingFile<R> {
     }
 
     /// The launcher has ended: the file of the lock is removed, and the file is left as it is.
-    pub(crate) fn let_go(&self) {
+    pub(crate) fn release(&self) {
         self.lock.remove(&self.rt);
     }
 }

@@ -1,12 +1,11 @@
 //! An edge over another one, which keeps the status file. Each call is that of the other edge, and what becomes of runs
 //! is noted.
 
-ghost use Rattle.std.specs.Prelude.{◌≡◌, ◌≤◌, ℕ, List, Option, Some, IfOk};
+ghost use Rattle.std.specs.Prelude.{◌≡◌, ◌≤◌, ℕ, List, Option, Some};
 
 use crate::journal_watch::JournalWatch;
 use crate::keeper::Keeper;
 use crate::memory_want::MemoryWant;
-use crate::own_process::own_process;
 use crate::places_file::PlacesFile;
 use crate::round_edge::{RoundEdge, SleepEdge};
 use crate::standing_file::StandingFile;
@@ -14,13 +13,12 @@ use child_edge::{
     ChildEdge, Client, ClockEdge, Edge, EdgeFault, Notice, PathEdge, SocketEdge, System,
 };
 use history_model::definition::Def;
-use history_model::{Ended, JobNo, Obs, Reading, Refusal, Text};
+use history_model::{Ended, JobNo, Obs, Reading, Refusal};
 use live_loop::{Caller, Origin};
 use mio::{Registry, Token};
 use std::alloc::Global;
 use std::fs::File;
-use std::io::ErrorKind;
-use std::{io, mem};
+use std::mem;
 
 /// The edge, and what keeps the file, if one is kept.
 #[derive(Drop)]
@@ -59,38 +57,6 @@ impl<E: RoundEdge, R: System> StatusEdge<E, R> {
             keeper,
         }
     }
-
-    /// The edge with a status file at the path, which this user alone may read, and no other file. The launcher keeps a journal, whose header's line
-    /// is given without its newline, and began at this clock reading. Refused as `StandingFile::take`; `NotFound`, if the system does not say which
-    /// process this is. The edge is then dropped.
-    pub fn keeping(
-        rt: &R,
-        alloc: Global,
-        edge: E,
-        path: &str,
-        header: Text,
-        at: Reading,
-    ) -> io::Result<StatusEdge<E, R>>
-    where
-        E: Drop,
-        ensures told { IfOk result (λ kept. E.told kept.edge ≡ E.told edge) }
-        ensures failures { IfOk result (λ kept. E.failures kept.edge ≡ E.failures edge) }
-    {
-        let Some(own) = own_process(rt) else {
-            drop(edge);
-            drop(header);
-            return Err(io::Error::from(ErrorKind::NotFound));
-        };
-        let keeper = Keeper::new(alloc, own, header, true, at);
-        match StandingFile::take(rt, alloc, path, None, None) {
-            Ok(file) => Ok(StatusEdge::new(alloc, edge, Some((file, keeper)), None, None)),
-            Err(error) => {
-                drop(edge);
-                drop(keeper);
-                Err(error)
-            }
-        }
-    }
 }
 
 fn note_end(
@@ -113,6 +79,10 @@ impl<E: RoundEdge, R: System> Edge for StatusEdge<E, R> {
 }
 
 impl<E: RoundEdge, R: System> ChildEdge for StatusEdge<E, R> {
+    fn expect(&mut self, job: JobNo, run: u64, def: &Def, conn: Option<u64>) {
+        self.edge.expect(job, run, def, conn);
+    }
+
     fn start(
         &mut self,
         job: JobNo,
@@ -271,9 +241,9 @@ impl<E: RoundEdge, R: System> RoundEdge for StatusEdge<E, R> {
         may_go_on | is_left
     }
 
-    // The file gets one more text, for which the keeper is lent and handed back after this. Then its lock is let go.
-    fn let_all_go(&mut self) {
-        self.edge.let_all_go();
+    // The file gets one more text, for which the keeper is lent and given back after this. Then its lock is released.
+    fn release_all(&mut self) {
+        self.edge.release_all();
         if let Some(file) = &mut self.file {
             if let Some(keeper) = &self.keeper {
                 file.end(keeper.text.as_slice());
@@ -311,6 +281,10 @@ impl<E: RoundEdge, R: System> RoundEdge for StatusEdge<E, R> {
         self.edge.start_refusal()
     }
 
+    fn failed_calls(&self) -> u64 {
+        self.edge.failed_calls()
+    }
+
     fn note_reply(&mut self, line: &[u8], has_loaded: bool, refusal: Option<Refusal>) {
         self.edge.note_reply(line, has_loaded, refusal);
         if let Some(keeper) = &mut self.keeper {
@@ -345,6 +319,7 @@ impl<E: RoundEdge, R: System> RoundEdge for StatusEdge<E, R> {
 
     fn lend_keeper(&mut self, at: Reading, is_short: bool, has_changed: bool) -> Option<Keeper> {
         self.want.note(is_short);
+        let failed_calls = self.edge.failed_calls();
         if let Some(places) = &mut self.places {
             places.keep(at.up);
         }
@@ -353,6 +328,7 @@ impl<E: RoundEdge, R: System> RoundEdge for StatusEdge<E, R> {
         }
         let file = self.file.as_mut()?;
         let keeper = self.keeper.as_mut()?;
+        keeper.failed_calls = failed_calls;
         if keeper.is_urgent() {
             file.hurry();
         }
@@ -374,7 +350,7 @@ impl<E: RoundEdge, R: System> RoundEdge for StatusEdge<E, R> {
             }
             if file.is_last() {
                 file.end(keeper.text.as_slice());
-                file.let_go();
+                file.release();
             }
         }
         drop(mem::replace(&mut self.keeper, Some(keeper)));

@@ -1,4 +1,4 @@
--- Reading the members of an array or a dictionary one after the other, as a loop does.
+-- Reading the members of an array or an object one after the other, as a loop does.
 use Rattle.std.proofs.Common.{◌≡◌, ℕ, List, ◌++◌, Result, Ok, Err, refl, sym, ap, ◌∙◌, append_assoc}
 use Rattle.serde_json.specs.Data.{Data, Members, member}
 use Rattle.history_model.specs.Machine.{Fault}

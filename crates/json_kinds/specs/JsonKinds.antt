@@ -28,11 +28,11 @@ bool_at key d = or_fault (as_bool d) (bad WrongKind key)
 abbrev pub array_at : KeyName → Data → Result Items Fault
 array_at key d = or_fault (as_array d) (bad WrongKind key)
 
--- a dictionary, that is, an object
+-- an object of JSON
 abbrev pub object_at : KeyName → Data → Result Members Fault
 object_at key d = or_fault (as_object d) (bad WrongKind key)
 
--- from low to high; a number with a fraction or an exponent is no integer
+-- from low to high; a number with a fraction or an exponent is not an integer
 abbrev pub in_range : ℕ → ℕ → KeyName → Num → Result ℕ Fault
 in_range low high key (unsigned n) =
     if nat_le low n && nat_le n high then Ok n else Err (bad OutOfRange key)
@@ -51,7 +51,7 @@ integer_at low high key d = do
 abbrev pub is_zero : ℕ → Bool
 is_zero b = b == 0
 
--- at most so many bytes, and none of them 0
+-- at most this number of bytes, and none of them 0
 unfoldable pub plain : ℕ → KeyName → List ℕ → Result (List ℕ) Fault
 plain limit key text =
     if nat_lt limit (length text) then Err (bad TooLong key)
@@ -87,7 +87,7 @@ texts_in texts = map (λ text. text.now) texts
 abbrev pub is_among : List (List ℕ) → List ℕ → Bool
 is_among texts text = list_any (λ known. bytes_eq known text) texts
 
--- ---- members of an array by position, of a dictionary by byte order of keys
+-- ---- members of an array by position, of an object by byte order of keys
 
 -- each member of an array as this reads it, up to the first fault
 abbrev pub each_item : {A : Type 0} → (Data → Result A Fault) → Items → Result (List A) Fault
@@ -97,7 +97,7 @@ each_item read (item d ds) = do
   rest ← each_item read ds
   Ok (first ∷ rest)
 
--- each member of a dictionary as this reads it, which may give none of it
+-- each member of an object as this reads it, which may give none of it
 abbrev pub each_member : {A : Type 0} → (Key → Data → Result (List A) Fault)
     → Members → Result (List A) Fault
 each_member read no_members = Ok []
@@ -115,12 +115,12 @@ members_or_one d = members_or (as_array d) d where
 
 -- ---- a key that may be absent
 
--- what is read if the key stands, or else what its absence means
+-- what is read if the key is present, or else what its absence means
 abbrev pub where_there : {A : Type 0} → (Data → Result A Fault) → A → Option Data → Result A Fault
 where_there read absent None = Ok absent
 where_there read absent (Some d) = read d
 
--- what is read if the key stands
+-- what is read if the key is present
 abbrev pub optional : {A : Type 0} → (Data → Result A Fault) → Option Data → Result (Option A) Fault
 optional read None = Ok None
 optional read (Some d) = do
@@ -134,7 +134,7 @@ unsupported_key key (Some d) = Err (bad Unsupported key)
 
 -- ---- keys of a definition
 
--- the key has to stand
+-- the key has to be present
 unfoldable pub required : KeyName → Data → Result Data Fault
 required key d = or_fault (get (key_text key) d) (bad Missing key)
 
@@ -151,7 +151,7 @@ integer_key low high absent key d =
 unfoldable pub optional_integer : ℕ → ℕ → KeyName → Data → Result (Option ℕ) Fault
 optional_integer low high key d = optional (integer_at low high key) (get (key_text key) d)
 
--- a text of one to so many bytes
+-- a string of one byte to this number of bytes
 unfoldable pub optional_text : ℕ → KeyName → Data → Result (Option (List ℕ)) Fault
 optional_text limit key d = optional (filled_at limit key) (get (key_text key) d)
 

@@ -1,4 +1,4 @@
--- The keys of the dictionaries inside a definition, as launchd.plist(5) names them.
+-- The keys of the objects inside a definition, as launchd.plist(5) names them.
 use Rattle.std.specs.Prelude.{ℕ, List, codes}
 
 -- a key is its bytes

@@ -1,4 +1,4 @@
-//! Why bytes are no definition.
+//! Why bytes are not a definition.
 
 ghost use Rattle.std.specs.Prelude.{◌≡◌};
 ghost use Rattle.json_kinds.specs.declared.fault.DefFault.TheVariants.{NoMemory};
@@ -14,7 +14,7 @@ pub enum DefFault {
     /// The first fault of the definition, and the key that has it.
     #[error("bad definition: {} {}", reason_name(*.reason), key_name(*.key))]
     Bad { reason: Reason, key: KeyName },
-    /// Memory ran out. This tells nothing of the definition.
+    /// Memory ran out. This says nothing about the definition.
     #[error("no memory")]
     NoMemory,
 }

@@ -9,8 +9,8 @@ use json::Scratch;
 use serde_json::Value;
 use std::alloc::{AllocError, Global};
 
-/// The JSON value (RFC 8259) that the bytes are, or None if they are none: no UTF-8, no JSON text, or one that nests
-/// arrays and objects more than 127 deep. `Err` says only that memory ran out.
+/// The JSON value (RFC 8259) that the bytes are. None if they are not UTF-8, are not a JSON text, or nest arrays and objects more
+/// than 127 deep. `Err` says only that memory ran out.
 pub fn json_value(alloc: Global, bytes: &[u8]) -> Result<Option<Value>, AllocError>
     ensures { IfOk result (λ value. option_map view value ≡ json_in bytes.now) }
 {
@@ -18,8 +18,8 @@ pub fn json_value(alloc: Global, bytes: &[u8]) -> Result<Option<Value>, AllocErr
     value_in(alloc, bytes, &mut scratch)
 }
 
-/// The room that reading JSON texts takes, kept from text to text: 16 KiB, which [`json_value`] clears for each text, and as much as the
-/// longest text that was read.
+/// The room in which JSON texts are read, kept from text to text. It is 16 KiB, which [`json_value`] clears for each text, and as
+/// much as the longest text that was read.
 #[derive(Drop)]
 pub struct JsonRoom {
     scratch: Option<Box<Scratch>>,

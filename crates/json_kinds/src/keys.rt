@@ -1,4 +1,4 @@
-//! Keys that stand in a definition or do not.
+//! Keys that a definition has or has not.
 
 ghost use Rattle.std.specs.Prelude.{◌≡◌, ◌≤◌, IfOk, IfSome, ⊤};
 ghost use Rattle.serde_json.specs.View.{view};
@@ -16,7 +16,7 @@ use std::alloc::Global;
 /// The longest path, in bytes.
 pub const PATH_LIMIT: usize = 1024;
 
-/// What stands under a key of a definition. Missing if nothing does.
+/// The value of a key of a definition. Missing if the key is absent.
 #[tactic(auto, unfolding(crate::specs::JsonKinds::required))]
 pub fn required_of(def: &Value, key: KeyName) -> Result<&Value, DefFault>
     ensures { Gives (λ found. view found.now) result (required key (view def.now)) }
@@ -41,7 +41,7 @@ pub fn bool_key_of(def: &Value, key: KeyName, absent: bool) -> Result<bool, DefF
     }
 }
 
-/// The boolean of a dictionary inside the definition, if it stands. WrongKind as [`bool_of`].
+/// The boolean of an object inside the definition, if it is present. WrongKind as [`bool_of`].
 pub fn optional_bool_of(part: &Value, name: &str, key: KeyName) -> Result<Option<bool>, DefFault>
     ensures { Gives (λ holds. holds) result
         (optional (bool_at key) (get name.now (view part.now))) }
@@ -71,7 +71,7 @@ pub fn integer_key_of(
     }
 }
 
-/// The integer under a key of a definition, if it stands. Faults as [`integer_of`].
+/// The integer under a key of a definition, if it is present. Faults as [`integer_of`].
 #[tactic(auto, unfolding(crate::specs::JsonKinds::optional_integer))]
 pub fn optional_integer_of(
     def: &Value,
@@ -88,7 +88,7 @@ pub fn optional_integer_of(
     }
 }
 
-/// The text of 1 to `limit` bytes under a key of a definition, if it stands. Faults as [`filled_of`].
+/// The string under a key of a definition, of 1 to `limit` bytes, if it is present. Faults as [`filled_of`].
 #[tactic(auto, unfolding(crate::specs::JsonKinds::optional_text))]
 pub fn optional_text_of(
     alloc: Global,
@@ -104,7 +104,7 @@ pub fn optional_text_of(
     }
 }
 
-/// The path under a key of a definition, if it stands. Faults as [`filled_of`].
+/// The path under a key of a definition, if it is present. Faults as [`filled_of`].
 #[tactic(auto, unfolding(crate::specs::JsonKinds::optional_path))]
 pub fn optional_path_of(alloc: Global, def: &Value, key: KeyName) -> Result<Option<Text>, DefFault>
     ensures { Gives (λ path. path) result (optional_path key (view def.now)) }
@@ -115,7 +115,7 @@ pub fn optional_path_of(alloc: Global, def: &Value, key: KeyName) -> Result<Opti
     }
 }
 
-/// Unsupported if the key of a dictionary stands, whatever its value.
+/// Unsupported if the object has the key, whatever its value.
 pub fn refused_of(part: &Value, name: &str, key: KeyName) -> Result<(), DefFault>
     ensures { Gives (λ done. done) result (unsupported_key key (get name.now (view part.now))) }
 {

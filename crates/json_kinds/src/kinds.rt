@@ -73,7 +73,7 @@ pub fn members_or_one_of(found: &Value) -> &[Value]
     }
 }
 
-/// The integer that a value is, of at least `low` and at most `high`. WrongKind for what is no number and for a number
+/// The integer that a value is, of at least `low` and at most `high`. WrongKind for a value that is not a number and for a number
 /// with a fraction or an exponent, OutOfRange for other integers.
 pub fn integer_of(found: &Value, key: KeyName, low: u32, high: u32) -> Result<u32, DefFault>
     ensures value { Gives (λ n. n) result (integer_at low high key (view found.now)) }
@@ -132,7 +132,7 @@ pub fn plain_text(text: &str, key: KeyName, limit: usize) -> Result<&str, DefFau
     Ok(text)
 }
 
-/// A text of 1 to `limit` bytes, none of them 0. TooLong, and then OutOfRange for others.
+/// A string of 1 to `limit` bytes, none of them 0. TooLong, and then OutOfRange for others.
 #[tactic(auto, unfolding(crate::specs::JsonKinds::filled))]
 pub fn filled_text(text: &str, key: KeyName, limit: usize) -> Result<&str, DefFault>
     ensures { Gives (λ same. same.now) result (filled limit key text.now) }
@@ -147,7 +147,7 @@ pub fn filled_text(text: &str, key: KeyName, limit: usize) -> Result<&str, DefFa
     Ok(text)
 }
 
-/// The text that a value is, as [`plain_text`] takes it. WrongKind for what is no text.
+/// The string that a value is, as [`plain_text`] takes it. WrongKind for a value that is not a string.
 #[tactic(auto, unfolding(crate::specs::JsonKinds::plain_at))]
 pub fn plain_of(found: &Value, key: KeyName, limit: usize) -> Result<&str, DefFault>
     ensures { Gives (λ text. text.now) result (plain_at limit key (view found.now)) }
@@ -155,7 +155,7 @@ pub fn plain_of(found: &Value, key: KeyName, limit: usize) -> Result<&str, DefFa
     plain_text(text_of(found, key)?, key, limit)
 }
 
-/// The text that a value is, as [`filled_text`] takes it. WrongKind for what is no text.
+/// The string that a value is, as [`filled_text`] takes it. WrongKind for a value that is not a string.
 #[tactic(auto, unfolding(crate::specs::JsonKinds::filled_at))]
 pub fn filled_of(found: &Value, key: KeyName, limit: usize) -> Result<&str, DefFault>
     ensures { Gives (λ text. text.now) result (filled_at limit key (view found.now)) }

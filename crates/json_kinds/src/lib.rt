@@ -1,6 +1,6 @@
-//! JSON values by key and kind, as the readers of definitions and of lines take them: a text of JSON, a value's kind,
-//! length, range and form, a key that has to stand or may be absent, each with the fault that names its key. Beside them
-//! the words that both readers know: the names of keys and of reasons.
+//! JSON values by key and kind, as the readers of definitions and of lines take them: a text of JSON; a value's kind, length,
+//! range and form. A key is required or may be absent. Each fault names its key. With them come the names that both readers know:
+//! of keys and of reasons.
 #![tactic(auto)]
 
 mod digits;

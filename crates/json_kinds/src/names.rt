@@ -1,11 +1,11 @@
-//! The names of keys and of reasons. Each stands here once.
+//! The names of keys and of reasons. Each is here once.
 
 ghost use Rattle.std.specs.Prelude.{◌≡◌};
 ghost use Rattle.history_model.specs.RefusalTexts.{key_text, reason_text};
 
 use history_model::{KeyName, Reason};
 
-/// The key as it stands in a definition; `-` if a fault has none.
+/// The key as a definition writes it; `-` if a fault has none.
 pub fn key_name(key: KeyName) -> &'static str
     ensures { result.now ≡ key_text key }
 {

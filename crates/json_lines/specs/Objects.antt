@@ -7,7 +7,7 @@ use Rattle.history_model.specs.declared.CivilMinute.{CivilMinute}
 use Rattle.history_model.specs.declared.TheConstants.{MAX_WALL}
 use Rattle.plain_text.specs.Plain.{is_hidden}
 use Rattle.run_times.specs.ClockTexts.{IsClockText}
-use Rattle.run_times.specs.declared.ink.Ink.{Ink}
+use Rattle.run_times.specs.declared.writer.TextWriter.{TextWriter}
 use Rattle.run_times.specs.Written.{Adds}
 use Rattle.json_lines.specs.declared.Field.{Field}
 use Rattle.json_lines.specs.declared.Value.{Value}
@@ -58,7 +58,7 @@ IsMember key (Moment second) text =
     ++ (codes ",\"" ++ (key ++ (codes "_seconds" ++ (codes "\":" ++ decimal second)))))))
 
 -- it follows what was written before
-abbrev pub TellsMember : List ℕ → Value → Ink → Ink → Type 0
+abbrev pub TellsMember : List ℕ → Value → TextWriter → TextWriter → Type 0
 TellsMember key value old new = (text : List ℕ) × IsMember key value text × Adds text old new
 
 -- a member for each of the fields, in order
@@ -68,7 +68,7 @@ AreMembers (field ∷ fields) text =
     (one : List ℕ) × (others : List ℕ) × IsMember field.0.now field.1 one × AreMembers fields others
     × (text ≡ one ++ others)
 
-abbrev pub TellsMembers : List Field → Ink → Ink → Type 0
+abbrev pub TellsMembers : List Field → TextWriter → TextWriter → Type 0
 TellsMembers fields old new = (text : List ℕ) × AreMembers fields text × Adds text old new
 
 -- an object: the key with the name, and a member for each of the fields, in order
@@ -78,11 +78,11 @@ IsObject key name fields text =
     × (text ≡ (codes "{\"" ++ (key ++ codes "\":")) ++ (quoted name ++ (members ++ codes "}")))
 
 -- it follows what was written before
-abbrev pub TellsObject : List ℕ → List ℕ → List Field → Ink → Ink → Type 0
+abbrev pub TellsObject : List ℕ → List ℕ → List Field → TextWriter → TextWriter → Type 0
 TellsObject key name fields old new = (text : List ℕ) × IsObject key name fields text × Adds text old new
 
 -- and ends the line
-abbrev pub TellsLine : List ℕ → List ℕ → List Field → Ink → Ink → Type 0
+abbrev pub TellsLine : List ℕ → List ℕ → List Field → TextWriter → TextWriter → Type 0
 TellsLine key name fields old new =
     (text : List ℕ) × IsObject key name fields text × Adds (text ++ codes "\n") old new
 

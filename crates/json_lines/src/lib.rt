@@ -10,7 +10,7 @@ ghost use Rattle.json_lines.specs.Objects.{escape, hex_digit, json_char, more_te
 
 use history_model::MAX_WALL;
 use plain_text::is_hidden;
-use run_times::{Ink, Page, Piece, put_clock};
+use run_times::{Page, Piece, TextWriter, put_clock};
 
 /// The value at a key.
 #[derive(Clone, Copy)]
@@ -33,30 +33,30 @@ pub struct Field<'a>(pub &'static str, pub Value<'a>);
 
 /// Adds an object: first the key with the name, then each of the fields, in order.
 pub fn put_object(page: &mut Page<'_>, key: &'static str, name: &str, fields: &[Field<'_>])
-    ensures { TellsObject key.now name.now fields.now page.old.ink page.new.ink }
+    ensures { TellsObject key.now name.now fields.now page.old.writer page.new.writer }
 {
-    put_front(&mut page.ink, key);
-    put_quoted(&mut page.ink, name);
+    put_front(&mut page.writer, key);
+    put_quoted(&mut page.writer, name);
     put_members(page, fields);
-    page.ink.put("}");
+    page.writer.put("}");
 }
 
 /// Adds the object, and ends the line.
 pub fn put_line(page: &mut Page<'_>, key: &'static str, name: &str, fields: &[Field<'_>])
-    ensures { TellsLine key.now name.now fields.now page.old.ink page.new.ink }
+    ensures { TellsLine key.now name.now fields.now page.old.writer page.new.writer }
 {
     put_object(page, key, name, fields);
-    page.ink.put("\n");
+    page.writer.put("\n");
 }
 
-fn put_front(ink: &mut Ink, key: &str)
-    ensures { Adds (codes "{\"" ++ (key.now ++ codes "\":")) ink.old ink.new }
+fn put_front(writer: &mut TextWriter, key: &str)
+    ensures { Adds (codes "{\"" ++ (key.now ++ codes "\":")) writer.old writer.new }
 {
-    ink.put_all(&[Piece::Text("{\""), Piece::Text(key), Piece::Text("\":")]);
+    writer.put_all(&[Piece::Text("{\""), Piece::Text(key), Piece::Text("\":")]);
 }
 
 fn put_members(page: &mut Page<'_>, fields: &[Field<'_>])
-    ensures { TellsMembers fields.now page.old.ink page.new.ink }
+    ensures { TellsMembers fields.now page.old.writer page.new.writer }
 {
     for field in fields {
         put_member(page, field.0, field.1);
@@ -65,30 +65,30 @@ fn put_members(page: &mut Page<'_>, fields: &[Field<'_>])
 
 // A comma, the key, and its value; nothing, if it has none.
 fn put_member(page: &mut Page<'_>, key: &'static str, value: Value<'_>)
-    ensures { TellsMember key.now value.entry page.old.ink page.new.ink }
+    ensures { TellsMember key.now value.entry page.old.writer page.new.writer }
 {
     match value {
         Value::Absent => {}
-        Value::Flag(flag) => put_value(&mut page.ink, key, if flag { "true" } else { "false" }),
-        Value::Json(text) => put_value(&mut page.ink, key, text),
-        Value::Number(number) => put_number(&mut page.ink, key, "", number),
+        Value::Flag(flag) => put_value(&mut page.writer, key, if flag { "true" } else { "false" }),
+        Value::Json(text) => put_value(&mut page.writer, key, text),
+        Value::Number(number) => put_number(&mut page.writer, key, "", number),
         Value::Text(text) => {
-            put_value(&mut page.ink, key, "");
-            put_quoted(&mut page.ink, text);
+            put_value(&mut page.writer, key, "");
+            put_quoted(&mut page.writer, text);
         }
         Value::Moment(second) => {
-            put_value(&mut page.ink, key, "\"");
-            put_clock(&mut page.ink, page.zone, second.min(MAX_WALL));
-            page.ink.put("\"");
-            put_number(&mut page.ink, key, "_seconds", second);
+            put_value(&mut page.writer, key, "\"");
+            put_clock(&mut page.writer, page.zone, second.min(MAX_WALL));
+            page.writer.put("\"");
+            put_number(&mut page.writer, key, "_seconds", second);
         }
     }
 }
 
-fn put_value<'x>(ink: &mut Ink, key: &'x str, text: &'x str)
-    ensures { Adds (codes ",\"" ++ (key.now ++ (codes "\":" ++ text.now))) ink.old ink.new }
+fn put_value<'x>(writer: &mut TextWriter, key: &'x str, text: &'x str)
+    ensures { Adds (codes ",\"" ++ (key.now ++ (codes "\":" ++ text.now))) writer.old writer.new }
 {
-    ink.put_all(&[
+    writer.put_all(&[
         Piece::Text(",\""),
         Piece::Text(key),
         Piece::Text("\":"),
@@ -96,10 +96,10 @@ fn put_value<'x>(ink: &mut Ink, key: &'x str, text: &'x str)
     ]);
 }
 
-fn put_number<'x>(ink: &mut Ink, key: &'x str, more: &'x str, number: u64)
-    ensures { Adds (codes ",\"" ++ (key.now ++ (more.now ++ (codes "\":" ++ decimal number)))) ink.old ink.new }
+fn put_number<'x>(writer: &mut TextWriter, key: &'x str, more: &'x str, number: u64)
+    ensures { Adds (codes ",\"" ++ (key.now ++ (more.now ++ (codes "\":" ++ decimal number)))) writer.old writer.new }
 {
-    ink.put_all(&[
+    writer.put_all(&[
         Piece::Text(",\""),
         Piece::Text(key),
         Piece::Text(more),
@@ -109,51 +109,51 @@ fn put_number<'x>(ink: &mut Ink, key: &'x str, more: &'x str, number: u64)
 }
 
 /// Adds the text in quotes. What ends it there, a backslash, and each hidden character is escaped.
-pub fn put_quoted(ink: &mut Ink, text: &str)
-    ensures { Adds (quoted text.now) ink.old ink.new }
+pub fn put_quoted(writer: &mut TextWriter, text: &str)
+    ensures { Adds (quoted text.now) writer.old writer.new }
 {
-    ink.put("\"");
-    put_chars(ink, text);
-    ink.put("\"");
+    writer.put("\"");
+    put_chars(writer, text);
+    writer.put("\"");
 }
 
-fn put_chars(ink: &mut Ink, text: &str)
-    ensures { Adds (flat_map text_char (chars text.now)) ink.old ink.new }
+fn put_chars(writer: &mut TextWriter, text: &str)
+    ensures { Adds (flat_map text_char (chars text.now)) writer.old writer.new }
 {
     for c in text.chars() {
-        put_text_char(ink, c);
+        put_text_char(writer, c);
     }
 }
 
-fn put_text_char(ink: &mut Ink, c: char)
-    ensures { Adds (text_char c) ink.old ink.new }
+fn put_text_char(writer: &mut TextWriter, c: char)
+    ensures { Adds (text_char c) writer.old writer.new }
 {
     if is_hidden(c) {
-        put_escape(ink, u32::from(c));
+        put_escape(writer, u32::from(c));
     } else {
         if c == '\\' || c == '"' {
-            ink.put("\\");
+            writer.put("\\");
         }
-        ink.put_char(c);
+        writer.put_char(c);
     }
 }
 
 // A character by its number: each that is hidden has four digits at most.
-fn put_escape(ink: &mut Ink, c: u32)
-    ensures { Adds (escape c) ink.old ink.new }
+fn put_escape(writer: &mut TextWriter, c: u32)
+    ensures { Adds (escape c) writer.old writer.new }
 {
-    ink.put("\\u");
-    put_digit(ink, c / 4096);
-    put_digit(ink, c / 256);
-    put_digit(ink, c / 16);
-    put_digit(ink, c);
+    writer.put("\\u");
+    put_digit(writer, c / 4096);
+    put_digit(writer, c / 256);
+    put_digit(writer, c / 16);
+    put_digit(writer, c);
 }
 
-fn put_digit(ink: &mut Ink, number: u32)
-    ensures { Adds (encode_utf8 (hex_digit number)) ink.old ink.new }
+fn put_digit(writer: &mut TextWriter, number: u32)
+    ensures { Adds (encode_utf8 (hex_digit number)) writer.old writer.new }
 {
     let digit = (number % 16) as u8;
-    ink.put_char(char::from(if digit < 10 {
+    writer.put_char(char::from(if digit < 10 {
         b'0' + digit
     } else {
         b'W' + digit
@@ -161,50 +161,50 @@ fn put_digit(ink: &mut Ink, number: u32)
 }
 
 /// Adds JSON of others, whose texts may have hidden characters: each of these is escaped. JSON on one line stays so, and means the same.
-pub fn put_json(ink: &mut Ink, json: &str)
-    ensures { Adds (flat_map json_char (chars json.now)) ink.old ink.new }
+pub fn put_json(writer: &mut TextWriter, json: &str)
+    ensures { Adds (flat_map json_char (chars json.now)) writer.old writer.new }
 {
     for c in json.chars() {
-        put_json_char(ink, c);
+        put_json_char(writer, c);
     }
 }
 
-fn put_json_char(ink: &mut Ink, c: char)
-    ensures { Adds (json_char c) ink.old ink.new }
+fn put_json_char(writer: &mut TextWriter, c: char)
+    ensures { Adds (json_char c) writer.old writer.new }
 {
     if is_hidden(c) {
-        put_escape(ink, u32::from(c));
+        put_escape(writer, u32::from(c));
     } else {
-        ink.put_char(c);
+        writer.put_char(c);
     }
 }
 
 /// Adds a list of the texts.
-pub fn put_texts(ink: &mut Ink, texts: &[&str])
-    ensures { Adds (texts_list texts.now) ink.old ink.new }
+pub fn put_texts(writer: &mut TextWriter, texts: &[&str])
+    ensures { Adds (texts_list texts.now) writer.old writer.new }
 {
     match texts {
-        [] => ink.put("[]"),
+        [] => writer.put("[]"),
         [first, more @ ..] => {
-            ink.put("[");
-            put_quoted(ink, *first);
-            put_more(ink, more);
-            ink.put("]");
+            writer.put("[");
+            put_quoted(writer, *first);
+            put_more(writer, more);
+            writer.put("]");
         }
     }
 }
 
-fn put_more(ink: &mut Ink, texts: &[&str])
-    ensures { Adds (flat_map more_text texts.now) ink.old ink.new }
+fn put_more(writer: &mut TextWriter, texts: &[&str])
+    ensures { Adds (flat_map more_text texts.now) writer.old writer.new }
 {
     for text in texts {
-        put_behind(ink, *text);
+        put_behind(writer, *text);
     }
 }
 
-fn put_behind(ink: &mut Ink, text: &str)
-    ensures { Adds (codes "," ++ quoted text.now) ink.old ink.new }
+fn put_behind(writer: &mut TextWriter, text: &str)
+    ensures { Adds (codes "," ++ quoted text.now) writer.old writer.new }
 {
-    ink.put(",");
-    put_quoted(ink, text);
+    writer.put(",");
+    put_quoted(writer, text);
 }

@@ -1,12 +1,12 @@
-//! Words of other tools, and what to type here in their place.
+//! Commands of other tools, and what to type here in their place.
 
 use command_words::{Explanation, explain as explain_jobctl, explain_scope as explain_jobscope};
 use std::alloc::{AllocError, Global};
 
-/// A word that is no subcommand, and what to type.
+/// What is not a subcommand here, and what to type.
 type Foreign = (&'static str, &'static str);
 
-// Words of systemctl(1), launchctl(1), supervisorctl, sv(8) and service(8), and of jobscope.
+// Commands of systemctl(1), launchctl(1), supervisorctl, sv(8) and service(8), and of jobscope.
 static OF_JOBCTL: &[Foreign] = &[
     (
         "status",
@@ -60,7 +60,7 @@ static OF_JOBCTL: &[Foreign] = &[
     ("--failed", "type jobscope why --failing"),
 ];
 
-// Words of jobctl, and of others that read definitions or journals.
+// Commands of jobctl, and of others that read definitions or journals.
 static OF_JOBSCOPE: &[Foreign] = &[
     ("list", "type jobscope status, or jobctl list"),
     ("ls", "type jobscope status, or jobctl list"),
@@ -97,8 +97,8 @@ static OF_JOBSCOPE: &[Foreign] = &[
     ("--failed", "type jobscope why --failing"),
 ];
 
-/// The text for words that are no command of jobctl: what to type here, if a word is another tool's; else what `clap` says of them, without
-/// its tip if that is `shutdown`, which ends all jobs.
+/// The text for arguments that do not form a command of jobctl: what to type here, if an argument is another tool's. Else it is
+/// what `clap` says of them, without its tip if that is `shutdown`, which ends all jobs.
 pub fn explain(alloc: Global, words: &[String]) -> Result<Explanation, AllocError> {
     match typed_for(OF_JOBCTL, words) {
         Some((word, typed)) => told(alloc, "jobctl", word, typed),
@@ -115,7 +115,7 @@ pub fn explain(alloc: Global, words: &[String]) -> Result<Explanation, AllocErro
     }
 }
 
-/// The same for words that are no command of jobscope.
+/// The same for arguments that do not form a command of jobscope.
 pub fn explain_scope(alloc: Global, words: &[String]) -> Result<Explanation, AllocError> {
     match typed_for(OF_JOBSCOPE, words) {
         Some((word, typed)) => told(alloc, "jobscope", word, typed),
@@ -131,7 +131,7 @@ fn told(alloc: Global, program: &str, word: &str, typed: &str) -> Result<Explana
     })
 }
 
-// The subcommand among the words, of which the first is the program's own name; empty, if there is none.
+// The subcommand among the arguments, the first of which is the program's own name; empty, if there is none.
 fn subcommand_in(words: &[String]) -> &str {
     let mut is_value = false;
     for word in words.get(1..).unwrap_or(&[]) {
@@ -147,7 +147,7 @@ fn subcommand_in(words: &[String]) -> &str {
     ""
 }
 
-// The word of the table among the words, and what to type: an option at any place, and else the subcommand.
+// The argument that the table names, and what to type: an option at any place, and else the subcommand.
 fn typed_for(table: &'static [Foreign], words: &[String]) -> Option<(&'static str, &'static str)> {
     let subcommand = subcommand_in(words);
     for (name, typed) in table {

@@ -1,11 +1,11 @@
-//! What the words of the three programs mean: launchctl's for the control program, the daemon's own, and those of `jobscope`.
+//! What the arguments of the three programs mean: launchctl's for the control program, the daemon's own, and those of `jobscope`.
 #![tactic(auto)]
 
 mod foreign;
 mod reading;
 
 pub use command_words::{
-    Command, DaemonCommand, Explanation, Meaning, MomentWords, Paths, ScopeCommand, Task,
+    Command, DaemonCommand, Explanation, Meaning, MomentWords, Paths, ScopeCommand, ScopeTask,
     WordFault, Words, ZoneWords, explain_daemon, read_scope_words,
 };
 pub use foreign::{explain, explain_scope};

@@ -1,4 +1,4 @@
-//! What words mean, or why they mean nothing.
+//! What arguments mean, or why they mean nothing.
 ghost use Rattle.std.specs.Prelude.{map, string_bytes};
 ghost use Rattle.command_words.specs.Jobctl as spec;
 ghost use Rattle.command_words.specs.Jobd.{daemon_meant};
@@ -7,9 +7,9 @@ ghost use Rattle.launchctl_words.specs.Saying.{Says};
 use command_words::{DaemonCommand, WordFault, Words, control_command, daemon_command};
 use std::alloc::Global;
 
-/// What the words mean, the program's own name being the first, as launchctl(1) says.
+/// What the arguments mean, the first being the program's own name, as launchctl(1) says.
 ///
-/// Usage: they are no command of jobctl, a LABEL is no label, or a TARGET names none; `explain` gives the text to print
+/// Usage: they do not form a command of jobctl, a LABEL is not a label, or a TARGET names none; `explain` gives the text to print
 /// then.
 pub fn read_words(alloc: Global, words: &[String]) -> Result<Words, WordFault>
     ensures { Says result (spec.meant (map string_bytes words.now)) }
@@ -17,7 +17,7 @@ pub fn read_words(alloc: Global, words: &[String]) -> Result<Words, WordFault>
     read_words_beside(alloc, words, "jobd.sock")
 }
 
-/// The same, but that the socket is `default` if the words name none.
+/// The same, but that the socket is `default` if the arguments name none.
 pub fn read_words_beside(alloc: Global, words: &[String], default: &str) -> Result<Words, WordFault>
     ensures { Says result (spec.meant_beside default.now (map string_bytes words.now)) }
 {
@@ -28,9 +28,9 @@ pub fn read_words_beside(alloc: Global, words: &[String], default: &str) -> Resu
     }
 }
 
-/// What the words mean, the program's own name being the first.
+/// What the arguments mean, the first being the program's own name.
 ///
-/// Usage: they are no command of jobd, or both zone options stand; `explain_daemon` gives the text to print then.
+/// Usage: they do not form a command of jobd, or both zone options are given; `explain_daemon` gives the text to print then.
 pub fn read_daemon_words(alloc: Global, words: &[String]) -> Result<DaemonCommand, WordFault>
     ensures { Says result (daemon_meant (map string_bytes words.now)) }
 {

@@ -24,7 +24,7 @@ use Rattle.loaded_jobs.specs.Loads.{refused_with}
 use Rattle.launcher.specs.JournaledLines.{answer_texts}
 use Rattle.launcher.specs.LoadTurns.{is_memory, settings_after, Standing, standing}
 use Rattle.launcher.specs.Inputs.{Incoming, event_of}
-use Rattle.launcher.specs.Hosts.{HostTurnOf, IsSpared, HearsBy, Hears}
+use Rattle.launcher.specs.Hosts.{HostTurnOf, IsSpared, ReceivesBy, Receives}
 
 -- nothing changed at all
 pub spared : (old : Standing) (before : List Setting → Type 0) → IsSpared old old before before
@@ -36,31 +36,31 @@ spared old before = record {
 
 -- ---- by whether memory ran out
 
-pub hears : (event : Incoming) (refusal : Option Refusal) (words : List ℕ) (old new : Standing) (before after : List Setting → Type 0) →
+pub receives : (event : Incoming) (refusal : Option Refusal) (words : List ℕ) (old new : Standing) (before after : List Setting → Type 0) →
     (is_memory refusal ≡ true → IsSpared old new before after × (new.journal ≡ old.journal)) →
     (is_memory refusal ≡ false → (s : State) → IsLed s → KeepsState old.table s → HostTurnOf s event refusal words old new before after) →
-    Hears (Some event) refusal words old new before after
-hears event refusal words old new before after memory other = go (is_memory refusal) refl where
-  go : (b : Bool) → is_memory refusal ≡ b → HearsBy b (Some event) refusal words old new before after
+    Receives (Some event) refusal words old new before after
+receives event refusal words old new before after memory other = go (is_memory refusal) refl where
+  go : (b : Bool) → is_memory refusal ≡ b → ReceivesBy b (Some event) refusal words old new before after
   go true is = memory is
   go false is = other is
 
 -- the reply that was given
 pub as_replied : (event : Option Incoming) (refusal found : Option Refusal) (words told : List ℕ) (old new : Standing) (before after : List Setting → Type 0) → refusal ≡ found → words ≡ told →
-    Hears event found told old new before after → Hears event refusal words old new before after
-as_replied event refusal found words told old new before after same_refusal same_words heard =
-    subst (λ (r : Option Refusal). Hears event r words old new before after) (sym same_refusal) (subst (λ (w : List ℕ). Hears event found w old new before after) (sym same_words) heard)
+    Receives event found told old new before after → Receives event refusal words old new before after
+as_replied event refusal found words told old new before after same_refusal same_words received =
+    subst (λ (r : Option Refusal). Receives event r words old new before after) (sym same_refusal) (subst (λ (w : List ℕ). Receives event found w old new before after) (sym same_words) received)
 
 -- a line that is not an event
-pub unheard : (event : Option Incoming) (refusal : Option Refusal) (words : List ℕ) (old : Standing) (before : List Setting → Type 0) →
-    refusal ≡ Some BadRequest → event ≡ None → Hears event refusal words old old before before
-unheard event refusal words old before is none =
-    subst (λ (r : Option Refusal). Hears event r words old old before before) (sym is)
-    (subst (λ (e : Option Incoming). Hears e (Some BadRequest) words old old before before) (sym none) (refl, spared old before))
+pub not_received : (event : Option Incoming) (refusal : Option Refusal) (words : List ℕ) (old : Standing) (before : List Setting → Type 0) →
+    refusal ≡ Some BadRequest → event ≡ None → Receives event refusal words old old before before
+not_received event refusal words old before is none =
+    subst (λ (r : Option Refusal). Receives event r words old old before before) (sym is)
+    (subst (λ (e : Option Incoming). Receives e (Some BadRequest) words old old before before) (sym none) (refl, spared old before))
 
 -- a line that found no memory
-pub unread : (event : Option Incoming) (refusal : Option Refusal) (words : List ℕ) (old : Standing) (before : List Setting → Type 0) → refusal ≡ Some NoMemory → Hears event refusal words old old before before
-unread event refusal words old before is = subst (λ (r : Option Refusal). Hears event r words old old before before) (sym is) (spared old before, refl)
+pub unread : (event : Option Incoming) (refusal : Option Refusal) (words : List ℕ) (old : Standing) (before : List Setting → Type 0) → refusal ≡ Some NoMemory → Receives event refusal words old old before before
+unread event refusal words old before is = subst (λ (r : Option Refusal). Receives event r words old old before before) (sym is) (spared old before, refl)
 
 -- ---- the flush
 
@@ -76,9 +76,9 @@ spared_flushed old table calls stores m n before after none grew = record {
 }
 
 pub flushed : (event : Option Incoming) (refusal : Option Refusal) (words : List ℕ) (old : Standing) (table : Table) (calls : Option (List ToldCall)) (stores : Option (List StoreCall)) (m n : JournalState) (before after : List Setting → Type 0) → is_memory refusal ≡ false →
-    Hears event refusal words old (standing table calls stores m) before after → Grows m n [] → Hears event refusal words old (standing table calls stores n) before after
-flushed event refusal words old table calls stores m n before after other heard grew = go (is_memory refusal) event other heard where
-  go : (b : Bool) (e : Option Incoming) → b ≡ false → HearsBy b e refusal words old (standing table calls stores m) before after → HearsBy b e refusal words old (standing table calls stores n) before after
+    Receives event refusal words old (standing table calls stores m) before after → Grows m n [] → Receives event refusal words old (standing table calls stores n) before after
+flushed event refusal words old table calls stores m n before after other received grew = go (is_memory refusal) event other received where
+  go : (b : Bool) (e : Option Incoming) → b ≡ false → ReceivesBy b e refusal words old (standing table calls stores m) before after → ReceivesBy b e refusal words old (standing table calls stores n) before after
   go true e other none = cc
   go false None other (is, none) = (is, spared_flushed old table calls stores m n before after none grew)
   go false (Some e) other turned = λ s led keeps.

@@ -1,10 +1,10 @@
 pub mod AcceptingLemmas
 pub mod LoadAskingLemmas
 pub mod SettingAskingLemmas
-pub mod CarryLemmas
+pub mod ExecuteLemmas
 pub mod FinishingLemmas
 pub mod HeaderLemmas
-pub mod HearingLemmas
+pub mod ReceivingLemmas
 pub mod HostsLemmas
 pub mod JournalsLemmas
 pub mod LoadTurnsLemmas

@@ -16,17 +16,17 @@ use Rattle.launcher.specs.Journals.{JournalState, Grows}
 use Rattle.launcher.proofs.JournalsLemmas.{grows_nothing}
 use Rattle.launcher.specs.HostTurns.{IsLed}
 use Rattle.launcher.specs.LoadTurns.{LoadTurnOf, IsUntouched, Standing, is_memory, load_event, settings_after}
-use Rattle.launcher.specs.Hosts.{Hears}
-use Rattle.launcher.proofs.HostsLemmas.{hears, settled, unsettled}
+use Rattle.launcher.specs.Hosts.{Receives}
+use Rattle.launcher.proofs.HostsLemmas.{receives, settled, unsettled}
 
 pub loaded : (load : LoadRequest) (outside : Outside) (refusal : Option Refusal) (words : List ℕ) (old new : Standing) (before after : List Setting → Type 0) →
     (is_memory refusal ≡ true → IsUntouched old.table new.table (told_of old.calls old.stores) (told_of new.calls new.stores)) → (is_memory refusal ≡ true → new.journal ≡ old.journal) →
     (is_memory refusal ≡ false → (s : State) → IsLed s → KeepsState old.table s → LoadTurnOf s load outside refusal old new) →
     ((s : State) → KeepsState old.table s → before s.settings → after (settings_after refusal s (load_event outside load))) →
     (refusal ≡ None → (s : State) → KeepsState old.table s → (outcome s (load_event outside load)).text ≡ words) →
-    Hears (Some (asked (requests.Load load))) refusal words old new before after
+    Receives (Some (asked (requests.Load load))) refusal words old new before after
 loaded load outside refusal words old new before after untouched silent turned stored text =
-    hears (asked (requests.Load load)) refusal words old new before after
+    receives (asked (requests.Load load)) refusal words old new before after
     (λ memory. (
       record {
         untouched = untouched memory;

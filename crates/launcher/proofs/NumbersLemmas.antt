@@ -20,7 +20,7 @@ use Rattle.loaded_jobs.specs.Numbers.{row_name, row_names}
 use Rattle.child_edge.specs.declared.plain.Scripted.{Scripted}
 use Rattle.child_edge.specs.declared.plain.Scripted.TheVariants.{Started, Done, Running, Over, Seen, At, Refused, NoMemory}
 use Rattle.child_edge.specs.Calls.{ToldCall}
-use Rattle.outside.specs.declared.unheard.Unheard.{Unheard}
+use Rattle.outside.specs.declared.pending_answer.PendingAnswer.{PendingAnswer}
 use Rattle.outside.specs.Orders.{call_by, call_of, calls_in, answers_in, spawn_answer}
 use Rattle.history_model.specs.Turns.{JobOrder, wanting}
 use Rattle.history_model.proofs.LabelOrderLemmas.{same_self}
@@ -162,7 +162,7 @@ same-numbers old new same = λ label before after was is.
 
 -- ---- answers to orders
 
-pub theirs-append : (names : List Name) (xs ys : List JobOrder) (ps qs : List Unheard) → AreTheirs names xs ps → AreTheirs names ys qs → AreTheirs names (xs ++ ys) (ps ++ qs)
+pub theirs-append : (names : List Name) (xs ys : List JobOrder) (ps qs : List PendingAnswer) → AreTheirs names xs ps → AreTheirs names ys qs → AreTheirs names (xs ++ ys) (ps ++ qs)
 theirs-append names [] ys [] qs a b = b
 theirs-append names [] ys (p ∷ ps) qs a b = absurd a
 theirs-append names (x ∷ xs) ys [] qs a b = absurd a

@@ -18,7 +18,7 @@ use Rattle.job_table.specs.declared.take.Taken.{Taken}
 use Rattle.launcher.specs.AtOnce.{NamesStay}
 use Rattle.launcher.specs.Inputs.{takes_none}
 use Rattle.history_model.specs.Acceptance.{refusal_in}
-use Rattle.history_model.specs.Step.{Outcome, outcome, outcome_by, orders_of, refused, step, step_by, heard_one, taken}
+use Rattle.history_model.specs.Step.{Outcome, outcome, outcome_by, orders_of, refused, step, step_by, received_one, taken}
 use Rattle.history_model.specs.MachineLaws.{labels_of}
 use Rattle.history_model.proofs.StepLemmas.{IsGood}
 use Rattle.loaded_jobs.specs.Tables.{Table, Row, Name, IsOnce, is_known, label_of, definition_of_number}
@@ -29,18 +29,18 @@ use Rattle.history_model.specs.declared.Refusal.TheVariants.{NoMemory}
 use Rattle.job_table.specs.Ends.{AreKnown, IsAnswer, Visits, Numbers, names_in}
 use Rattle.loaded_jobs.specs.Numbers.{row_names, IsNumbered}
 use Rattle.job_table.specs.declared.Step.{Step}
-use Rattle.outside.specs.declared.unheard.Unheard.{Unheard}
+use Rattle.outside.specs.declared.pending_answer.PendingAnswer.{PendingAnswer}
 use Rattle.outside.specs.Orders.{answers_in}
 use Rattle.history_model.specs.Turns.{JobOrder, wanting, is_answer}
 use Rattle.history_model.proofs.TurnsLemmas.{IsTurning, turning-step}
-use Rattle.history_model.proofs.LabelOrderLemmas.{heard_one-labels, same_self, order-run, all-stays}
-use Rattle.launcher.specs.HostTurns.{AreNumbered, Carried, orders_lent, IsUncalled, answer_event, AreTheirs, IsLabel, IsOrderly, IsWaiting, HappensTo, Happens, Handled, trace}
+use Rattle.history_model.proofs.LabelOrderLemmas.{received_one-labels, same_self, order-run, all-stays}
+use Rattle.launcher.specs.HostTurns.{AreNumbered, Executed, orders_lent, IsUncalled, answer_event, AreTheirs, IsLabel, IsOrderly, IsWaiting, HappensTo, Happens, Handled, trace}
 use Rattle.loaded_jobs.specs.Loads.{refused_with}
 use Rattle.job_core.specs.Memory.{NeedsNoMemory}
 use Rattle.ctl_protocol.specs.EventWriter.{event_line}
 use Rattle.launcher.specs.Journals.{JournalState, Grows}
 use Rattle.launcher.specs.JournaledLines.{journaled_answer}
-use Rattle.launcher.proofs.CarryLemmas.{none_carried}
+use Rattle.launcher.proofs.ExecuteLemmas.{none_carried}
 use Rattle.child_edge.proofs.CallsLemmas.{tells_nothing}
 use Rattle.launcher.proofs.NumbersLemmas.{AreNamed, rows-named, label-is, named-next, orders-known, once-number, loaded, keeps-numbers, same-numbers, theirs-append, made-theirs}
 use Rattle.child_edge.specs.Calls.{ToldCall}
@@ -48,10 +48,10 @@ use Rattle.loaded_jobs.proofs.OutcomesLemmas.{resting}
 use Rattle.loaded_jobs.proofs.RestLemmas.{rests-with_orders}
 
 -- what the table answered, and the orders that were then carried out
-pub happens : (e : Event) (old new : Table) (result : Result Step Refusal) (before after : List Unheard) (told told' : Option (List ToldCall)) →
-    IsAnswer e old result → IfOk result AreKnown → IsNextTable e old new × Visits result old new × Numbers result old new → Carried (orders_lent result) before after told told' →
+pub happens : (e : Event) (old new : Table) (result : Result Step Refusal) (before after : List PendingAnswer) (told told' : Option (List ToldCall)) →
+    IsAnswer e old result → IfOk result AreKnown → IsNextTable e old new × Visits result old new × Numbers result old new → Executed (orders_lent result) before after told told' →
     Happens e (refused_with result) old new before after told told'
-happens e old new (Ok lent) before after told told' answer known ends carried = λ s keeps.
+happens e old new (Ok lent) before after told told' answer known ends executed = λ s keeps.
     let numbers = ends.2 in
     let names : names_in lent ≡ row_names old.rows = numbers.2 ∙ numbers.1 in
     let all : list_all (is_known (row_names old.rows)) lent.orders.now ≡ true = subst (λ ns. list_all (is_known ns) lent.orders.now ≡ true) names known in
@@ -62,7 +62,7 @@ happens e old new (Ok lent) before after told told' answer known ends carried = 
     record {
       begins = record {
         orders = lent.orders.now;
-        carried = carried;
+        executed = executed;
         kept = ends.0 s keeps;
         replies = ap (λ o. o.refusal) (answer s keeps);
         own = λ none. record { once = numbers.0.once; named = numbers.0.named };
@@ -78,10 +78,10 @@ happens e old new (Ok lent) before after told told' answer known ends carried = 
             orders_known.1,
           );
     }
-happens e old new (Err refusal) before after told told' answer known ends carried = λ s keeps. record {
+happens e old new (Err refusal) before after told told' answer known ends executed = λ s keeps. record {
   begins = record {
     orders = [];
-    carried = carried;
+    executed = executed;
     kept = ends.0 s keeps;
     replies = ap (λ o. o.refusal) (answer s keeps);
     own = λ none. cc;
@@ -110,10 +110,10 @@ orders-none table s e range keeps same = go (refusal_in s e) where
   go None = ap (λ (t : State). flat_map orders_of t.jobs) same ∙ (rests-with_orders table s range keeps).1
 
 -- what the table took in, and the orders that were then carried out
-pub took : (e : journal.Event) (old new : Table) (answer : Taken) (orders : List Order) (before after : List Unheard) (told told' : Option (List ToldCall)) → NamesStay e → NamesGoOn e (Ok answer) old new →
+pub took : (e : journal.Event) (old new : Table) (answer : Taken) (orders : List Order) (before after : List PendingAnswer) (told told' : Option (List ToldCall)) → NamesStay e → NamesGoOn e (Ok answer) old new →
     ((s : State) → KeepsState old s → (((outcome s (machine_event e)).refusal ≡ None) × ((outcome s (machine_event e)).orders ≡ labelled new.names orders)) × KeepsState new (step s (machine_event e))) →
-    list_all (is_known new.names) orders ≡ true → IsNumbered new → old.reading.up ≤ MAX_UP → Carried orders before after told told' → Happens (machine_event e) None old new before after told told'
-took e old new answer orders before after told told' stay names out known numbered range carried = go (stay answer old new names) where
+    list_all (is_known new.names) orders ≡ true → IsNumbered new → old.reading.up ≤ MAX_UP → Executed orders before after told told' → Happens (machine_event e) None old new before after told told'
+took e old new answer orders before after told told' stay names out known numbered range executed = go (stay answer old new names) where
   here : AreNumbered new.names new
   here = record { once = numbered.once; named = numbered.named }
 
@@ -126,7 +126,7 @@ took e old new answer orders before after told told' stay names out known number
       record {
         begins = record {
           orders = orders;
-          carried = carried;
+          executed = executed;
           kept = did.1;
           replies = did.0.0;
           own = λ none. here;
@@ -149,7 +149,7 @@ took e old new answer orders before after told told' stay names out known number
       record {
         begins = record {
           orders = orders;
-          carried = carried;
+          executed = executed;
           kept = did.1;
           replies = did.0.0;
           own = λ none. here;
@@ -166,13 +166,13 @@ took e old new answer orders before after told told' stay names out known number
       }
 
 -- what was refused carried out nothing
-pub refused-taking : (e : Event) (refusal : Refusal) (old new : Table) (before : List Unheard) (told : Option (List ToldCall)) → new.rows ≡ old.rows → Steps e old (refused refusal) new → Happens e (Some refusal) old new before before told told
+pub refused-taking : (e : Event) (refusal : Refusal) (old new : Table) (before : List PendingAnswer) (told : Option (List ToldCall)) → new.rows ≡ old.rows → Steps e old (refused refusal) new → Happens e (Some refusal) old new before before told told
 refused-taking e refusal old new before told rows steps = λ s keeps.
     let did = steps s keeps in
     record {
       begins = record {
         orders = [];
-        carried = none_carried before told;
+        executed = none_carried before told;
         kept = did.1;
         replies = ap (λ (o : Outcome). o.refusal) did.0;
         own = λ none. cc;
@@ -184,7 +184,7 @@ refused-taking e refusal old new before told rows steps = λ s keeps.
       by_label = λ ns numbers. (record { once = numbers.once; named = subst (AreNamed ns) (sym rows) numbers.named }, sym (ap (λ (o : Outcome). o.orders) did.0), refl);
     }
 
-pub not-taken : (e : Event) (refusal : Refusal) (old new : Table) (before : List Unheard) (told : Option (List ToldCall)) → new.rows ≡ old.rows → Takes e old (Err refusal) new →
+pub not-taken : (e : Event) (refusal : Refusal) (old new : Table) (before : List PendingAnswer) (told : Option (List ToldCall)) → new.rows ≡ old.rows → Takes e old (Err refusal) new →
     UnlessMemory {A = List ℕ} (Err refusal) (Happens e (Some refusal) old new before before told told)
 not-taken e NoMemory old new before told rows takes = tt
 not-taken e _ old new before told rows takes = refused-taking e _ old new before told rows takes
@@ -217,11 +217,11 @@ pub wanted : (e : journal.Event) (table : Table) (refusal : Refusal) → WantsMe
 wanted e table refusal want is = wants e table (Err refusal) want (ap Err (same-refusal refusal NoMemory is))
 
 -- what is passed on of an answer, which needs no memory
-pub answer-on : (e : Event) (old new : Table) (lent : Result Step Refusal) (result : Result (Unit {0}) Refusal) (before after : List Unheard) (told told' : Option (List ToldCall)) →
+pub answer-on : (e : Event) (old new : Table) (lent : Result Step Refusal) (result : Result (Unit {0}) Refusal) (before after : List PendingAnswer) (told told' : Option (List ToldCall)) →
     refused_with result ≡ refused_with lent → IsAnswer e old lent → IfOk lent AreKnown → IsNextTable e old new × Visits lent old new × Numbers lent old new →
-    Carried (orders_lent lent) before after told told' → Happens e (refused_with result) old new before after told told'
-answer-on e old new lent result before after told told' same answer known ends carried =
-    subst (λ r. Happens e r old new before after told told') (sym same) (happens e old new lent before after told told' answer known ends carried)
+    Executed (orders_lent lent) before after told told' → Happens e (refused_with result) old new before after told told'
+answer-on e old new lent result before after told told' same answer known ends executed =
+    subst (λ r. Happens e r old new before after told told') (sym same) (happens e old new lent before after told told' answer known ends executed)
 
 pub refused-rows : (old new : Table) (lent : Result Step Refusal) (result : Result (Unit {0}) Refusal) → refused_with result ≡ refused_with lent → Visits lent old new → OnErr result (new.rows ≡ old.rows)
 refused-rows old new lent (Ok done) same visits = tt
@@ -233,7 +233,7 @@ refused-rows old new (Err refusal) (Err other) same visits = visits.0
 pub good : (table : Table) (s : State) → KeepsState table s → IsOrderly s → IsGood s
 good table s keeps orderly = record { range = orderly.range; rests = resting s.reading table.rows s.jobs keeps.jobs keeps.rests }
 
-pub turning : (table : Table) (s : State) (names : List Name) (waits : List JobOrder) (pending : List Unheard) → IsWaiting table s names waits pending → IsTurning s waits
+pub turning : (table : Table) (s : State) (names : List Name) (waits : List JobOrder) (pending : List PendingAnswer) → IsWaiting table s names waits pending → IsTurning s waits
 turning table s names waits pending is = record { good = good table s is.keeps is.orderly; order = is.orderly.order; fresh = is.fresh; heavy = is.heavy }
 
 -- an answer leaves the clock reading, and no label comes
@@ -249,10 +249,10 @@ orderly-next s label x is = record {
 
   labels : (o : Option Refusal) → AllByRecursion IsLabel (labels_of (step_by o s (OfJob label x)).jobs)
   labels (Some refusal) = is.labels
-  labels None = all-stays IsLabel (heard_one label x s.jobs) (subst (AllByRecursion IsLabel) (sym (heard_one-labels label x s.jobs)) is.labels)
+  labels None = all-stays IsLabel (received_one label x s.jobs) (subst (AllByRecursion IsLabel) (sym (received_one-labels label x s.jobs)) is.labels)
 
 -- the number of a job that a table holds stands for its label in names that know the jobs
-stands : (at : Reading) (names table : List Name) (pending : Unheard) (job_order : JobOrder) (t : History) (rows : List Row) (jobs : List Job) → KeepsJobs at rows jobs → IsOnce names → AreNamed names rows →
+stands : (at : Reading) (names table : List Name) (pending : PendingAnswer) (job_order : JobOrder) (t : History) (rows : List Row) (jobs : List Job) → KeepsJobs at rows jobs → IsOnce names → AreNamed names rows →
     AreNamed table rows → AllByRecursion IsLabel (labels_of jobs) → past_in (first (filter (is_of job_order.0) jobs)) ≡ Some t →
     ((d : Described) × (definition_of_number names pending.job ≡ Some d) × (d.label ≡ job_order.0)) → label_of table pending.job ≡ job_order.0
 stands at names table pending job_order t rows jobs keeps once here there short is own =
@@ -267,19 +267,19 @@ still-named (Ok done) old new same numbered loaded = (loaded refl).named
 still-named (Err refusal) old new same numbered loaded = subst (AreNamed new.names) same numbered.named
 
 -- the answer goes to its job, and then those that it ordered wait after the others
-pub handled : (result : Result (Unit {0}) Refusal) (old new : Table) (before after : List Unheard) (told told' : Option (List ToldCall)) (written written' : JournalState) (pending : Unheard) (said : Label) →
+pub handled : (result : Result (Unit {0}) Refusal) (old new : Table) (before after : List PendingAnswer) (told told' : Option (List ToldCall)) (written written' : JournalState) (pending : PendingAnswer) (said : Label) →
     said ≡ label_of new.names pending.job → IsNumbered old → IsNumbered new → IsUtf8 said → Happens (answer_event old.names pending) (refused_with result) old new before after told told' →
     OnErr result (new.rows ≡ old.rows) → Grows written written' (event_line (journaled_answer said pending.answer)) →
-    (s : State) (names : List Name) (job_order : JobOrder) (waits : List JobOrder) (rest : List Unheard) → IsWaiting old s names (job_order ∷ waits) (pending ∷ rest) →
+    (s : State) (names : List Name) (job_order : JobOrder) (waits : List JobOrder) (rest : List PendingAnswer) → IsWaiting old s names (job_order ∷ waits) (pending ∷ rest) →
     Handled s names job_order waits pending rest before after new (trace told written) (trace told' written')
 handled result old new before after told told' written written' pending said looked numbered known text happened same noted s names job_order waits rest is =
     let own : label_of names pending.job ≡ job_order.0 = label-is names pending.job is.theirs.0.0 is.theirs.0.1 ∙ is.theirs.0.2 in
     let named_by : (table : List Name) → AreNamed table old.rows → label_of table pending.job ≡ job_order.0 =
     λ table there. stands s.reading names table pending job_order _ old.rows s.jobs is.keeps.jobs is.numbers.once is.numbers.named there is.orderly.labels is.fresh.0.1 is.theirs.0 in
-    let heard : label_of old.names pending.job ≡ label_of names pending.job = named_by old.names numbered.named ∙ sym own in
+    let received : label_of old.names pending.job ≡ label_of names pending.job = named_by old.names numbered.named ∙ sym own in
     let e : Event = answer_event names pending in
     let did : HappensTo s e (refused_with result) old new before after told told' =
-    subst (λ (l : Label). HappensTo s (OfJob l (Answered pending.answer)) (refused_with result) old new before after told told') heard (happened s is.keeps) in
+    subst (λ (l : Label). HappensTo s (OfJob l (Answered pending.answer)) (refused_with result) old new before after told told') received (happened s is.keeps) in
     let after_it : AreNamed new.names old.rows = still-named result old new same known did.loaded in
     let told_as : said ≡ label_of names pending.job = looked ∙ named_by new.names after_it ∙ sym own in
     let short : IsLabel job_order.0 = (loaded s.reading names old.names job_order.0 _ old.rows s.jobs is.keeps.jobs is.numbers.named numbered.named is.orderly.labels is.fresh.0.1).short in
@@ -288,7 +288,7 @@ handled result old new before after told told' written written' pending said loo
     let next = turning-step s job_order waits e (turning old s names (job_order ∷ waits) (pending ∷ rest) is) fits in
     record {
       orders = did.begins.orders;
-      carried = did.begins.carried;
+      executed = did.begins.executed;
       ordered = ordered.1;
       waiting = λ made calls. record {
         keeps = did.begins.kept;

@@ -14,9 +14,9 @@ use Rattle.launcher.proofs.JournalsLemmas.{grows_nothing}
 use Rattle.launcher.specs.HostTurns.{IsLed}
 use Rattle.launcher.specs.JournaledLines.{setting_asked}
 use Rattle.launcher.specs.LoadTurns.{SetTurnOf, IsUntouched, Standing, is_memory, settings_after}
-use Rattle.launcher.specs.Hosts.{HostTurnOf, IsOwn, Hears}
+use Rattle.launcher.specs.Hosts.{HostTurnOf, IsOwn, Receives}
 use Rattle.launcher.specs.Inputs.{asked}
-use Rattle.launcher.proofs.HostsLemmas.{hears, wordless, settled, unsettled}
+use Rattle.launcher.proofs.HostsLemmas.{receives, wordless, settled, unsettled}
 
 -- a setting asks for no job
 own_none : (label : Label) (disabled unload : Bool) (names : List Name) → IsOwn (asked (setting_asked label disabled unload)) names 0
@@ -80,9 +80,9 @@ pub changed : (label : Label) (disabled unload kept : Bool) (refusal : Option Re
     (is_memory refusal ≡ true → IsUntouched old.table new.table (told_of old.calls old.stores) (told_of new.calls new.stores)) → (is_memory refusal ≡ true → new.journal ≡ old.journal) →
     (is_memory refusal ≡ false → (s : State) → IsLed s → KeepsState old.table s → SetTurnOf s label disabled unload kept refusal old new) →
     ((s : State) → KeepsState old.table s → before s.settings → after (settings_after refusal s (set_of label disabled unload kept))) →
-    Hears (Some (asked (setting_asked label disabled unload))) refusal [] old new before after
+    Receives (Some (asked (setting_asked label disabled unload))) refusal [] old new before after
 changed label disabled unload kept refusal old new before after untouched silent turned stored =
-    hears (asked (setting_asked label disabled unload)) refusal [] old new before after
+    receives (asked (setting_asked label disabled unload)) refusal [] old new before after
     (λ memory. (
       record {
         untouched = untouched memory;

@@ -9,7 +9,7 @@ use Rattle.loaded_jobs.specs.Tables.{Table, Name}
 use Rattle.loaded_jobs.specs.StandsFor.{KeepsState, labelled}
 use Rattle.child_edge.specs.Calls.{Tells, ToldCall}
 use Rattle.child_edge.proofs.CallsLemmas.{tells_append, tells_nothing}
-use Rattle.outside.specs.declared.unheard.Unheard.{Unheard}
+use Rattle.outside.specs.declared.pending_answer.PendingAnswer.{PendingAnswer}
 use Rattle.outside.specs.Orders.{call_of, calls_in, answer_in, answers_in, IsTellablePending}
 use Rattle.std.proofs.lemmas.List.Elements.{filter_map-append}
 use Rattle.std.proofs.lemmas.Grind.{flat_map-append}
@@ -33,7 +33,7 @@ pub orders-snoc : (es : List Event) (e : Event) (s : State) → orders_in (es ++
 orders-snoc [] e s = append-nil (outcome s e).orders
 orders-snoc (x ∷ es) e s = ap (λ os. (outcome s x).orders ++ os) (orders-snoc es e (step s x)) ∙ sym (append_assoc (outcome s x).orders _ _)
 
-pub same-length : (names : List Name) (waits : List JobOrder) (pending : List Unheard) → AreTheirs names waits pending → length pending ≡ length waits
+pub same-length : (names : List Name) (waits : List JobOrder) (pending : List PendingAnswer) → AreTheirs names waits pending → length pending ≡ length waits
 same-length names [] [] theirs = refl
 same-length names [] (p ∷ ps) theirs = absurd theirs
 same-length names (w ∷ ws) [] theirs = absurd theirs
@@ -46,7 +46,7 @@ all-more P (y ∷ ys) x all more = (all.0, all-more P ys x all.1 more)
 
 -- ---- the loop
 
-pub record IsSoFar (s : State) (names : List Name) (first answers : List Unheard) (k : ℕ) (table : Table) (told told' : Option (List ToldCall)) (written written' : JournalState) : Type 0 where
+pub record IsSoFar (s : State) (names : List Name) (first answers : List PendingAnswer) (k : ℕ) (table : Table) (told told' : Option (List ToldCall)) (written written' : JournalState) : Type 0 where
   pub made : List ToldCall
   pub tells : Tells told made told'
   pub all : answers ≡ first ++ answers_in made
@@ -60,7 +60,7 @@ pub record IsSoFar (s : State) (names : List Name) (first answers : List Unheard
   pub fits : k + weigh_orders waits ≤ 3 * MAX_JOBS
   pub named : AllByRecursion (IsNamedIn names) (take k answers)
 
-pub so-far-start : (s : State) (names : List Name) (waits : List JobOrder) (first : List Unheard) (table : Table) (told : Option (List ToldCall)) (written : JournalState) →
+pub so-far-start : (s : State) (names : List Name) (waits : List JobOrder) (first : List PendingAnswer) (table : Table) (told : Option (List ToldCall)) (written : JournalState) →
     IsWaiting table s names waits first → weigh_orders waits ≤ 3 * MAX_JOBS → IsSoFar s names first first 0 table told told written written
 so-far-start s names waits first table told written waiting fits = record {
   made = [];
@@ -77,7 +77,7 @@ so-far-start s names waits first table told written waiting fits = record {
   named = tt;
 }
 
-pub so-far-end : (s : State) (names : List Name) (first answers : List Unheard) (k : ℕ) (table : Table) (told told' : Option (List ToldCall)) (written written' : JournalState) →
+pub so-far-end : (s : State) (names : List Name) (first answers : List PendingAnswer) (k : ℕ) (table : Table) (told told' : Option (List ToldCall)) (written written' : JournalState) →
     IsSoFar s names first answers k table told told' written written' → length answers ≤ k → AllByRecursion IsTellablePending answers → Settled s names first answers table (trace told written) (trace told' written')
 so-far-end s names first answers k table told told' written written' far all tellable =
     let whole : take k answers ≡ answers = take_all k answers all in
@@ -97,16 +97,16 @@ so-far-end s names first answers k table told told' written written' far all tel
     }
 
 -- one more answer
-pub so-far-next : (s : State) (names : List Name) (first answers answers' : List Unheard) (k : ℕ) (d : Unheard) (table table' : Table) (told told' told'' : Option (List ToldCall)) (written written' written'' : JournalState) → k < length answers →
+pub so-far-next : (s : State) (names : List Name) (first answers answers' : List PendingAnswer) (k : ℕ) (d : PendingAnswer) (table table' : Table) (told told' told'' : Option (List ToldCall)) (written written' written'' : JournalState) → k < length answers →
     IsSoFar s names first answers k table told told' written written' →
-    ((t : State) (ns : List Name) (job_order : JobOrder) (waits : List JobOrder) (rest : List Unheard) → IsWaiting table t ns (job_order ∷ waits) (get_or answers k d ∷ rest) →
+    ((t : State) (ns : List Name) (job_order : JobOrder) (waits : List JobOrder) (rest : List PendingAnswer) → IsWaiting table t ns (job_order ∷ waits) (get_or answers k d ∷ rest) →
     Handled t ns job_order waits (get_or answers k d) rest answers answers' table' (trace told' written') (trace told'' written'')) →
     IsSoFar s names first answers' (k + 1) table' told told'' written written''
 so-far-next s names first answers answers' k d table table' told told' told'' written written' written'' in_range far handles = go far.waits far.fits (subst (IsWaiting table t names far.waits) here far.waiting) where
   t : State
   t = run (map (answer_event names) (take k answers)) s
 
-  p : Unheard
+  p : PendingAnswer
   p = get_or answers k d
 
   e : Event
@@ -119,15 +119,15 @@ so-far-next s names first answers answers' k d table table' told told' told'' wr
   go [] fits waiting = absurd waiting.theirs
   go (job_order ∷ waits) fits waiting =
       let did = handles t names job_order waits (drop (suc k) answers) waiting in
-      let made : List ToldCall = did.carried.entries in
-      let next = did.waiting made did.carried.calls in
+      let made : List ToldCall = did.executed.entries in
+      let next = did.waiting made did.executed.calls in
       let new : List JobOrder = wanting (outcome t e).orders in
       let many : length (drop (suc k) answers ++ answers_in made) ≡ length (waits ++ new) = same-length names (waits ++ new) (drop (suc k) answers ++ answers_in made) next.theirs in
       let heavy : length (waits ++ new) ≤ weigh_orders (waits ++ new) = length-heavy (waits ++ new) next.heavy in
       let less : weigh_orders (waits ++ new) + 1 ≤ weigh_orders (job_order ∷ waits) = omega (arith, weigh-append waits new, did.lighter) in
       let left : length answers ≡ k + 1 + length (drop (suc k) answers) = omega (arith, length-drop (suc k) answers, in_range) in
       let enough : length answers + length (answers_in made) ≤ 3 * MAX_JOBS = omega (arith, many, heavy, less, fits, left, length-append (drop (suc k) answers) (answers_in made)) in
-      let grown : answers' ≡ answers ++ answers_in made = did.carried.kept enough in
+      let grown : answers' ≡ answers ++ answers_in made = did.executed.kept enough in
       let taken : take (k + 1) answers' ≡ take k answers ++ p ∷ [] =
       ap (take (k + 1)) grown ∙ take-append-le (k + 1) answers (answers_in made) (omega (arith, in_range)) ∙ take_more answers k d in_range in
       let events : map (answer_event names) (take (k + 1) answers') ≡ map (answer_event names) (take k answers) ++ e ∷ [] = ap (map (answer_event names)) taken ∙ map-append (answer_event names) (take k answers) (p ∷ []) in
@@ -137,10 +137,10 @@ so-far-next s names first answers answers' k d table table' told told' told'' wr
       ap (drop (k + 1)) grown ∙ drop-append-le (k + 1) answers (answers_in made) (omega (arith, in_range)) ∙ ap (λ n. drop n answers ++ answers_in made) (add-one k) in
       record {
         made = far.made ++ made;
-        tells = tells_append told told' told'' far.made made far.tells did.carried.tells;
+        tells = tells_append told told' told'' far.made made far.tells did.executed.tells;
         all = grown ∙ ap (λ xs. xs ++ answers_in made) far.all ∙ append_assoc first (answers_in far.made) (answers_in made) ∙ ap (λ xs. first ++ xs) (sym (filter_map-append answer_in far.made made));
         orders = far.orders ++ did.orders;
-        calls = map-append (λ x. x.0) far.made made ∙ (λ i. far.calls i ++ did.carried.calls i) ∙ sym (map-append call_of far.orders did.orders);
+        calls = map-append (λ x. x.0) far.made made ∙ (λ i. far.calls i ++ did.executed.calls i) ∙ sym (map-append call_of far.orders did.orders);
         by_label = map-append _ far.orders did.orders ∙ (λ i. far.by_label i ++ did.ordered i) ∙ sym (orders-snoc (map (answer_event names) (take k answers)) e s) ∙ ap (λ es. orders_in es s) (sym events);
         noted = subst (Grows written written'') (sym texts) (grows_append written written' written'' (answer_texts names (take k answers)) (answer_text names p) far.noted did.noted);
         waits = waits ++ new;
@@ -152,12 +152,12 @@ so-far-next s names first answers answers' k d table table' told told' told'' wr
         named = subst (AllByRecursion (IsNamedIn names)) (sym taken) (all-more (IsNamedIn names) (take k answers) p far.named did.named);
       }
 
-abbrev pub Handles : Table → Table → List Unheard → List Unheard → Option (List ToldCall) → Option (List ToldCall) → JournalState → JournalState → Unheard → Type 0
+abbrev pub Handles : Table → Table → List PendingAnswer → List PendingAnswer → Option (List ToldCall) → Option (List ToldCall) → JournalState → JournalState → PendingAnswer → Type 0
 Handles table table' answers answers' told' told'' written' written'' p =
-    (t : State) (ns : List Name) (job_order : JobOrder) (waits : List JobOrder) (rest : List Unheard) → IsWaiting table t ns (job_order ∷ waits) (p ∷ rest) →
+    (t : State) (ns : List Name) (job_order : JobOrder) (waits : List JobOrder) (rest : List PendingAnswer) → IsWaiting table t ns (job_order ∷ waits) (p ∷ rest) →
     Handled t ns job_order waits p rest answers answers' table' (trace told' written') (trace told'' written'')
 
-pub so-far-turn : (s : State) (names : List Name) (first answers answers' : List Unheard) (k : ℕ) (p : Unheard) (table table' : Table) (told told' told'' : Option (List ToldCall)) (written written' written'' : JournalState) → k < length answers →
+pub so-far-turn : (s : State) (names : List Name) (first answers answers' : List PendingAnswer) (k : ℕ) (p : PendingAnswer) (table table' : Table) (told told' told'' : Option (List ToldCall)) (written written' written'' : JournalState) → k < length answers →
     p ≡ get_or answers k p → IsSoFar s names first answers k table told told' written written' → Handles table table' answers answers' told' told'' written' written'' p →
     IsSoFar s names first answers' (k + 1) table' told told'' written written''
 so-far-turn s names first answers answers' k p table table' told told' told'' written written' written'' in_range is far handles =

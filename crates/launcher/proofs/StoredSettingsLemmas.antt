@@ -13,18 +13,18 @@ use Rattle.job_defs.specs.Keys.{def_of}
 use Rattle.loaded_jobs.specs.Tables.{Name}
 use Rattle.loaded_jobs.specs.Loads.{refusal_outside}
 use Rattle.job_table.specs.LoadOfBytes.{load_of_bytes, given_in}
-use Rattle.outside.specs.declared.unheard.Unheard.{Unheard}
+use Rattle.outside.specs.declared.pending_answer.PendingAnswer.{PendingAnswer}
 use Rattle.outside.specs.Orders.{answers_in}
 use Rattle.launcher.specs.HostTurns.{answer_event, answer_events}
 use Rattle.child_edge.specs.Calls.{ToldCall}
 
-answer-settings : (names : List Name) (p : Unheard) (s : State) → (step s (answer_event names p)).settings ≡ s.settings
+answer-settings : (names : List Name) (p : PendingAnswer) (s : State) → (step s (answer_event names p)).settings ≡ s.settings
 answer-settings names p s = go (refusal_in s (answer_event names p)) where
   go : (o : Option Refusal) → (step_by o s (answer_event names p)).settings ≡ s.settings
   go None = refl
   go (Some refusal) = refl
 
-answers-settings : (names : List Name) (ps : List Unheard) (s : State) → (run (map (answer_event names) ps) s).settings ≡ s.settings
+answers-settings : (names : List Name) (ps : List PendingAnswer) (s : State) → (run (map (answer_event names) ps) s).settings ≡ s.settings
 answers-settings names [] s = refl
 answers-settings names (p ∷ ps) s = answers-settings names ps (step s (answer_event names p)) ∙ answer-settings names p s
 

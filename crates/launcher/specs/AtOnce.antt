@@ -12,6 +12,7 @@ use Rattle.loaded_jobs.specs.Numbers.{row_names}
 use Rattle.job_table.specs.Taking.{NamesGoOn, machine_event}
 use Rattle.job_table.specs.declared.take.Taken.{Taken}
 use Rattle.outside.specs.Asking.{Told}
+use Rattle.launcher.specs.Accepting.{is_load}
 use Rattle.launcher.specs.HostTurns.{NamesLabel}
 use Rattle.launcher.specs.LoadTurns.{AsksNothing}
 use Rattle.launcher.specs.Inputs.{Incoming, event_of}
@@ -24,14 +25,14 @@ NamesStay e = (answer : Taken) (old new : Table) → NamesGoOn e (Ok answer) old
     (new.names ≡ row_names old.rows)
     ⊎ ((new ≡ old) × ((s : State) → taken s (machine_event e) ≡ s))
 
--- what came is this event, for which nothing is asked of the outside: it names no new job, and sets
--- nothing
+-- what came is this event, for which nothing is asked of the outside: it loads no job, and sets nothing
 pub record IsAtOnce (incoming : Incoming) (e : journal.Event) : Type 0 where
   pub same : event_of unasked incoming ≡ e
   pub asks : (s : State) (before after : Told) → AsksNothing unasked before after →
       AsksOutside s incoming 0 unasked before after
   pub own : (names : List Name) → IsOwn incoming names 0
   pub unset : label_asked (Some incoming) ≡ None
+  pub unloaded : is_load (Some incoming) ≡ false
   pub settings : (s : State) → (step s (machine_event e)).settings ≡ s.settings
   pub label : NamesLabel (machine_event e)
   pub names : NamesStay e

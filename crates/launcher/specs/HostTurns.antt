@@ -18,7 +18,7 @@ use Rattle.loaded_jobs.specs.TableOutcomes.{IsSameFor}
 use Rattle.job_table.specs.Ends.{AreKnown}
 use Rattle.job_table.specs.declared.Step.{Step}
 use Rattle.child_edge.specs.Calls.{Tells, ToldCall}
-use Rattle.outside.specs.declared.unheard.Unheard.{Unheard}
+use Rattle.outside.specs.declared.pending_answer.PendingAnswer.{PendingAnswer}
 use Rattle.launcher.specs.Journals.{JournalState, Grows}
 use Rattle.launcher.specs.JournaledLines.{answer_text, answer_texts}
 use Rattle.outside.specs.Orders.{call_of, calls_in, answers_in, IsTellablePending}
@@ -38,7 +38,7 @@ trace calls journal = record { calls = calls; journal = journal }
 
 -- the orders were carried out one after another, each by its one call, and if there is room for
 -- them the answers are kept
-pub record Carried (orders : List Order) (old new : List Unheard)
+pub record Executed (orders : List Order) (old new : List PendingAnswer)
     (told told' : Option (List ToldCall)) : Type 0 where
   pub entries : List ToldCall
   pub tells : Tells told entries told'
@@ -59,7 +59,7 @@ AreKnownIn (Err refusal) = Unit {0}
 -- ---- the events of a turn
 
 -- the event that an answer is; a number stands for its job's label
-abbrev pub answer_event : List Name → Unheard → Event
+abbrev pub answer_event : List Name → PendingAnswer → Event
 answer_event names pending = OfJob (label_of names pending.job) (Answered pending.answer)
 
 -- the events that the answers of these calls are
@@ -79,7 +79,7 @@ pub record IsTurn (s : State) (input : Event) (names : List Name) (entries : Lis
 -- ---- in the midst of a turn
 
 -- each answer is that to the order at its place, of the job that its number stands for
-abbrev pub AreTheirs : List Name → List JobOrder → List Unheard → Type 0
+abbrev pub AreTheirs : List Name → List JobOrder → List PendingAnswer → Type 0
 AreTheirs names [] [] = Unit {0}
 AreTheirs names [] (pending ∷ rest) = ⊥
 AreTheirs names (job_order ∷ waits) [] = ⊥
@@ -113,7 +113,7 @@ abbrev pub IsTextLabel : Label → Type 0
 IsTextLabel name = IsLabel name × IsUtf8 name
 
 -- the number of the answer's job stands for such a label
-abbrev pub IsNamedIn : List Name → Unheard → Type 0
+abbrev pub IsNamedIn : List Name → PendingAnswer → Type 0
 IsNamedIn names pending = IsTextLabel (label_of names pending.job)
 
 -- the machine as events lead to it
@@ -125,7 +125,7 @@ pub record IsOrderly (s : State) : Type 0 where
 -- the table stands for a machine that has given these orders, whose answers are still to be made
 -- events
 pub record IsWaiting (table : Table) (s : State) (names : List Name) (waits : List JobOrder)
-    (pending : List Unheard) : Type 0 where
+    (pending : List PendingAnswer) : Type 0 where
   pub keeps : KeepsState table s
   pub orderly : IsOrderly s
   pub fresh : AreFresh s.jobs waits
@@ -136,9 +136,9 @@ pub record IsWaiting (table : Table) (s : State) (names : List Name) (waits : Li
 -- One event happened, and this was its answer: its orders, by number, were carried out. If it
 -- was accepted, the table's own names stand for the jobs after it, and for those that went at it.
 pub record Begins (s : State) (e : Event) (reply : Option Refusal) (new : Table)
-    (before after : List Unheard) (told told' : Option (List ToldCall)) : Type 0 where
+    (before after : List PendingAnswer) (told told' : Option (List ToldCall)) : Type 0 where
   pub orders : List Order
-  pub carried : Carried orders before after told told'
+  pub executed : Executed orders before after told told'
   pub kept : KeepsState new (step s e)
   pub replies : (outcome s e).refusal ≡ reply
   pub own : reply ≡ None → AreNumbered new.names new
@@ -148,7 +148,7 @@ pub record Begins (s : State) (e : Event) (reply : Option Refusal) (new : Table)
 -- one event happened to jobs that were loaded: names that stand for the jobs before it do so after
 -- it, and the table's own are such
 pub record HappensTo (s : State) (e : Event) (reply : Option Refusal) (old new : Table)
-    (before after : List Unheard) (told told' : Option (List ToldCall)) : Type 0 where
+    (before after : List PendingAnswer) (told told' : Option (List ToldCall)) : Type 0 where
   pub begins : Begins s e reply new before after told told'
   pub loaded : reply ≡ None → AreNumbered new.names old
   pub stays : KeepsNumbers old new
@@ -157,17 +157,17 @@ pub record HappensTo (s : State) (e : Event) (reply : Option Refusal) (old new :
       × (list_all (is_known names) begins.orders ≡ true)
 
 -- so it is for each machine that the table represented
-abbrev pub Happens : Event → Option Refusal → Table → Table → List Unheard → List Unheard →
+abbrev pub Happens : Event → Option Refusal → Table → Table → List PendingAnswer → List PendingAnswer →
     Option (List ToldCall) → Option (List ToldCall) → Type 0
 Happens e reply old new before after told told' =
     (s : State) → KeepsState old s → HappensTo s e reply old new before after told told'
 
 -- one answer was made an event, and what it ordered waits after the others
 pub record Handled (s : State) (names : List Name) (job_order : JobOrder) (waits : List JobOrder)
-    (pending : Unheard) (rest answers answers' : List Unheard) (new : Table)
+    (pending : PendingAnswer) (rest answers answers' : List PendingAnswer) (new : Table)
     (before after : Trace) : Type 0 where
   pub orders : List Order
-  pub carried : Carried orders answers answers' before.calls after.calls
+  pub executed : Executed orders answers answers' before.calls after.calls
   pub ordered : labelled names orders ≡ (outcome s (answer_event names pending)).orders
   pub waiting : (made : List ToldCall) → calls_in made ≡ map call_of orders →
       IsWaiting new (step s (answer_event names pending)) names
@@ -178,7 +178,7 @@ pub record Handled (s : State) (names : List Name) (job_order : JobOrder) (waits
       < weight job_order.1
 
 -- each answer was made an event, and none remains; `made` are the calls of these events
-pub record Settled (s : State) (names : List Name) (waited settled : List Unheard) (new : Table)
+pub record Settled (s : State) (names : List Name) (waited settled : List PendingAnswer) (new : Table)
     (before after : Trace) : Type 0 where
   pub made : List ToldCall
   pub tells : Tells before.calls made after.calls

@@ -96,30 +96,30 @@ pub record IsSpared (old new : Standing) (before after : List Setting → Type 0
 
 -- what a call that heard an event leaves; whether memory was wanting comes first, and then the
 -- journal is as it was, open or closed
-abbrev pub HearsBy : Bool → Option Incoming → Option Refusal → List ℕ → Standing → Standing →
+abbrev pub ReceivesBy : Bool → Option Incoming → Option Refusal → List ℕ → Standing → Standing →
     (List Setting → Type 0) → (List Setting → Type 0) → Type 0
-HearsBy true incoming refusal words old new before after =
+ReceivesBy true incoming refusal words old new before after =
     IsSpared old new before after × (new.journal ≡ old.journal)
-HearsBy false None refusal words old new before after =
+ReceivesBy false None refusal words old new before after =
     (refusal ≡ Some BadRequest) × IsSpared old new before after
-HearsBy false (Some incoming) refusal words old new before after =
+ReceivesBy false (Some incoming) refusal words old new before after =
     (s : State) → IsLed s → KeepsState old.table s →
     HostTurnOf s incoming refusal words old new before after
 
 -- An event was heard, or what is none. Want of memory is not an event either. Else there was a turn of
 -- it, for each machine that the table represented.
-abbrev pub Hears : Option Incoming → Option Refusal → List ℕ → Standing → Standing →
+abbrev pub Receives : Option Incoming → Option Refusal → List ℕ → Standing → Standing →
     (List Setting → Type 0) → (List Setting → Type 0) → Type 0
-Hears incoming refusal words old new before after =
-    HearsBy (is_memory refusal) incoming refusal words old new before after
+Receives incoming refusal words old new before after =
+    ReceivesBy (is_memory refusal) incoming refusal words old new before after
 
 -- a launcher heard it: its states before and after are these, by what its outside records, and by what its store
 -- records and holds
-abbrev pub HostHears : {T E W : Type 0} →
+abbrev pub HostReceives : {T E W : Type 0} →
     (E → Option (List ToldCall)) → (T → Option (List StoreCall)) → (T → List Setting → Type 0) →
     Option Incoming → Option Refusal → List ℕ → Host T E W → Host T E W → Type 0
-HostHears calls stores holds incoming refusal words old new =
-    Hears incoming refusal words (stands calls stores old) (stands calls stores new)
+HostReceives calls stores holds incoming refusal words old new =
+    Receives incoming refusal words (stands calls stores old) (stands calls stores new)
     (holds old.store) (holds new.store)
 
 -- ---- the seconds of settings

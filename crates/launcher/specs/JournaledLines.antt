@@ -13,19 +13,19 @@ use Rattle.ctl_protocol.specs.declared.request.Outside.{Outside}
 use Rattle.ctl_protocol.specs.declared.request.Request.{Request}
 use Rattle.ctl_protocol.specs.declared.request.Request.TheVariants as requests
 use Rattle.ctl_protocol.specs.Requests.{event_with}
-use Rattle.outside.specs.declared.unheard.Unheard.{Unheard}
+use Rattle.outside.specs.declared.pending_answer.PendingAnswer.{PendingAnswer}
 
 -- the journal's event of the answer to an order of the label's job
 abbrev pub journaled_answer : Label → Answer → journal.Event
 journaled_answer job answer = journaled.OfJob job (happens.Answered answer)
 
 -- the line of an answer; a number stands for its job's label
-abbrev pub answer_text : List Name → Unheard → List ℕ
+abbrev pub answer_text : List Name → PendingAnswer → List ℕ
 answer_text names pending =
     event_line (journaled_answer (label_of names pending.job) pending.answer)
 
 -- the lines of the answers, in order
-abbrev pub answer_texts : List Name → List Unheard → List ℕ
+abbrev pub answer_texts : List Name → List PendingAnswer → List ℕ
 answer_texts names pending = flat_map (answer_text names) pending
 
 -- ---- loads and settings

@@ -7,5 +7,6 @@ pub mod Journals
 pub mod Lends
 pub mod JournaledLines
 pub mod LoadTurns
+pub mod TakenTurns
 pub mod HostTurns
 pub mod Writable

@@ -4,11 +4,11 @@ ghost use Rattle.std.specs.Prelude.{◌≡◌, ◌<◌, ◌≤◌, ◌*◌, List
 ghost use Rattle.std.specs.Vec.{vec_capacity};
 ghost use Rattle.history_model.specs.declared.TheConstants.{MAX_JOBS};
 ghost use Rattle.std.specs.List.{AllByRecursion};
-ghost use Rattle.outside.specs.declared.unheard.Unheard.{Unheard as Answered};
+ghost use Rattle.outside.specs.declared.pending_answer.PendingAnswer.{PendingAnswer as Answered};
 ghost use Rattle.outside.specs.Orders.{IsTellablePending};
 
 use history_model::MAX_JOBS;
-use outside::Unheard;
+use outside::PendingAnswer;
 use std::alloc::{AllocError, Global};
 use std::marker::Model;
 
@@ -19,7 +19,7 @@ const MOST_ANSWERS: usize = 3 * MAX_JOBS;
 /// their list.
 #[derive(Drop)]
 pub struct AnswerQueue {
-    answers: Vec<Unheard>,
+    answers: Vec<PendingAnswer>,
 }
 
 impl Model for AnswerQueue {
@@ -56,7 +56,7 @@ impl AnswerQueue {
     }
 
     /// The answer at a place, counted from 0. The caller's condition: the place is below the queue's length.
-    pub(crate) fn at(&self, place: usize) -> Unheard
+    pub(crate) fn at(&self, place: usize) -> PendingAnswer
         requires { place < length self.now }
         ensures { result ≡ slice_index_or self.now place result }
     {
@@ -65,7 +65,7 @@ impl AnswerQueue {
 
     /// Puts an answer after the others, if there is room for it. Takes no memory. The caller's condition: a line can
     /// say it.
-    pub(crate) fn keep(&mut self, answer: Unheard)
+    pub(crate) fn keep(&mut self, answer: PendingAnswer)
         requires { IsTellablePending answer }
         ensures { length self.old < 3 * MAX_JOBS → self.new ≡ self.old ++ answer ∷ [] }
     {

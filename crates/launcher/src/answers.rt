@@ -6,22 +6,22 @@ ghost use Rattle.history_model.specs.Machine.{State};
 ghost use Rattle.history_model.specs.Turns.{JobOrder};
 ghost use Rattle.history_model.specs.AwaitedOrders.{weigh_orders};
 ghost use Rattle.loaded_jobs.specs.Tables.{Name};
-ghost use Rattle.outside.specs.declared.unheard.Unheard.{Unheard as Answered};
+ghost use Rattle.outside.specs.declared.pending_answer.PendingAnswer.{PendingAnswer as Answered};
 ghost use Rattle.launcher.specs.HostTurns.{IsWaiting, Handled, Settled, trace};
 
-use crate::events::hear_answer;
+use crate::events::receive_answer;
 use crate::host::Host;
 use crate::lent_facts::{lend_table, lend_text};
 use child_edge::{ChildEdge, SocketEdge};
 use history_model::{Event, JobItem, TextRef};
-use outside::{SettingStore, Unheard};
+use outside::{PendingAnswer, SettingStore};
 use std::alloc::Global;
 use std::io::Write;
 
 impl<T: SettingStore, E: ChildEdge + SocketEdge, W: Write> Host<T, E, W> {
     /// Gives the table one answer by its job's number, which takes no memory, carries out what it orders, and writes
     /// its line.
-    fn handle(&mut self, alloc: Global, pending: Unheard)
+    fn handle(&mut self, alloc: Global, pending: PendingAnswer)
         ensures handled { (s : State) (names : List Name) (job_order : JobOrder)
             (waits : List JobOrder) (rest : List Answered) →
             IsWaiting self.old.table s names (job_order ∷ waits) (pending ∷ rest)
@@ -32,7 +32,7 @@ impl<T: SettingStore, E: ChildEdge + SocketEdge, W: Write> Host<T, E, W> {
         ensures store { self.new.store ≡ self.old.store }
     {
         lend_table(&self.table); // for the proof
-        let _accepted = hear_answer(&mut self.table, &mut self.edge, pending, &mut self.answers);
+        let _accepted = receive_answer(&mut self.table, &mut self.edge, pending, &mut self.answers);
         let label = self.table.last_step().label(pending.job);
         lend_text(label); // for the proof
         let told = Event::OfJob {

@@ -1,12 +1,11 @@
 //! What a control client's line asks.
 
-ghost use Rattle.std.specs.Prelude.{◌≡◌, Some, [], is_none, is_some, true, false};
+ghost use Rattle.std.specs.Prelude.{◌≡◌, Some, true};
 ghost use Rattle.ctl_protocol.specs.declared.request.Request.TheVariants as requests;
 ghost use Rattle.launcher.specs.JournaledLines.{setting_asked};
 ghost use Rattle.launcher.specs.AtOnce.{is_prompt};
-ghost use Rattle.launcher.specs.Hosts.{HostHears, HostStamps};
-ghost use Rattle.launcher.specs.Accepting.{is_accepted_load};
 ghost use Rattle.launcher.specs.Inputs.{asked, asked_by};
+ghost use Rattle.launcher.specs.TakenTurns.{TakesTurn};
 ghost use Rattle.launcher.specs.Writable.{WritesWhat};
 
 use crate::host::Host;
@@ -21,15 +20,11 @@ use std::io::Write;
 
 impl<T: SettingStore, E: ChildEdge + SocketEdge, W: Write> Host<T, E, W> {
     /// A client's line, the newline left out.
-    #[tactic(auto, using(crate::proofs::HostsLemmas::unheard, crate::proofs::HostsLemmas::unread, crate::proofs::StampsLemmas::refused_stamps, crate::proofs::WritableLemmas::no_line_writable, crate::proofs::AcceptingLemmas::accepted_line, crate::proofs::AcceptingLemmas::refused_load))]
+    #[tactic(auto, using(crate::proofs::HostsLemmas::not_received, crate::proofs::HostsLemmas::unread, crate::proofs::StampsLemmas::refused_stamps, crate::proofs::WritableLemmas::no_line_writable, crate::proofs::AcceptingLemmas::refused_load))]
     pub(crate) fn line(&mut self, alloc: Global, line: &[u8]) -> Reply
-        ensures hears { HostHears E.told T.told T.holds (asked_by line.now)
+        ensures turn { TakesTurn E.told T.told T.holds T.stamped (asked_by line.now)
             result.refusal result.text self.old self.new }
-        ensures stamped { HostStamps T.stamped (asked_by line.now)
-            result.refusal self.old self.new }
         ensures writable { WritesWhat result.refusal (asked_by line.now) }
-        ensures quiet { is_some result.refusal ≡ true → result.text ≡ [] }
-        ensures loaded { self.new.has_loaded ≡ is_accepted_load (asked_by line.now) result.refusal }
     {
         self.has_loaded = false;
         let mut room = self.room.take();
@@ -54,13 +49,8 @@ impl<T: SettingStore, E: ChildEdge + SocketEdge, W: Write> Host<T, E, W> {
 
     /// What a client asks. The outside is asked first where it has a say.
     fn ask(&mut self, alloc: Global, request: &Request<'_>) -> Reply
-        ensures hears { HostHears E.told T.told T.holds (Some (asked request.now))
+        ensures turn { TakesTurn E.told T.told T.holds T.stamped (Some (asked request.now))
             result.refusal result.text self.old self.new }
-        ensures stamped { HostStamps T.stamped (Some (asked request.now))
-            result.refusal self.old self.new }
-        ensures quiet { is_some result.refusal ≡ true → result.text ≡ [] }
-        ensures loaded { self.new.has_loaded
-            ≡ is_accepted_load (Some (asked request.now)) result.refusal }
     {
         match request {
             Request::Load(load) => self.ask_load(alloc, load),
@@ -82,12 +72,8 @@ impl<T: SettingStore, E: ChildEdge + SocketEdge, W: Write> Host<T, E, W> {
 
     /// A load.
     fn ask_load(&mut self, alloc: Global, load: &LoadRequest<'_>) -> Reply
-        ensures hears { HostHears E.told T.told T.holds (Some (asked (requests.Load load.now)))
+        ensures turn { TakesTurn E.told T.told T.holds T.stamped (Some (asked (requests.Load load.now)))
             result.refusal result.text self.old self.new }
-        ensures stamped { HostStamps T.stamped (Some (asked (requests.Load load.now)))
-            result.refusal self.old self.new }
-        ensures quiet { is_some result.refusal ≡ true → result.text ≡ [] }
-        ensures loaded { self.new.has_loaded ≡ is_none result.refusal }
     {
         let loaded = self.load(alloc, load);
         let reply = told(alloc, loaded.reply);
@@ -97,14 +83,8 @@ impl<T: SettingStore, E: ChildEdge + SocketEdge, W: Write> Host<T, E, W> {
 
     /// A setting; with `unload` also an unload.
     fn ask_set(&mut self, alloc: Global, job: &str, disabled: bool, unload: bool) -> Reply
-        ensures hears { HostHears E.told T.told T.holds
-            (Some (asked (setting_asked job.now disabled unload)))
+        ensures turn { TakesTurn E.told T.told T.holds T.stamped (Some (asked (setting_asked job.now disabled unload)))
             result.refusal result.text self.old self.new }
-        ensures stamped { HostStamps T.stamped
-            (Some (asked (setting_asked job.now disabled unload)))
-            result.refusal self.old self.new }
-        ensures quiet { is_some result.refusal ≡ true → result.text ≡ [] }
-        ensures loaded { self.new.has_loaded ≡ false }
     {
         let changed = self.set(alloc, job, disabled, unload);
         self.has_loaded = false;
@@ -114,14 +94,10 @@ impl<T: SettingStore, E: ChildEdge + SocketEdge, W: Write> Host<T, E, W> {
     /// What is asked at once: it is an event, and nothing outside is first asked for it.
     fn ask_at_once(&mut self, alloc: Global, request: &Request<'_>) -> Reply
         requires { is_prompt request.now ≡ true }
-        ensures hears { HostHears E.told T.told T.holds (Some (asked request.now))
+        ensures turn { TakesTurn E.told T.told T.holds T.stamped (Some (asked request.now))
             result.refusal result.text self.old self.new }
-        ensures stamped { HostStamps T.stamped (Some (asked request.now))
-            result.refusal self.old self.new }
-        ensures quiet { is_some result.refusal ≡ true → result.text ≡ [] }
-        ensures loaded { self.new.has_loaded ≡ false }
     {
         let event = request.with(Outside::unasked());
-        self.hear_at_once(alloc, &event)
+        self.receive_at_once(alloc, &event)
     }
 }

@@ -14,16 +14,16 @@ ghost use Rattle.loaded_jobs.specs.Loads.{refused_with};
 
 use crate::answer_queue::AnswerQueue;
 use crate::lent_facts::lend_table;
-use crate::orders::{carry_all, carry_step};
+use crate::orders::{execute_all, execute_step};
 use child_edge::{ChildEdge, SocketEdge};
 use history_model::{Event, Refusal, Text};
 use job_table::{JobTable, Taken};
-use outside::Unheard;
+use outside::PendingAnswer;
 use std::alloc::Global;
 
 /// Gives the table what happens, and carries out what it orders; a question orders nothing. The answer is the event's
 /// text. After NoMemory nothing was carried out.
-pub(crate) fn hear<E: ChildEdge + SocketEdge>(
+pub(crate) fn receive<E: ChildEdge + SocketEdge>(
     table: &mut JobTable,
     edge: &mut E,
     alloc: Global,
@@ -42,7 +42,7 @@ pub(crate) fn hear<E: ChildEdge + SocketEdge>(
     lend_table(table); // for the proof
     match table.take(alloc, what) {
         Ok(Taken::Made(text)) => {
-            carry_all(edge, &table.last_step(), answers);
+            execute_all(edge, &table.last_step(), answers);
             Ok(text)
         }
         Ok(Taken::Told(text)) => {
@@ -54,15 +54,15 @@ pub(crate) fn hear<E: ChildEdge + SocketEdge>(
 }
 
 /// Gives the table an answer by its job's number, and carries out what it orders.
-pub(crate) fn hear_answer<E: ChildEdge + SocketEdge>(
+pub(crate) fn receive_answer<E: ChildEdge + SocketEdge>(
     table: &mut JobTable,
     edge: &mut E,
-    pending: Unheard,
+    pending: PendingAnswer,
     answers: &mut AnswerQueue,
 ) -> Result<(), Refusal>
     ensures happens { Happens (answer_event table.old.names pending) (refused_with result) table.old
         table.new answers.old answers.new (E.told edge.old) (E.told edge.new) }
     ensures rows { OnErr result (table.new.rows ≡ table.old.rows) }
 {
-    carry_step(edge, table.answered(pending.job, pending.answer), answers)
+    execute_step(edge, table.answered(pending.job, pending.answer), answers)
 }

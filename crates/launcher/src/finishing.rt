@@ -9,7 +9,7 @@ ghost use Rattle.launcher.specs.HostTurns.{IsLed, NamesLabel, trace};
 ghost use Rattle.launcher.specs.LoadTurns.{Finishes, HasTaken};
 
 use crate::host::Host;
-use crate::orders::carry_all;
+use crate::orders::execute_all;
 use child_edge::{ChildEdge, SocketEdge};
 use outside::SettingStore;
 use std::alloc::Global;
@@ -29,7 +29,7 @@ impl<T: SettingStore, E: ChildEdge + SocketEdge, W: Write> Host<T, E, W> {
             (trace (E.told self.new.edge) self.new.journal) }
         ensures store { self.new.store ≡ self.old.store }
     {
-        carry_all(&mut self.edge, &self.table.last_step(), &mut self.answers);
+        execute_all(&mut self.edge, &self.table.last_step(), &mut self.answers);
         self.settle(alloc);
     }
 }

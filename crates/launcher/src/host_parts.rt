@@ -13,7 +13,7 @@ use crate::host::HostFault;
 use crate::journal::Journal;
 use crate::lent_facts::lend_zone;
 use crate::settings::are_in_order;
-use ctl_protocol::{Header, LineRoom, Settings};
+use ctl_protocol::{Header, HeaderSettings, LineRoom};
 use history_model::Setting;
 use job_table::JobTable;
 use outside::StoreFault;
@@ -48,7 +48,7 @@ pub(crate) fn with_settings(header: Header, settings: Vec<Setting>) -> Header
     Header {
         reading,
         zone,
-        overrides: Settings::new(settings),
+        overrides: HeaderSettings::new(settings),
     }
 }
 

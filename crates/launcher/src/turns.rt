@@ -1,6 +1,6 @@
 //! A turn of the launcher, by what comes to it: what happens is one event, and the answers to all that it orders are the next.
 
-ghost use Rattle.std.specs.Prelude.{◌≡◌, Err, IfOk, Some, [], is_some, true, false};
+ghost use Rattle.std.specs.Prelude.{◌≡◌, Err, IfOk, Some, true, false};
 ghost use Rattle.history_model.specs.declared.Refusal.TheVariants.{NoMemory};
 ghost use Rattle.history_model.specs.declared.event.Event.TheVariants as journaled;
 ghost use Rattle.ctl_protocol.specs.EventWriter.{event_line};
@@ -10,15 +10,14 @@ ghost use Rattle.history_model.specs.Step.{outcome};
 ghost use Rattle.loaded_jobs.specs.StandsFor.{KeepsState};
 ghost use Rattle.loaded_jobs.specs.TableOutcomes.{UnlessMemory};
 ghost use Rattle.job_table.specs.Taking.{machine_event};
-ghost use Rattle.launcher.specs.Hosts.{HostHears, HostStamps};
-ghost use Rattle.launcher.specs.Accepting.{is_accepted_load};
 ghost use Rattle.launcher.specs.Inputs.{Incoming, event_if_label, happened, input_event, takes_none, wants_memory};
 ghost use Rattle.launcher.specs.LoadTurns.{is_memory};
+ghost use Rattle.launcher.specs.TakenTurns.{TakesTurn};
 ghost use Rattle.launcher.specs.AtOnce.{IsAtOnce, NamesStay, is_happening};
 ghost use Rattle.launcher.specs.HostTurns.{Turns, IsUncalled, NamesLabel, trace};
 ghost use Rattle.launcher.specs.Writable.{WritesWhat};
 
-use crate::events::hear;
+use crate::events::receive;
 use crate::host::Host;
 use crate::input::Input;
 use crate::lent_facts::lend_input;
@@ -39,17 +38,12 @@ impl<T: SettingStore, E: ChildEdge + SocketEdge, W: Write> Host<T, E, W> {
     /// an event. NoMemory comes only to a line or a clock reading, before anything was carried out. This too is not an
     /// event, and the journal is then as it was, not even flushed.
     pub fn turn(&mut self, alloc: Global, input: Input<'_>) -> Reply
-        ensures hears { HostHears E.told T.told T.holds (input_event input.entry)
+        ensures turn { TakesTurn E.told T.told T.holds T.stamped (input_event input.entry)
             result.refusal result.text self.old self.new }
-        ensures stamped { HostStamps T.stamped (input_event input.entry)
-            result.refusal self.old self.new }
         ensures writable { WritesWhat result.refusal (input_event input.entry) }
         ensures memory { is_memory result.refusal ≡ true → wants_memory input.entry ≡ true }
-        ensures quiet { is_some result.refusal ≡ true → result.text ≡ [] }
-        ensures loaded { self.new.has_loaded
-            ≡ is_accepted_load (input_event input.entry) result.refusal }
     {
-        let reply = self.hear(alloc, input);
+        let reply = self.receive(alloc, input);
         if is_want(reply.refusal) {
             return reply;
         }
@@ -58,17 +52,11 @@ impl<T: SettingStore, E: ChildEdge + SocketEdge, W: Write> Host<T, E, W> {
     }
 
     /// The turn, without the flush.
-    #[tactic(auto, using(crate::proofs::AcceptingLemmas::label_loads))]
-    fn hear(&mut self, alloc: Global, input: Input<'_>) -> Reply
-        ensures hears { HostHears E.told T.told T.holds (input_event input.entry)
+    fn receive(&mut self, alloc: Global, input: Input<'_>) -> Reply
+        ensures turn { TakesTurn E.told T.told T.holds T.stamped (input_event input.entry)
             result.refusal result.text self.old self.new }
-        ensures stamped { HostStamps T.stamped (input_event input.entry)
-            result.refusal self.old self.new }
         ensures writable { WritesWhat result.refusal (input_event input.entry) }
         ensures memory { is_memory result.refusal ≡ true → wants_memory input.entry ≡ true }
-        ensures quiet { is_some result.refusal ≡ true → result.text ≡ [] }
-        ensures loaded { self.new.has_loaded
-            ≡ is_accepted_load (input_event input.entry) result.refusal }
     {
         lend_input(input); // for the proof
         match input {
@@ -91,14 +79,9 @@ impl<T: SettingStore, E: ChildEdge + SocketEdge, W: Write> Host<T, E, W> {
 
     /// What happens to the job of this label. BadRequest answers a name that is not a label.
     fn happen_to(&mut self, alloc: Global, job: &str, item: JobItem) -> Reply
-        ensures hears { HostHears E.told T.told T.holds
-            (event_if_label job.now (journaled.OfJob job.now item))
+        ensures turn { TakesTurn E.told T.told T.holds T.stamped (event_if_label job.now (journaled.OfJob job.now item))
             result.refusal result.text self.old self.new }
-        ensures stamped { HostStamps T.stamped (event_if_label job.now (journaled.OfJob job.now item))
-            result.refusal self.old self.new }
         ensures memory { is_memory result.refusal ≡ true → ⊥ }
-        ensures quiet { is_some result.refusal ≡ true → result.text ≡ [] }
-        ensures loaded { self.new.has_loaded ≡ false }
     {
         if is_label(job) {
             let job = TextRef::new(job);
@@ -112,29 +95,21 @@ impl<T: SettingStore, E: ChildEdge + SocketEdge, W: Write> Host<T, E, W> {
     /// What happens, with its reply.
     pub(crate) fn happen(&mut self, alloc: Global, what: &Event<'_>) -> Reply
         requires { is_happening what.now ≡ true }
-        ensures hears { HostHears E.told T.told T.holds (Some (happened what.now))
+        ensures turn { TakesTurn E.told T.told T.holds T.stamped (Some (happened what.now))
             result.refusal result.text self.old self.new }
-        ensures stamped { HostStamps T.stamped (Some (happened what.now))
-            result.refusal self.old self.new }
         ensures memory { is_memory result.refusal ≡ true → takes_none what.now ≡ false }
-        ensures quiet { is_some result.refusal ≡ true → result.text ≡ [] }
-        ensures loaded { self.new.has_loaded ≡ false }
     {
-        self.hear_at_once(alloc, what)
+        self.receive_at_once(alloc, what)
     }
 
     /// What comes and is this event at once, with its reply: nothing outside is first asked for it.
-    pub(crate) fn hear_at_once(&mut self, alloc: Global, what: &Event<'_>) -> Reply
-        ensures hears { (incoming : Incoming) → IsAtOnce incoming what.now →
-            HostHears E.told T.told T.holds (Some incoming)
+    pub(crate) fn receive_at_once(&mut self, alloc: Global, what: &Event<'_>) -> Reply
+        ensures turn { (incoming : Incoming) → IsAtOnce incoming what.now →
+            TakesTurn E.told T.told T.holds T.stamped (Some incoming)
             result.refusal result.text self.old self.new }
-        ensures stamped { (incoming : Incoming) → IsAtOnce incoming what.now →
-            HostStamps T.stamped (Some incoming) result.refusal self.old self.new }
         ensures memory { is_memory result.refusal ≡ true → takes_none what.now ≡ false }
-        ensures quiet { is_some result.refusal ≡ true → result.text ≡ [] }
-        ensures loaded { self.new.has_loaded ≡ false }
     {
-        let answer = self.take_in(alloc, what);
+        let answer = self.apply(alloc, what);
         self.has_loaded = false;
         told(alloc, answer)
     }
@@ -143,7 +118,7 @@ impl<T: SettingStore, E: ChildEdge + SocketEdge, W: Write> Host<T, E, W> {
     /// answer the next event, first in first out, until none remains. The journal gets the line of each event. The
     /// result is the event's text, or its refusal, and then no call was made. After NoMemory it is not an event:
     /// nothing was carried out, and no line was written.
-    pub(crate) fn take_in(&mut self, alloc: Global, what: &Event<'_>) -> Result<Text, Refusal>
+    pub(crate) fn apply(&mut self, alloc: Global, what: &Event<'_>) -> Result<Text, Refusal>
         ensures turn { NamesLabel (machine_event what.now) → NamesStay what.now → UnlessMemory result
             (Turns (machine_event what.now) (event_line what.now)
             (refused_with result) self.old.table self.new.table
@@ -158,7 +133,7 @@ impl<T: SettingStore, E: ChildEdge + SocketEdge, W: Write> Host<T, E, W> {
         ensures store { self.new.store ≡ self.old.store }
     {
         self.answers.clear();
-        match hear(
+        match receive(
             &mut self.table,
             &mut self.edge,
             alloc,

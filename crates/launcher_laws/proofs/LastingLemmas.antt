@@ -13,6 +13,6 @@ use Rattle.child_edge.specs.Calls.{ToldCall}
 module _ {T : Type 0} (holds : T → List Setting → Type 0) where
   pub lasted : (header : Header) (calls : Option (List ToldCall)) (stores : Option (List StoreCall)) (journal : JournalState) (store : T) (first last : Snapshot T) (turns : List (Turn T)) →
       (new : IsNew header calls stores journal first.stands (holds store) (holds first.store)) → AreTurns holds first turns last → (list : List Setting) → holds store list → Lasts holds new.machine turns last
-  lasted header calls stores journal store first last turns new heard list held =
-      let w = went holds new.machine first turns last new.led new.kept heard in
+  lasted header calls stores journal store first last turns new received list held =
+      let w = went holds new.machine first turns last new.led new.kept received in
       record { parts = w.parts; are_parts = w.are_parts; all = w.all; kept = w.kept; held = w.held (new.stored list held) }

@@ -29,8 +29,8 @@ module _ {T S : Type 0} (g : Ghosts S) (pattern_of : T → Schema) (store_of : T
       (new : IsNew header calls stores journal first.stands (HoldsNowIn store) (HoldsNowIn first.store)) → AreTurns HoldsNowIn first turns last →
       (list : List Setting) → HoldsNowIn store list → store_of last.store ≡ Some at_end → IsOpenedOn (state g at_end) again → HasCleanDisk again → (listed : List Setting) → HoldsEach (setting_rows again.now.trees) (reverse listed) →
       (lasts : Lasts HoldsNowIn new.machine turns last) × ((label : List ℕ) → setting_in (reverse listed) label ≡ setting_in (settings_at_last lasts) label)
-  reopened_last header calls stores journal store first last turns at_end again new heard list held is opened clean listed told =
-      let lasts = lasted HoldsNowIn header calls stores journal store first last turns new heard list held in
+  reopened_last header calls stores journal store first last turns at_end again new received list held is opened clean listed told =
+      let lasts = lasted HoldsNowIn header calls stores journal store first last turns new received list held in
       let known = known_of last.store in
       let there : HoldsKnown (state g at_end) known = subst (λ (o : Option (Held S)). AtHand g o known) is lasts.held.2 in (
         lasts,

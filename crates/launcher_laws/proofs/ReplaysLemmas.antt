@@ -61,9 +61,9 @@ module _ {T : Type 0} (holds : T → List Setting → Type 0) where
       (new : IsNew header calls stores (fresh (Some []) true) first.stands (holds store) (holds first.store)) → AreTurns holds first turns last →
       last.stands.journal.phase ≡ Open → last.stands.journal.bytes ≡ Some bytes →
       IsReplayed (with_overrides header new.settings) turns bytes
-  replayed header calls stores store first last turns bytes new heard still ends =
+  replayed header calls stores store first last turns bytes new received still ends =
       let h = with_overrides header new.settings in
-      let w = went holds new.machine first turns last new.led new.kept heard in
+      let w = went holds new.machine first turns last new.led new.kept received in
       let later = w.noted still in
       let begun = grown (fresh (Some []) true) first.stands.journal (header_line h) new.noted later.was in
       let is : bytes ≡ header_line h ++ flat_map event_line (parts_events w.parts) =

@@ -14,7 +14,7 @@ use Rattle.history_model.specs.Machine.{State, Event, OfJob}
 use Rattle.history_model.specs.Step.{Outcome, outcome, step, run, outcomes}
 use Rattle.loaded_jobs.specs.Tables.{Table, Name, label_of}
 use Rattle.loaded_jobs.specs.StandsFor.{KeepsState}
-use Rattle.outside.specs.declared.unheard.Unheard.{Unheard}
+use Rattle.outside.specs.declared.pending_answer.PendingAnswer.{PendingAnswer}
 use Rattle.outside.specs.Orders.{answers_in}
 use Rattle.ctl_protocol.specs.EventWriter.{event_line}
 use Rattle.launcher.specs.declared.journal.Phase.{Phase}
@@ -28,9 +28,9 @@ use Rattle.launcher.specs.LoadTurns.{is_memory}
 use Rattle.job_table.specs.Taking.{machine_event}
 use Rattle.ctl_protocol.specs.Requests.{unasked}
 use Rattle.launcher.specs.Inputs.{Incoming, event_of}
-use Rattle.launcher.specs.Hosts.{HostTurnOf, IsSpared, HearsBy}
+use Rattle.launcher.specs.Hosts.{HostTurnOf, IsSpared, ReceivesBy}
 use Rattle.launcher.specs.Writable.{IsWritable, IsWritableIf}
-use Rattle.launcher_laws.specs.TurnRuns.{answer_told, Snapshot, Turn, IsBetween, WasHeard, AreTurns, IsPartOf, AreParts, Part, outcomes_in, events_in as parts_events}
+use Rattle.launcher_laws.specs.TurnRuns.{answer_told, Snapshot, Turn, IsBetween, WasReceived, AreTurns, IsPartOf, AreParts, Part, outcomes_in, events_in as parts_events}
 
 -- ---- runs in two parts
 
@@ -47,11 +47,11 @@ outcomes_append (x ∷ xs) ys s = ap (λ l. outcome s x ∷ l) (outcomes_append 
 answer_is : (job : Label) (answer : Answer) → machine_event (journaled_answer job answer) ≡ OfJob job (Answered answer)
 answer_is job answer = refl
 
-answers_are : (names : List Name) (ps : List Unheard) → map machine_event (map (answer_told names) ps) ≡ map (answer_event names) ps
+answers_are : (names : List Name) (ps : List PendingAnswer) → map machine_event (map (answer_told names) ps) ≡ map (answer_event names) ps
 answers_are names [] = refl
 answers_are names (p ∷ ps) = λ i. answer_is (label_of names p.job) p.answer i ∷ answers_are names ps i
 
-answer_lines : (names : List Name) (ps : List Unheard) → flat_map event_line (map (answer_told names) ps) ≡ answer_texts names ps
+answer_lines : (names : List Name) (ps : List PendingAnswer) → flat_map event_line (map (answer_told names) ps) ≡ answer_texts names ps
 answer_lines names [] = refl
 answer_lines names (p ∷ ps) = ap (λ l. event_line (answer_told names p) ++ l) (answer_lines names ps)
 
@@ -121,13 +121,13 @@ module _ {T : Type 0} (holds : T → List Setting → Type 0) (s : State) (turn 
         noted = subst (λ l. Grows turn.before.stands.journal turn.after.stands.journal (event_line first ++ l)) (sym (answer_lines names ps)) t.turn.noted;
       }
 
-  was : IsLed s → KeepsState turn.before.stands.table s → WasHeard holds turn → Was holds s turn
-  was led keeps heard = go (is_memory turn.refusal) turn.incoming refl refl heard.0 where
+  was : IsLed s → KeepsState turn.before.stands.table s → WasReceived holds turn → Was holds s turn
+  was led keeps received = go (is_memory turn.refusal) turn.incoming refl refl received.0 where
     go : (b : Bool) (incoming : Option Incoming) → is_memory turn.refusal ≡ b → turn.incoming ≡ incoming →
-        HearsBy b incoming turn.refusal turn.words turn.before.stands turn.after.stands (holds turn.before.store) (holds turn.after.store) → Was holds s turn
-    go true incoming memory is heard' = spared_was led keeps (inl (inl memory, refl, refl)) heard'.0
-    go false None memory is heard' = spared_was led keeps (inl (inr (is, heard'.0), refl, refl)) heard'.1
-    go false (Some incoming) memory is heard' = turned_was incoming is (subst IsWritableIf is (heard.1 memory)) (heard' s led keeps)
+        ReceivesBy b incoming turn.refusal turn.words turn.before.stands turn.after.stands (holds turn.before.store) (holds turn.after.store) → Was holds s turn
+    go true incoming memory is received' = spared_was led keeps (inl (inl memory, refl, refl)) received'.0
+    go false None memory is received' = spared_was led keeps (inl (inr (is, received'.0), refl, refl)) received'.1
+    go false (Some incoming) memory is received' = turned_was incoming is (subst IsWritableIf is (received.1 memory)) (received' s led keeps)
 
 -- ---- the journal, while it is open
 
@@ -218,6 +218,6 @@ module _ {T : Type 0} (holds : T → List Setting → Type 0) where
 
   pub went : (s : State) (first : Snapshot T) (turns : List (Turn T)) (last : Snapshot T) → IsLed s → KeepsState first.stands.table s → AreTurns holds first turns last → Went holds s first turns last
   went s first [] last led keeps left = none_went s first last led keeps left
-  went s first (turn ∷ turns) last led keeps heard =
-      let w = was holds s turn led (subst (λ (t : Table). KeepsState t s) (sym heard.0.table) keeps) heard.1 in
-      one_went s first turn turns last heard.0 w (went (run (map machine_event w.events) s) turn.after turns last w.led w.kept heard.2)
+  went s first (turn ∷ turns) last led keeps received =
+      let w = was holds s turn led (subst (λ (t : Table). KeepsState t s) (sym received.0.table) keeps) received.1 in
+      one_went s first turn turns last received.0 w (went (run (map machine_event w.events) s) turn.after turns last w.led w.kept received.2)

@@ -8,7 +8,7 @@ use Rattle.history_model.specs.declared.Answer.TheVariants.{Spawned, SpawnRefuse
 use Rattle.history_model.specs.declared.event.Event as journal
 use Rattle.history_model.specs.Labels.{Label, is_label}
 use Rattle.loaded_jobs.specs.Tables.{Name, label_of}
-use Rattle.outside.specs.declared.unheard.Unheard.{Unheard}
+use Rattle.outside.specs.declared.pending_answer.PendingAnswer.{PendingAnswer}
 use Rattle.outside.specs.Orders.{answers_in, IsTellable, IsTellablePending}
 use Rattle.launcher.specs.JournaledLines.{journaled_answer}
 use Rattle.launcher.specs.HostTurns.{IsNamedIn, IsTextLabel}
@@ -33,7 +33,7 @@ answer_writable job (SpawnRefused run) is named = record { writable = and_from (
 answer_writable job (Termed run ok) is named = record { writable = and_from (is_label job) true named.0 refl; fit = (named.1, (tt, (is, tt))) }
 answer_writable job (Killed run ok) is named = record { writable = and_from (is_label job) true named.0 refl; fit = (named.1, (tt, (is, tt))) }
 
-answers_writable : (names : List Name) (ps : List Unheard) → AllByRecursion IsTellablePending ps → AllByRecursion (IsNamedIn names) ps → AllByRecursion IsWritable (map (answer_told names) ps)
+answers_writable : (names : List Name) (ps : List PendingAnswer) → AllByRecursion IsTellablePending ps → AllByRecursion (IsNamedIn names) ps → AllByRecursion IsWritable (map (answer_told names) ps)
 answers_writable names [] tellable named = tt
 answers_writable names (p ∷ ps) tellable named = (answer_writable (label_of names p.job) p.answer tellable.0 named.0, answers_writable names ps tellable.1 named.1)
 

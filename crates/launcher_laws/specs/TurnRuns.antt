@@ -11,7 +11,7 @@ use Rattle.ctl_protocol.specs.Requests.{unasked}
 use Rattle.loaded_jobs.specs.Tables.{Name, label_of}
 use Rattle.loaded_jobs.specs.StandsFor.{labelled}
 use Rattle.child_edge.specs.Calls.{Tells, ToldCall}
-use Rattle.outside.specs.declared.unheard.Unheard.{Unheard}
+use Rattle.outside.specs.declared.pending_answer.PendingAnswer.{PendingAnswer}
 use Rattle.outside.specs.Orders.{call_of, calls_in, answers_in, IsTellablePending}
 use Rattle.launcher.specs.Journals.{reported}
 use Rattle.launcher.specs.JournaledLines.{journaled_answer}
@@ -19,7 +19,7 @@ use Rattle.launcher.specs.HostTurns.{IsNamedIn}
 use Rattle.ctl_protocol.specs.declared.request.Outside.{Outside}
 use Rattle.launcher.specs.LoadTurns.{is_memory, Standing}
 use Rattle.launcher.specs.Inputs.{Incoming, event_of}
-use Rattle.launcher.specs.Hosts.{Hears}
+use Rattle.launcher.specs.Hosts.{Receives}
 use Rattle.launcher.specs.Writable.{IsWritable, WritesWhat}
 
 -- the state of a launcher, and its store of settings
@@ -47,9 +47,9 @@ pub record IsBetween {T : Type 0} (old new : Snapshot T) : Type 0 where
 
 module _ {T : Type 0} (holds : T → List Setting → Type 0) where
   -- the turn was heard, as `Host::turn` promises
-  abbrev pub WasHeard : Turn T → Type 0
-  WasHeard turn =
-      Hears turn.incoming turn.refusal turn.words turn.before.stands turn.after.stands
+  abbrev pub WasReceived : Turn T → Type 0
+  WasReceived turn =
+      Receives turn.incoming turn.refusal turn.words turn.before.stands turn.after.stands
       (holds turn.before.store) (holds turn.after.store)
       × WritesWhat turn.refusal turn.incoming
 
@@ -57,7 +57,7 @@ module _ {T : Type 0} (holds : T → List Setting → Type 0) where
   abbrev pub AreTurns : Snapshot T → List (Turn T) → Snapshot T → Type 0
   AreTurns first [] last = IsBetween first last
   AreTurns first (turn ∷ turns) last =
-      IsBetween first turn.before × WasHeard turn × AreTurns turn.after turns last
+      IsBetween first turn.before × WasReceived turn × AreTurns turn.after turns last
 
 -- ---- what they did
 
@@ -67,7 +67,7 @@ IsNoEvent turn =
     (is_memory turn.refusal ≡ true) ⊎ ((turn.incoming ≡ None) × (turn.refusal ≡ Some BadRequest))
 
 -- the journal's event of an answer; a number stands for its job's label
-abbrev pub answer_told : List Name → Unheard → journal.Event
+abbrev pub answer_told : List Name → PendingAnswer → journal.Event
 answer_told names pending = journaled_answer (label_of names pending.job) pending.answer
 
 -- The events of a turn, as the journal has them, and their outcomes. The first event is the one that came, with what

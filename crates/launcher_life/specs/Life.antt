@@ -28,7 +28,7 @@ abbrev pub life_there : Option ℕ → Life
 life_there None = lives.Runs
 life_there (Some seconds) = cond (nat_lt LATEST seconds) (lives.Silent seconds) lives.Runs
 
--- one of which nothing is seen is told as killed only where all would be seen
+-- one of which nothing is seen is reported as killed only where all would be seen
 abbrev pub life_gone : Bool → Bool → Life
 life_gone sees_all true = lives.Exited
 life_gone true false = lives.Killed
@@ -75,7 +75,7 @@ is_over lives.Unknown = false
 abbrev pub may_live : Life → Bool
 may_live life = not (is_over life)
 
--- it is told as killed
+-- it is reported as killed
 abbrev pub is_killed : Life → Bool
 is_killed lives.Runs = false
 is_killed lives.Stopped = false

@@ -4,9 +4,10 @@ use crate::age::silence_of;
 use crate::life::{Life, LifeFacts, LockSeen, ProcessSeen, life_of};
 use crate::locks::holder_of;
 use crate::seen::{is_launcher, process_seen, sees_all};
-use std::alloc::Global;
-use std::fs::metadata;
+use std::alloc::{AllocGlobal, Global};
+use std::fs::{Files, metadata};
 use std::io::ErrorKind;
+use std::rt::Clock;
 
 /// What the path of a status file's lock has after that of the file.
 const BEHIND: &str = ".lock";
@@ -50,13 +51,13 @@ enum Holder {
     Unknown,
 }
 
-fn holder_at(host: &HostRuntime, alloc: Global, path: &str) -> Holder {
-    let data = match metadata(host, path) {
+fn holder_at<R: Files>(rt: &R, alloc: Global, path: &str) -> Holder {
+    let data = match metadata(rt, path) {
         Ok(data) => data,
         Err(error) if error.kind() == ErrorKind::NotFound => return Holder::NoFile,
         Err(_) => return Holder::Unknown,
     };
-    match holder_of(host, alloc, path, &data) {
+    match holder_of(rt, alloc, path, &data) {
         Ok(Some(pid)) => Holder::Process(pid),
         Ok(None) => Holder::Nobody,
         Err(error) => {
@@ -67,11 +68,15 @@ fn holder_at(host: &HostRuntime, alloc: Global, path: &str) -> Holder {
 }
 
 /// Whether the launcher that writes the journal is running: by the lock on its file.
-pub fn journal_life(host: &HostRuntime, alloc: Global, of: JournalAsked<'_>) -> LauncherSeen {
-    let (lock, process, pid) = match holder_at(host, alloc, of.path) {
+pub fn journal_life<R: AllocGlobal + Files>(
+    rt: &R,
+    alloc: Global,
+    of: JournalAsked<'_>,
+) -> LauncherSeen {
+    let (lock, process, pid) = match holder_at(rt, alloc, of.path) {
         Holder::Process(pid) => (
             LockSeen::Held,
-            process_seen(host, alloc, pid, None),
+            process_seen(rt, alloc, pid, None),
             Some(pid),
         ),
         Holder::Nobody | Holder::NoFile => (LockSeen::Free, ProcessSeen::Hidden, None),
@@ -80,7 +85,7 @@ pub fn journal_life(host: &HostRuntime, alloc: Global, of: JournalAsked<'_>) -> 
     let life = life_of(&LifeFacts {
         lock,
         process,
-        sees_all: sees_all(host, alloc),
+        sees_all: sees_all(rt, alloc),
         has_ended: of.has_ended,
         silent: None,
     });
@@ -88,32 +93,36 @@ pub fn journal_life(host: &HostRuntime, alloc: Global, of: JournalAsked<'_>) -> 
 }
 
 /// Whether the launcher that wrote the status file is running: by the lock next to the file, then by its process.
-pub fn file_life(host: &HostRuntime, alloc: Global, of: StatusFileAsked<'_>) -> LauncherSeen {
+pub fn file_life<R: AllocGlobal + Clock + Files>(
+    rt: &R,
+    alloc: Global,
+    of: StatusFileAsked<'_>,
+) -> LauncherSeen {
     let holder = match format!(in alloc; "{}{BEHIND}", of.path) {
         Ok(path) => {
-            let holder = holder_at(host, alloc, path.as_str());
+            let holder = holder_at(rt, alloc, path.as_str());
             drop(path);
             holder
         }
         Err(_) => Holder::Unknown,
     };
     let (lock, pid) = match holder {
-        Holder::Process(holder) => lock_of(host, alloc, holder, of),
+        Holder::Process(holder) => lock_of(rt, alloc, holder, of),
         Holder::Nobody => (LockSeen::Free, of.pid),
         Holder::NoFile => (LockSeen::Absent, of.pid),
         Holder::Unknown => (LockSeen::Unknown, of.pid),
     };
     let process = match lock {
-        LockSeen::Held => process_seen(host, alloc, pid, None),
-        _ => process_seen(host, alloc, pid, Some(of.began)),
+        LockSeen::Held => process_seen(rt, alloc, pid, None),
+        _ => process_seen(rt, alloc, pid, Some(of.began)),
     };
     let is_there = is_seen(process) || is_held(lock);
     let silent = if of.renews && is_there {
-        silence_of(host, of.path)
+        silence_of(rt, of.path)
     } else {
         None
     };
-    let sees_all = sees_all(host, alloc);
+    let sees_all = sees_all(rt, alloc);
     let life = life_of(&LifeFacts {
         lock,
         process,
@@ -126,13 +135,13 @@ pub fn file_life(host: &HostRuntime, alloc: Global, of: StatusFileAsked<'_>) -> 
 }
 
 // Whether this process, which holds the lock, is the launcher of the file, and the number of the launcher here.
-fn lock_of(
-    host: &HostRuntime,
+fn lock_of<R: AllocGlobal + Files>(
+    rt: &R,
     alloc: Global,
     holder: u32,
     of: StatusFileAsked<'_>,
 ) -> (LockSeen, u32) {
-    match is_launcher(host, alloc, holder, of.pid, of.began) {
+    match is_launcher(rt, alloc, holder, of.pid, of.began) {
         Some(true) => (LockSeen::Held, holder),
         Some(false) => (LockSeen::Others, of.pid),
         None if holder == of.pid => (LockSeen::Held, holder),

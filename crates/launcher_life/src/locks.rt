@@ -2,7 +2,7 @@
 
 use files_and_process::path_files::read_front;
 use std::alloc::Global;
-use std::fs::{Metadata, metadata};
+use std::fs::{Files, Metadata, metadata};
 use std::io::ErrorKind;
 use std::os::unix::fs::MetadataExt;
 use std::{io, str};
@@ -15,20 +15,20 @@ const MOST: usize = 4_194_304;
 
 /// The process that the list names for the lock on the file at the path. If the layers of an overlayfs are on several file systems, a file reports
 /// another device than the list. Its folder reports that of the list.
-pub(crate) fn holder_of(
-    host: &HostRuntime,
+pub(crate) fn holder_of<R: Files>(
+    rt: &R,
     alloc: Global,
     path: &str,
     data: &Metadata,
 ) -> io::Result<Option<u32>> {
     let mut bytes = Vec::new(alloc);
-    read_front(host, LOCKS, MOST, &mut bytes)?;
+    read_front(rt, LOCKS, MOST, &mut bytes)?;
     let Ok(list) = str::from_utf8(bytes.as_slice()) else {
         return Err(io::Error::from(ErrorKind::InvalidData));
     };
     let holder = match marked_in(alloc, list, data.dev(), data.ino())? {
         None => {
-            let folder = metadata(host, folder_of(path))?;
+            let folder = metadata(rt, folder_of(path))?;
             marked_in(alloc, list, folder.dev(), data.ino())?
         }
         holder => holder,

@@ -2,7 +2,8 @@
 
 use crate::life::ProcessSeen;
 use files_and_process::processes::{process_in, read_of};
-use std::alloc::Global;
+use std::alloc::{AllocGlobal, Global};
+use std::fs::Files;
 use std::{fs, str};
 
 /// How many bytes of a file of `/proc/PID` are read.
@@ -12,8 +13,8 @@ const MOST: usize = 4_096;
 const FIRST_NAMESPACE: &str = "pid:[4026531836]";
 
 /// Whether this process sees those of the whole machine, and all locks: it is in the first PID namespace, and so is its `/proc`.
-pub(crate) fn sees_all(host: &HostRuntime, alloc: Global) -> bool {
-    match fs::read_link(host, "/proc/self/ns/pid") {
+pub(crate) fn sees_all<R: AllocGlobal + Files>(rt: &R, alloc: Global) -> bool {
+    match fs::read_link(rt, "/proc/self/ns/pid") {
         Ok(path) => {
             let is_first = path.as_str() == FIRST_NAMESPACE;
             drop(path);
@@ -25,14 +26,14 @@ pub(crate) fn sees_all(host: &HostRuntime, alloc: Global) -> bool {
 
 /// What is seen of the process of this number. If it is known when it began, in clock ticks since the boot, one that began at another time is
 /// another process.
-pub(crate) fn process_seen(
-    host: &HostRuntime,
+pub(crate) fn process_seen<R: Files>(
+    rt: &R,
     alloc: Global,
     pid: u32,
     began: Option<u64>,
 ) -> ProcessSeen {
     let mut bytes = Vec::new(alloc);
-    let seen = match read_of(host, alloc, pid, "stat", MOST, &mut bytes) {
+    let seen = match read_of(rt, alloc, pid, "stat", MOST, &mut bytes) {
         Ok(()) => stands_in(text_of(bytes.as_slice()), began),
         Err(_) => None,
     };
@@ -40,15 +41,15 @@ pub(crate) fn process_seen(
     match seen {
         Some(seen) => seen,
         // If not even the first process is shown, the system hides those of others.
-        None if shows(host, alloc, 1) => ProcessSeen::None,
+        None if shows(rt, alloc, 1) => ProcessSeen::None,
         None => ProcessSeen::Hidden,
     }
 }
 
 // Whether the system shows the state of this process.
-fn shows(host: &HostRuntime, alloc: Global, pid: u32) -> bool {
+fn shows<R: Files>(rt: &R, alloc: Global, pid: u32) -> bool {
     let mut bytes = Vec::new(alloc);
-    let is_shown = read_of(host, alloc, pid, "stat", MOST, &mut bytes).is_ok();
+    let is_shown = read_of(rt, alloc, pid, "stat", MOST, &mut bytes).is_ok();
     drop(bytes);
     is_shown
 }
@@ -85,15 +86,15 @@ fn is_stopped(stat: &str) -> bool {
 
 /// Whether the process of this number as it is seen here is the one that gave its number and its start itself, maybe in a PID namespace of its own.
 /// None if the system hides it.
-pub(crate) fn is_launcher(
-    host: &HostRuntime,
+pub(crate) fn is_launcher<R: AllocGlobal + Files>(
+    rt: &R,
     alloc: Global,
     holder: u32,
     pid: u32,
     began: u64,
 ) -> Option<bool> {
     let mut bytes = Vec::new(alloc);
-    let own = match read_of(host, alloc, holder, "status", MOST, &mut bytes) {
+    let own = match read_of(rt, alloc, holder, "status", MOST, &mut bytes) {
         Ok(()) => own_number_in(text_of(bytes.as_slice())),
         Err(_) => None,
     };
@@ -101,10 +102,10 @@ pub(crate) fn is_launcher(
     if own? != pid {
         return Some(false);
     }
-    match process_seen(host, alloc, holder, Some(began)) {
+    match process_seen(rt, alloc, holder, Some(began)) {
         ProcessSeen::Running | ProcessSeen::Stopped => Some(true),
-        // In another time namespace a process counts the ticks from another moment.
-        ProcessSeen::None => Some(has_other_clock(host, alloc, holder)),
+        // In another time namespace a process counts the ticks from another start.
+        ProcessSeen::None => Some(has_other_clock(rt, alloc, holder)),
         ProcessSeen::Hidden => None,
     }
 }
@@ -128,13 +129,13 @@ fn last_of(numbers: &str) -> Option<u32> {
 }
 
 // Whether the process is in another time namespace than this one, as far as it is shown.
-fn has_other_clock(host: &HostRuntime, alloc: Global, pid: u32) -> bool {
+fn has_other_clock<R: AllocGlobal + Files>(rt: &R, alloc: Global, pid: u32) -> bool {
     let Ok(path) = format!(in alloc; "/proc/{pid}/ns/time") else {
         return false;
     };
-    let its = fs::read_link(host, path.as_str());
+    let its = fs::read_link(rt, path.as_str());
     drop(path);
-    let own = fs::read_link(host, "/proc/self/ns/time");
+    let own = fs::read_link(rt, "/proc/self/ns/time");
     let is_other = match (&its, &own) {
         (Ok(its), Ok(own)) => its.as_str() != own.as_str(),
         _ => false,

@@ -1,7 +1,7 @@
 -- Walks whose ends are given by equations.
 use Rattle.std.proofs.Common.{◌≡◌, ◌≤◌, ℕ, ◌+◌, Bool, List, [], Option, Some, true, false, subst, sym, refl}
 use Rattle.live_loop.specs.Looks.{PathCall, Awaits, Known, Walks, Looks, Questions, no_look, one_more, asked, no_question, ahead, awaits}
-use Rattle.live_loop.specs.Sightings.{walk_at, IsNextLook}
+use Rattle.live_loop.specs.Observing.{walk_at, IsNextLook}
 
 -- when the path checks go on, by what the code says of it
 pub next_look : (w : Bool) (path : List ℕ) (up later next : ℕ) → (w ≡ false → next ≡ later) → (w ≡ true → (up ≤ next) × (next ≤ up + 2)) → IsNextLook (walk_at w path) up later next

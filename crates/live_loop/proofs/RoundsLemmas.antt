@@ -5,8 +5,8 @@ use Rattle.std.proofs.lemmas.Bool.Decides.{nat_tests}
 use Rattle.child_edge.specs.declared.client.Client.{Client}
 use Rattle.job_clients.specs.Callers.{Coming, coming_in}
 use Rattle.job_clients.specs.declared.callers.Callers.{Callers}
-use Rattle.live_loop.specs.declared.loop_host.HandedIn.{HandedIn}
-use Rattle.live_loop.specs.Rounds.{Asks, Desk, Gathers, MayGrow, desk_with, nothing, further, nobody, asked, taken, heard, went, came}
+use Rattle.live_loop.specs.declared.loop_host.Delivered.{Delivered}
+use Rattle.live_loop.specs.Rounds.{Asks, Desk, Gathers, MayGrow, desk_with, nothing, further, nobody, asked, taken, received, went, came}
 
 module _ {H : Type 0} {Asked : H → H → Type 0} where
   pub asks_one : {old new : H} → Asked old new → Asks Asked old new
@@ -23,12 +23,12 @@ desk_same is same = λ i. desk_with (is i) (same i)
 pub coming_same : {old new : Callers Client} → new ≡ old → coming_in new ≡ coming_in old
 coming_same is = λ i. coming_in (is i)
 
-module _ {H : Type 0} {Asked : H → H → Type 0} {Taken : ℕ → H → H → Type 0} {Came : ℕ → ℕ → List ℕ → HandedIn → H → H → Type 0} {first : Desk} {from : H} where
+module _ {H : Type 0} {Asked : H → H → Type 0} {Taken : ℕ → H → H → Type 0} {Came : ℕ → ℕ → List ℕ → Delivered → H → H → Type 0} {first : Desk} {from : H} where
   pub gathers_append : {desk : Desk} {mid : H} {desk' : Desk} {new : H} → Gathers Asked Taken Came first from desk mid → Gathers Asked Taken Came desk mid desk' new → Gathers Asked Taken Came first from desk' new
   gathers_append before nobody = before
   gathers_append before (asked more a) = asked (gathers_append before more) a
   gathers_append before (taken more t w a) = taken (gathers_append before more) t w a
-  gathers_append before (heard more h) = heard (gathers_append before more) h
+  gathers_append before (received more h) = received (gathers_append before more) h
   gathers_append before (went more g) = went (gathers_append before more) g
   gathers_append before (came more is s c) = came (gathers_append before more) is s c
 
@@ -41,9 +41,9 @@ module _ {H : Type 0} {Asked : H → H → Type 0} {Taken : ℕ → H → H → 
   gathers_same {new = new} before is = subst (λ d. Gathers Asked Taken Came first from d new) (sym is) before
 
   -- one may have been heard, and the edge was asked
-  pub gathers_heard : {conn' : ℕ} {coming' : ℕ → Option Coming} {desk : Desk} {mid new : H} → Gathers Asked Taken Came first from desk mid →
+  pub gathers_received : {conn' : ℕ} {coming' : ℕ → Option Coming} {desk : Desk} {mid new : H} → Gathers Asked Taken Came first from desk mid →
       MayGrow desk.coming coming' → conn' ≡ desk.conn → Asks Asked mid new → Gathers Asked Taken Came first from (desk_with conn' coming') new
-  gathers_heard before grows is asks = gathers_asks (gathers_same (heard before grows) (desk_same is refl)) asks
+  gathers_received before grows is asks = gathers_asks (gathers_same (received before grows) (desk_same is refl)) asks
 
 -- it is before the time, or it is not
 pub early_or_due : {up look : ℕ} {X Y : Type 0} → (up < look → X) → (look ≤ up → Y) → ((up < look) × X) ⊎ ((look ≤ up) × Y)

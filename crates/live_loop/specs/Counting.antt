@@ -1,8 +1,8 @@
 -- The clients that were delivered, over any passes.
 use Rattle.std.specs.Prelude.{◌≡◌, ◌+◌, ℕ, List, [], ◌∷◌, ◌++◌, Option, Some, None, ⊤}
 use Rattle.job_clients.specs.Callers.{Coming, IsShort}
-use Rattle.live_loop.specs.declared.loop_host.HandedIn.{HandedIn}
-use Rattle.live_loop.specs.Rounds.{AreRounds, Desk, Gathers, Launcher, Left, no_round, one_round, nobody, asked, taken, heard, went, came}
+use Rattle.live_loop.specs.declared.loop_host.Delivered.{Delivered}
+use Rattle.live_loop.specs.Rounds.{AreRounds, Desk, Gathers, Launcher, Left, no_round, one_round, nobody, asked, taken, received, went, came}
 
 -- a client as it was delivered: under which number, of which job, with which request
 pub record Handed : Type 0 where
@@ -10,19 +10,19 @@ pub record Handed : Type 0 where
   pub job : ℕ
   pub request : List ℕ
 
-module _ {H : Type 0} {Asked : H → H → Type 0} {Taken : ℕ → H → H → Type 0} {Came : ℕ → ℕ → List ℕ → HandedIn → H → H → Type 0} {first : Desk} {from : H} where
-  abbrev pub handed_in : {desk : Desk} {new : H} → Gathers Asked Taken Came first from desk new → List Handed
-  handed_in nobody = []
-  handed_in (asked more a) = handed_in more
-  handed_in (taken more t w a) = handed_in more
-  handed_in (heard more g) = handed_in more
-  handed_in (went more g) = handed_in more
-  handed_in (came {client = client} {desk = desk} more is set it) =
-      handed_in more ++ record { conn = desk.conn; job = client.origin.job; request = client.request } ∷ []
+module _ {H : Type 0} {Asked : H → H → Type 0} {Taken : ℕ → H → H → Type 0} {Came : ℕ → ℕ → List ℕ → Delivered → H → H → Type 0} {first : Desk} {from : H} where
+  abbrev pub delivered : {desk : Desk} {new : H} → Gathers Asked Taken Came first from desk new → List Handed
+  delivered nobody = []
+  delivered (asked more a) = delivered more
+  delivered (taken more t w a) = delivered more
+  delivered (received more g) = delivered more
+  delivered (went more g) = delivered more
+  delivered (came {client = client} {desk = desk} more is set it) =
+      delivered more ++ record { conn = desk.conn; job = client.origin.job; request = client.request } ∷ []
 
 abbrev pub handed_by : {H : Type 0} {it : Launcher H} {first last : Left H} → AreRounds it first last → List Handed
 handed_by no_round = []
-handed_by (one_round more round) = handed_by more ++ handed_in round.serves.gathers
+handed_by (one_round more round) = handed_by more ++ delivered round.serves.gathers
 
 -- they were delivered under one number after another, from the first to the one before the last
 pub data AreCounted (first : ℕ) : List Handed → ℕ → Type 0 where

@@ -5,7 +5,7 @@ use Rattle.job_clients.specs.Callers.{coming_in}
 use Rattle.live_loop.specs.declared.job_sockets.JobSockets.{JobSockets}
 use Rattle.live_loop.specs.declared.live.Live.{Live}
 use Rattle.live_loop.specs.Rounds.{Desk, Left, desk_with}
-use Rattle.live_loop.specs.Sightings.{known_in, next_in, walk_in, later_in}
+use Rattle.live_loop.specs.Observing.{known_in, next_in, walk_in, later_in}
 
 -- the clients of jobs' sockets, and the number of the next
 abbrev pub desk_in : JobSockets → Desk
@@ -13,12 +13,12 @@ desk_in sockets = desk_with sockets.conn (coming_in sockets.callers)
 
 pub record IsLookKeptBy {H : Type 0} (old new : Live H) : Type 0 where
   pub child : new.next_child ≡ old.next_child
-  pub sights : new.rooms.sights ≡ old.rooms.sights
+  pub observations : new.rooms.observations ≡ old.rooms.observations
 
 -- the same, and the clients of jobs' sockets with the number of the next
 pub record IsKeptBy {H : Type 0} (old new : Live H) : Type 0 where
   pub child : new.next_child ≡ old.next_child
-  pub sights : new.rooms.sights ≡ old.rooms.sights
+  pub observations : new.rooms.observations ≡ old.rooms.observations
   pub desk : desk_in new.rooms.sockets ≡ desk_in old.rooms.sockets
 
 -- what a pass leaves for the next
@@ -27,10 +27,10 @@ left_in live = record {
   host = live.host;
   child = live.next_child;
   desk = desk_in live.rooms.sockets;
-  look = next_in live.rooms.sights;
-  walk = walk_in live.rooms.sights;
-  later = later_in live.rooms.sights;
-  known = known_in live.rooms.sights;
+  look = next_in live.rooms.observations;
+  walk = walk_in live.rooms.observations;
+  later = later_in live.rooms.observations;
+  known = known_in live.rooms.observations;
 }
 
 -- the `up` of the pass that first found that no job is left after a shutdown

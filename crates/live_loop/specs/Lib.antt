@@ -4,5 +4,5 @@ pub mod Ending
 pub mod Kept
 pub mod Looks
 pub mod Rounds
-pub mod Sightings
+pub mod Observing
 pub mod Waiting

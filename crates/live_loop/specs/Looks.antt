@@ -9,7 +9,7 @@ pub data PathCall : Type 0 where
   AsksAt : List ℕ → Bool → PathCall  -- it was asked what is at the path; false: that is to be asked later
   Awaits : List ℕ → Bool → PathCall  -- it was asked whether it is known what is at the path
   LookedAt : List ℕ → Option Obs → PathCall  -- what is at the path; None if the system refused the check
-  Sighted : List ℕ → Obs → PathCall  -- this observation of the path was delivered
+  Observed : List ℕ → Obs → PathCall  -- this observation of the path was delivered
 
 -- what was delivered last of each path, as far as it is remembered
 abbrev pub Known : Type 0
@@ -38,7 +38,7 @@ module _ {H : Type 0} (Did : PathCall → H → H → Type 0) where
   abbrev pub Takes : List ℕ → Obs → H → Known → H → Known → Type 0
   Takes path obs old known new known' =
       ((known path ≡ Some obs) × (new ≡ old) × IsKept known known')
-      ⊎ ((known path ≢ Some obs) × Did (Sighted path obs) old new × IsNoted path obs known known')
+      ⊎ ((known path ≢ Some obs) × Did (Observed path obs) old new × IsNoted path obs known known')
 
   -- a refused check is not an event
   abbrev pub TakesIf : List ℕ → Option Obs → H → Known → H → Known → Type 0

@@ -4,10 +4,10 @@ use Rattle.history_model.specs.declared.Reply.{Reply}
 use Rattle.job_clients.specs.Callers.{Coming, GrowsAt, IsNobody, MayComeIn, Sets}
 use Rattle.job_clients.specs.declared.caller.Origin.{Origin}
 use Rattle.control_socket.specs.Serving.{Serves}
-use Rattle.live_loop.specs.declared.loop_host.HandedIn.{HandedIn}
+use Rattle.live_loop.specs.declared.loop_host.Delivered.{Delivered}
 use Rattle.live_loop.specs.Children.{PollsAll}
 use Rattle.live_loop.specs.Looks.{PathCall, IsKept, Known, LooksOn}
-use Rattle.live_loop.specs.Sightings.{later_after, IsNextLook}
+use Rattle.live_loop.specs.Observing.{later_after, IsNextLook}
 
 -- The edge was asked, time and again, and nothing was delivered.
 pub data Asks {H : Type 0} (Asked : H → H → Type 0) (from : H) : H → Type 0 where
@@ -28,8 +28,8 @@ abbrev pub desk_with : ℕ → (ℕ → Option Coming) → Desk
 desk_with conn coming = record { conn = conn; coming = coming }
 
 -- one of them may have been disconnected
-abbrev pub LetsGo : (ℕ → Option Coming) → (ℕ → Option Coming) → Type 0
-LetsGo old new = (new ≡ old) ⊎ ((key : ℕ) × Sets key None old new)
+abbrev pub Disconnects : (ℕ → Option Coming) → (ℕ → Option Coming) → Type 0
+Disconnects old new = (new ≡ old) ⊎ ((key : ℕ) × Sets key None old new)
 
 -- more may have come of the request of one of them
 abbrev pub MayGrow : (ℕ → Option Coming) → (ℕ → Option Coming) → Type 0
@@ -38,10 +38,10 @@ MayGrow old new = (new ≡ old) ⊎ ((key : ℕ) × GrowsAt key old new)
 -- A client that came to these sockets is among them, perhaps in the place of another; or it was disconnected.
 pub record Welcomes (origin : Origin) (old new : ℕ → Option Coming) : Type 0 where
   pub mid : ℕ → Option Coming
-  pub gone : LetsGo old mid
+  pub gone : Disconnects old mid
   pub came : MayComeIn origin mid new
 
-module _ {H : Type 0} (Asked : H → H → Type 0) (Taken : ℕ → H → H → Type 0) (Came : ℕ → ℕ → List ℕ → HandedIn → H → H → Type 0) where
+module _ {H : Type 0} (Asked : H → H → Type 0) (Taken : ℕ → H → H → Type 0) (Came : ℕ → ℕ → List ℕ → Delivered → H → H → Type 0) where
   -- What becomes of the clients of jobs' sockets, step by step. The edge is asked. A client is taken at the sockets of a job, and is among the others
   -- from then on as one that came to these sockets, or is disconnected. Some bytes of one's request come. One is disconnected. One is delivered: under the
   -- next number, for the job to whose sockets it came, with all that came of its request; it is among the others no more.
@@ -52,19 +52,19 @@ module _ {H : Type 0} (Asked : H → H → Type 0) (Taken : ℕ → H → H → 
     taken : {origin : Origin} {desk : Desk} {coming : ℕ → Option Coming} {mid at new : H} →
         Gathers first from desk mid → Taken origin.job mid at → Welcomes origin desk.coming coming → Asks Asked at new →
         Gathers first from (desk_with desk.conn coming) new
-    heard : {desk : Desk} {coming : ℕ → Option Coming} {new : H} →
+    received : {desk : Desk} {coming : ℕ → Option Coming} {new : H} →
         Gathers first from desk new → MayGrow desk.coming coming →
         Gathers first from (desk_with desk.conn coming) new
     went : {desk : Desk} {coming : ℕ → Option Coming} {new : H} →
-        Gathers first from desk new → LetsGo desk.coming coming →
+        Gathers first from desk new → Disconnects desk.coming coming →
         Gathers first from (desk_with desk.conn coming) new
-    came : {key : ℕ} {client : Coming} {answer : HandedIn} {desk : Desk} {coming : ℕ → Option Coming} {mid new : H} →
+    came : {key : ℕ} {client : Coming} {answer : Delivered} {desk : Desk} {coming : ℕ → Option Coming} {mid new : H} →
         Gathers first from desk mid → desk.coming key ≡ Some client → Sets key None desk.coming coming →
         Came desk.conn client.origin.job client.request answer mid new →
         Gathers first from (desk_with (desk.conn + 1) coming) new
 
 module _ {H : Type 0} (Answered : List ℕ → Reply → H → H → Type 0) (Asked : H → H → Type 0) (Taken : ℕ → H → H → Type 0)
-    (Came : ℕ → ℕ → List ℕ → HandedIn → H → H → Type 0) where
+    (Came : ℕ → ℕ → List ℕ → Delivered → H → H → Type 0) where
   -- Control clients were served, then those of jobs' sockets, from the one desk to the other, and then perhaps the control clients once more.
   pub record ServesAll (desk desk' : Desk) (old new : H) : Type 0 where
     pub first : H
@@ -97,7 +97,7 @@ pub record Launcher (H : Type 0) : Type 1 where
   pub Polled : ℕ → Option ℕ → H → H → Type 0
   pub Asked : H → H → Type 0
   pub Taken : ℕ → H → H → Type 0
-  pub Came : ℕ → ℕ → List ℕ → HandedIn → H → H → Type 0
+  pub Came : ℕ → ℕ → List ℕ → Delivered → H → H → Type 0
 
 -- before its time nothing is checked; from then on a series of path checks begins, or the one that was begun goes on
 abbrev pub Sees : {H : Type 0} → Launcher H → H → Left H → H → Left H → Type 0

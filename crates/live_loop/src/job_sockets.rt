@@ -3,14 +3,14 @@
 ghost use Rattle.std.specs.Prelude.{◌≡◌, IfOk};
 ghost use Rattle.job_clients.specs.Callers.{MayComeIn, coming_in};
 ghost use Rattle.live_loop.specs.Kept.{desk_in};
-ghost use Rattle.live_loop.specs.Rounds.{Asks, Gathers, IsNew, LetsGo, MayGrow, Welcomes};
+ghost use Rattle.live_loop.specs.Rounds.{Asks, Gathers, IsNew, Disconnects, MayGrow, Welcomes};
 
 use crate::label_room::LabelRoom;
-use crate::loop_host::{HandedIn, LoopHost};
+use crate::loop_host::{Delivered, LoopHost};
 use child_edge::Client;
 use control_socket::Limit;
 use history_model::{JobNo, MAX_JOBS};
-use job_clients::{CALLERS, Callers, Gathered, Loss, Losses, Origin, Place};
+use job_clients::{CALLERS, CallerPlace, Callers, DropNotices, Gathered, Loss, Origin};
 use mio::{Registry, Token};
 use std::alloc::{AllocError, Global};
 
@@ -25,7 +25,7 @@ const TAKEN: usize = 128;
 #[derive(Drop)]
 pub(crate) struct JobSockets {
     pub(crate) callers: Callers,
-    pub(crate) losses: Losses,
+    pub(crate) drop_notices: DropNotices,
     conn: u64,
     // How many clients there was room for when the sockets were tried last.
     pub(crate) room: usize,
@@ -48,7 +48,7 @@ impl JobSockets {
         let callers = Callers::new(alloc)?;
         Ok(JobSockets {
             callers,
-            losses: Losses::new(alloc),
+            drop_notices: DropNotices::new(alloc),
             conn: 1,
             room: CALLERS,
             may_have_come: true,
@@ -121,11 +121,11 @@ impl JobSockets {
 
     // Whether a client with this place is left for a later pass: it has none yet, or one of the job's came that was not
     // read.
-    fn is_put_off(&self, place: Place, bind: u64) -> bool {
+    fn is_put_off(&self, place: CallerPlace, bind: u64) -> bool {
         match place {
-            Place::Free => false,
-            Place::Nowhere | Place::Next | Place::Later => true,
-            Place::Of(_) => self.callers.has_new(bind),
+            CallerPlace::Free => false,
+            CallerPlace::Nowhere | CallerPlace::Next | CallerPlace::Later => true,
+            CallerPlace::Of(_) => self.callers.has_new(bind),
         }
     }
 
@@ -166,20 +166,20 @@ impl JobSockets {
         host: &mut H,
         origin: Origin,
         client: Client,
-        place: Place,
+        place: CallerPlace,
     )
         ensures asks { Asks H.Asked host.old host.new }
         ensures conn { self.new.conn ≡ self.old.conn }
         ensures welcomes { Welcomes origin (coming_in self.old.callers) (coming_in self.new.callers) }
     {
         match place {
-            Place::Free => self.take_in(registry, host, origin, client),
-            Place::Of(key) => {
+            CallerPlace::Free => self.admit(registry, host, origin, client),
+            CallerPlace::Of(key) => {
                 let loss = self.loss_of(key);
-                self.let_go(host, key, Some(loss));
-                self.take_in(registry, host, origin, client);
+                self.disconnect(host, key, Some(loss));
+                self.admit(registry, host, origin, client);
             }
-            Place::Nowhere | Place::Next | Place::Later => {
+            CallerPlace::Nowhere | CallerPlace::Next | CallerPlace::Later => {
                 drop(client);
                 self.tell(host, origin, Loss::Crowded);
             }
@@ -187,7 +187,7 @@ impl JobSockets {
     }
 
     // Takes a client in, for which there is a place.
-    fn take_in<H: LoopHost>(
+    fn admit<H: LoopHost>(
         &mut self,
         registry: &Registry,
         host: &mut H,
@@ -205,10 +205,10 @@ impl JobSockets {
         }
     }
 
-    fn let_go<H: LoopHost>(&mut self, host: &mut H, key: usize, loss: Option<Loss>)
+    fn disconnect<H: LoopHost>(&mut self, host: &mut H, key: usize, loss: Option<Loss>)
         ensures asks { Asks H.Asked host.old host.new }
         ensures conn { self.new.conn ≡ self.old.conn }
-        ensures gone { LetsGo (coming_in self.old.callers) (coming_in self.new.callers) }
+        ensures gone { Disconnects (coming_in self.old.callers) (coming_in self.new.callers) }
     {
         let Some(caller) = self.callers.remove(key) else {
             return;
@@ -229,7 +229,8 @@ impl JobSockets {
     {
         if host.listens_at(origin) {
             let up = host.up();
-            self.losses.note(origin, host.label(origin.job), loss, up);
+            self.drop_notices
+                .note(origin, host.label(origin.job), loss, up);
         }
     }
 
@@ -247,13 +248,13 @@ impl JobSockets {
         if self.callers.is_empty() {
             return false;
         }
-        let is_busy = self.hear_all(host, time);
-        let is_late = self.hand_in_line(alloc, host, label, time);
+        let is_busy = self.receive_all(host, time);
+        let is_late = self.deliver_line(alloc, host, label, time);
         is_busy | is_late
     }
 
     // Takes what the clients have sent. It says whether one may go on at once.
-    fn hear_all<H: LoopHost, L: Limit>(&mut self, host: &mut H, time: &mut L) -> bool
+    fn receive_all<H: LoopHost, L: Limit>(&mut self, host: &mut H, time: &mut L) -> bool
         ensures { Gathers H.Asked H.Taken H.Came (desk_in self.old) host.old (desk_in self.new) host.new }
     {
         let first = self.first_key;
@@ -287,7 +288,7 @@ impl JobSockets {
                 false
             }
             Gathered::Lost(loss) => {
-                self.let_go(host, key, loss);
+                self.disconnect(host, key, loss);
                 false
             }
         }
@@ -295,7 +296,7 @@ impl JobSockets {
 
     // Delivers those whose request is whole, in the order in which the requests became whole, but those for whose job
     // there is no place. Where no time is left, the others are left for the next pass. True then.
-    fn hand_in_line<H: LoopHost, L: Limit>(
+    fn deliver_line<H: LoopHost, L: Limit>(
         &mut self,
         alloc: Global,
         host: &mut H,
@@ -310,7 +311,7 @@ impl JobSockets {
                 return false;
             };
             last = turn;
-            if self.hand_in_if_placed(alloc, host, label, key) && !time.has_time() {
+            if self.deliver_if_placed(alloc, host, label, key) && !time.has_time() {
                 return true;
             }
         }
@@ -318,7 +319,7 @@ impl JobSockets {
     }
 
     // Delivers a client whose request is whole, unless it has to wait for a place. It says whether it did.
-    fn hand_in_if_placed<H: LoopHost>(
+    fn deliver_if_placed<H: LoopHost>(
         &mut self,
         alloc: Global,
         host: &mut H,
@@ -333,7 +334,7 @@ impl JobSockets {
         if host.must_wait(origin.job) {
             return false;
         }
-        self.hand_in(alloc, host, label, key);
+        self.deliver(alloc, host, label, key);
         true
     }
 
@@ -352,13 +353,13 @@ impl JobSockets {
         }
         let up = host.up();
         let gathered = self.callers.gather(key, up);
-        self.is_stirred = self.is_stirred | self.callers.was_heard_at(key, up);
+        self.is_stirred = self.is_stirred | self.callers.was_received_at(key, up);
         gathered
     }
 
     // Delivers a client, under its number. It logs why a client is closed that the launcher refused. If there were no
     // further number, the client would be disconnected.
-    fn hand_in<H: LoopHost>(
+    fn deliver<H: LoopHost>(
         &mut self,
         alloc: Global,
         host: &mut H,
@@ -369,7 +370,7 @@ impl JobSockets {
     {
         let conn = self.conn;
         let Some(next) = conn.checked_add(1) else {
-            self.let_go(host, key, None);
+            self.disconnect(host, key, None);
             return;
         };
         let Some(caller) = self.callers.remove(key) else {
@@ -378,10 +379,10 @@ impl JobSockets {
         let origin = caller.origin;
         self.is_whole = true;
         self.conn = next;
-        match host.hand_in(alloc, label, conn, caller) {
-            HandedIn::Dropped => {}
-            HandedIn::Heard => self.losses.came_through(origin.job, host.up()),
-            HandedIn::Refused(refusal) => match Loss::of_refusal(refusal) {
+        match host.deliver(alloc, label, conn, caller) {
+            Delivered::Dropped => {}
+            Delivered::Received => self.drop_notices.came_through(origin.job, host.up()),
+            Delivered::Refused(refusal) => match Loss::of_refusal(refusal) {
                 Some(loss) => self.tell(host, origin, loss),
                 None => {}
             },

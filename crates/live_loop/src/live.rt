@@ -4,15 +4,15 @@ ghost use Rattle.std.specs.Prelude.{◌≡◌, IfOk};
 ghost use Rattle.live_loop.specs.Kept.{desk_in, left_in};
 ghost use Rattle.live_loop.specs.Looks.{IsEmpty};
 ghost use Rattle.live_loop.specs.Rounds.{IsNew};
-ghost use Rattle.live_loop.specs.Sightings.{known_in};
+ghost use Rattle.live_loop.specs.Observing.{known_in};
 
 use crate::fault::ServeFault;
 use crate::job_sockets::JobSockets;
 use crate::label_room::LabelRoom;
 use crate::loop_host::LoopHost;
-use crate::paths::Sights;
+use crate::paths::Observations;
 use crate::round_poll::RoundPoll;
-use crate::voice::Voice;
+use crate::standard_error::StandardError;
 use crate::waiting::SHORTEST;
 use child_edge::{Notice, System};
 use control_socket::ControlSocket;
@@ -53,14 +53,14 @@ pub struct Live<H> {
 #[derive(Drop)]
 pub(crate) struct Rooms {
     pub(crate) events: Events,
-    pub(crate) sights: Sights,
+    pub(crate) observations: Observations,
     pub(crate) sockets: JobSockets,
     pub(crate) label: LabelRoom,
-    pub(crate) voice: Voice,
+    pub(crate) standard_error: StandardError,
 }
 
 fn make_rooms<R: System>(rt: &R, alloc: Global) -> Result<Rooms, AllocError>
-    ensures { IfOk result (λ rooms. IsEmpty (known_in rooms.sights) × IsNew (desk_in rooms.sockets)) }
+    ensures { IfOk result (λ rooms. IsEmpty (known_in rooms.observations) × IsNew (desk_in rooms.sockets)) }
 {
     let label = LabelRoom::new(alloc)?;
     let events = match Events::with_capacity(alloc, EVENTS) {
@@ -70,36 +70,36 @@ fn make_rooms<R: System>(rt: &R, alloc: Global) -> Result<Rooms, AllocError>
             return Err(fault);
         }
     };
-    let voice = match Voice::new(rt, alloc) {
-        Ok(voice) => voice,
+    let standard_error = match StandardError::new(rt, alloc) {
+        Ok(standard_error) => standard_error,
         Err(fault) => {
             drop((label, events));
             return Err(fault);
         }
     };
     match senses(alloc) {
-        Ok((sights, sockets)) => Ok(Rooms {
+        Ok((observations, sockets)) => Ok(Rooms {
             events,
-            sights,
+            observations,
             sockets,
             label,
-            voice,
+            standard_error,
         }),
         Err(fault) => {
-            drop((label, events, voice));
+            drop((label, events, standard_error));
             Err(fault)
         }
     }
 }
 
-fn senses(alloc: Global) -> Result<(Sights, JobSockets), AllocError>
+fn senses(alloc: Global) -> Result<(Observations, JobSockets), AllocError>
     ensures { IfOk result (λ both. IsEmpty (known_in both.0) × IsNew (desk_in both.1)) }
 {
-    let sights = Sights::new(alloc)?;
+    let observations = Observations::new(alloc)?;
     match JobSockets::new(alloc) {
-        Ok(sockets) => Ok((sights, sockets)),
+        Ok(sockets) => Ok((observations, sockets)),
         Err(fault) => {
-            drop(sights);
+            drop(observations);
             Err(fault)
         }
     }
@@ -189,7 +189,7 @@ impl<H> Live<H> {
     /// From now on each line on standard error begins with its level, as the journal of systemd takes it. That is `<4>`
     /// for what was refused, `<6>` for what became of a run. Takes no memory.
     pub fn set_leveled(&mut self) {
-        self.rooms.voice.is_leveled = true;
+        self.rooms.standard_error.is_leveled = true;
     }
 
     /// How many clients there is room for until the first pass. In that, as in each, the loop asks the launcher for the

@@ -3,7 +3,7 @@
 
 ghost use Rattle.std.specs.Prelude.{◌≡◌, ◌≤◌, ℕ, Bool, List, Option, Some, IfNone, OnSome};
 ghost use Rattle.std.specs.Option.{option_map};
-ghost use Rattle.live_loop.specs.Looks.{PathCall, BeginsLooks, HasLoaded, AsksAt, Awaits, LookedAt, Sighted};
+ghost use Rattle.live_loop.specs.Looks.{PathCall, BeginsLooks, HasLoaded, AsksAt, Awaits, LookedAt, Observed};
 
 use crate::label_room::LabelRoom;
 use child_edge::{Client, Notice};
@@ -55,22 +55,22 @@ pub trait PathHost {
 
     /// Delivers an observation.
     fn saw(&mut self, alloc: Global, path: &str, obs: Obs)
-        ensures { Self.Did (Sighted path.now obs) self.old self.new };
+        ensures { Self.Did (Observed path.now obs) self.old self.new };
 }
 
 /// What became of a client that was delivered.
-pub enum HandedIn {
+pub enum Delivered {
     /// The edge could not hold it, so it is not an event. It was disconnected, and that was logged.
     Dropped,
     /// Its job heard that it came.
-    Heard,
+    Received,
     /// The launcher refused it, and it was closed.
     Refused(Refusal),
 }
 
 /// The state of a launcher.
 #[derive(Clone, Copy)]
-pub struct Standing {
+pub struct LauncherState {
     /// Whether something happened in this pass that is an input.
     pub is_active: bool,
     /// Whether a shutdown was accepted, and no job is left.
@@ -82,7 +82,7 @@ pub struct Standing {
 
 /// A launcher as the passes of a live loop see it. Its answers to the lines of control clients are those of `Answers`.
 pub trait LoopHost: PathHost + Answers {
-    ghost use Rattle.live_loop.specs.declared.loop_host.HandedIn.{HandedIn};
+    ghost use Rattle.live_loop.specs.declared.loop_host.Delivered.{Delivered};
 
     /// The beginning of a pass may lead from the one to the other.
     ghost Begun: { Self → Self → Type 0 };
@@ -101,7 +101,7 @@ pub trait LoopHost: PathHost + Answers {
 
     /// A client came, under this number, of this job, with this request. That it was delivered may have led from the
     /// one to the other.
-    ghost Came: { ℕ → ℕ → List ℕ → HandedIn → Self → Self → Type 0 };
+    ghost Came: { ℕ → ℕ → List ℕ → Delivered → Self → Self → Type 0 };
 
     /// Begins a pass at a new clock reading, and delivers it if it may change something. If the clock can't be read,
     /// the pass has the clock reading of the one before.
@@ -113,7 +113,7 @@ pub trait LoopHost: PathHost + Answers {
         ensures { Self.Asked self.old self.new };
 
     /// Its state now.
-    fn standing(&self) -> Standing
+    fn standing(&self) -> LauncherState
         ensures { Self.Says self.now result.has_ended result.next_moment };
 
     /// Asks about the child of this job, or of the next above it, whose run is over. It delivers how the run exited, or
@@ -152,13 +152,13 @@ pub trait LoopHost: PathHost + Answers {
         ensures nobody { IfNone result (Self.Asked self.old self.new) };
 
     /// Delivers a client whose request came whole, under a number that it has had for no other.
-    fn hand_in(
+    fn deliver(
         &mut self,
         alloc: Global,
         room: &mut LabelRoom,
         conn: u64,
         caller: Caller,
-    ) -> HandedIn
+    ) -> Delivered
         ensures { Self.Came conn caller.origin.job caller.exchange.request result self.old self.new };
 
     /// Sends clients what their runs have written. It says whether one may go on at once.
@@ -166,7 +166,7 @@ pub trait LoopHost: PathHost + Answers {
         ensures { Self.Asked self.old self.new };
 
     /// Closes each connection that is held, with its files.
-    fn let_all_go(&mut self)
+    fn release_all(&mut self)
         ensures { Self.Asked self.old self.new };
 
     /// The next line on what the edge was refused, and on what became of runs.

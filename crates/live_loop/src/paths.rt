@@ -28,7 +28,7 @@ const LOOKS: u32 = 256;
 /// What was last seen at each path and delivered. An observation that is equal to the last one is not delivered again,
 /// unless a job was loaded since.
 #[derive(Drop)]
-pub struct Sights {
+pub struct Observations {
     alloc: Global,
     seen: BTreeMap<String, Obs>,
     // The path of the last check, and that of the last question; and a room.
@@ -43,17 +43,17 @@ pub struct Sights {
     ghost room_room: { 1024 ≤ string_capacity room },
 }
 
-impl Sights {
-    ghost use Rattle.live_loop.specs.Sightings.{known_in, path_in, room_in, walk_in, next_in, later_in, later_after, IsNextLook, IsStill};
+impl Observations {
+    ghost use Rattle.live_loop.specs.Observing.{known_in, path_in, room_in, walk_in, next_in, later_in, later_after, IsNextLook, IsStill};
 
     /// Nothing was delivered yet.
-    pub fn new(alloc: Global) -> Result<Sights, AllocError>
-        ensures { IfOk result (λ sights. IsEmpty (known_in sights)) }
+    pub fn new(alloc: Global) -> Result<Observations, AllocError>
+        ensures { IfOk result (λ observations. IsEmpty (known_in observations)) }
     {
         let path = String::with_capacity(alloc, LONGEST_PATH)?;
         let asked = String::with_capacity(alloc, LONGEST_PATH)?;
         let room = String::with_capacity(alloc, LONGEST_PATH)?;
-        Ok(Sights {
+        Ok(Observations {
             alloc,
             seen: BTreeMap::new(alloc),
             path,

@@ -75,7 +75,7 @@ pub fn round<R: System, H: LoopHost>(
         live.next_child,
         &mut time,
     );
-    let is_time = live.rooms.sights.look(alloc, &mut live.host);
+    let is_time = live.rooms.observations.look(alloc, &mut live.host);
     live.rooms.sockets.may_have_come = live.rooms.sockets.may_have_come | is_time;
     serve_clients(rt, alloc, live);
     tell(rt, alloc, live);
@@ -101,7 +101,7 @@ pub fn serve<L: Wait, R: System, H: LoopHost + Drop>(
         };
         if let Some(answer) = end {
             live.control.remove(rt);
-            live.host.let_all_go();
+            live.host.release_all();
             tell(rt, alloc, &mut live);
             drop(live);
             return answer;
@@ -146,7 +146,7 @@ fn next_wait<H: LoopHost>(live: &mut Live<H>) -> u64
         return 0;
     }
     let up = live.host.up_now();
-    let look = live.rooms.sights.next_look(&live.host);
+    let look = live.rooms.observations.next_look(&live.host);
     let pause = live.pause.min(LONGEST);
     round_wait(pause, up, live.host.standing().next_moment, look)
 }
@@ -231,7 +231,7 @@ fn ends<H: LoopHost>(live: &mut Live<H>) -> bool
     let up = live.host.up();
     let ended_at = live.ended_at.unwrap_or(up);
     live.ended_at = Some(ended_at);
-    let is_told = live.untold.is_none() && live.rooms.voice.is_done();
+    let is_told = live.untold.is_none() && live.rooms.standard_error.is_done();
     let is_quiet = !live.is_busy && is_told && live.control.is_quiet();
     is_quiet || ended_at.saturating_add(PATIENCE) <= up
 }

@@ -21,15 +21,15 @@ pub(crate) fn tell<R: Eprint, H: LoopHost>(rt: &R, alloc: Global, live: &mut Liv
     ensures kept { IsKeptBy live.old live.new }
     ensures ended { live.new.ended_at ≡ live.old.ended_at }
 {
-    live.rooms.voice.begin();
-    if !live.rooms.voice.go_on(rt) {
+    live.rooms.standard_error.begin();
+    if !live.rooms.standard_error.go_on(rt) {
         return;
     }
     for _ in 0..LINES {
         let Some(notice) = next_notice(alloc, live) else {
             return;
         };
-        if !live.rooms.voice.tell(rt, &notice) {
+        if !live.rooms.standard_error.tell(rt, &notice) {
             drop(mem::replace(&mut live.untold, Some(notice)));
             return;
         }
@@ -64,7 +64,7 @@ fn next_refusal<H: LoopHost>(alloc: Global, live: &mut Live<H>) -> Option<Notice
     } else {
         match live.control.next_notice() {
             Some(text) => text,
-            None => live.rooms.sockets.losses.next()?,
+            None => live.rooms.sockets.drop_notices.next()?,
         }
     };
     Some(Notice {

@@ -1,4 +1,4 @@
--- What is loaded after the steps, label by label, and what a plan made anew then says.
+-- What is loaded after the steps, label by label, and what a plan made again then says.
 use Rattle.std.proofs.Common.{◌≡◌, ℕ, Bool, true, false, not, List, [], ◌∷◌, Option, Some, None, cond, find, refl, sym, ◌∙◌, ap, subst, arith}
 use Rattle.std.specs.Str.{bytes_eq}
 use Rattle.std.specs.Borrow.{Bor}
@@ -11,7 +11,7 @@ use Rattle.load_plan.specs.declared.Choice.{Choice}
 use Rattle.load_plan.specs.declared.Choice.TheVariants.{Nobody, One, Several}
 use Rattle.load_plan.specs.declared.Operation.{Operation}
 use Rattle.load_plan.specs.declared.Operation.TheVariants.{Load, Replace, Unload, Leave}
-use Rattle.load_plan.specs.declared.Step.{Step}
+use Rattle.load_plan.specs.declared.PlannedStep.{PlannedStep}
 use Rattle.load_plan.specs.Plan.{job_at, fault, bar, held, may_unload, orphan_operation, change_operation, load_operation, file_operation, free_operation, decided, going_block, old_block, step_operation, has_step, operation_in, AreOnce}
 use Rattle.load_plan.specs.Laws.{acts, left, without, fresh, done, after}
 use Rattle.load_plan.proofs.PlanLemmas.{equal_of_test, same_text}
@@ -26,7 +26,7 @@ job_after runs label (Some Unload) found = None
 job_after runs label (Some (Leave why)) found = found
 
 -- the loaded job of a label after the step there
-abbrev pub step_after : Bool → Option Step → Option LoadedJob → Option LoadedJob
+abbrev pub step_after : Bool → Option PlannedStep → Option LoadedJob → Option LoadedJob
 step_after runs None found = found
 step_after runs (Some step) found = job_after runs step.label (Some step.operation) found
 
@@ -65,11 +65,11 @@ done_own runs label (Replace file) loaded = ap (λ b. cond b (Some (fresh runs l
 done_own runs label Unload loaded = without_own label.now loaded
 done_own runs label (Leave why) loaded = refl
 
-no_step : (step : Option Step) → step_operation step ≡ None → step ≡ None
+no_step : (step : Option PlannedStep) → step_operation step ≡ None → step ≡ None
 no_step None none = refl
 no_step (Some step) none = let e : Some step.operation ≡ None = none in cc
 
-next_at : (runs : List ℕ → Bool) (step : Step) (steps : List Step) (loaded : List LoadedJob) (q : List ℕ) (own : Bool) → bytes_eq step.label.now q ≡ own →
+next_at : (runs : List ℕ → Bool) (step : PlannedStep) (steps : List PlannedStep) (loaded : List LoadedJob) (q : List ℕ) (own : Bool) → bytes_eq step.label.now q ≡ own →
     operation_in steps step.label.now ≡ None →
     step_after (runs q) (find (has_step q) steps) (job_at (done (runs step.label.now) step.label step.operation loaded) q)
     ≡ step_after (runs q) (cond own (Some step) (find (has_step q) steps)) (job_at loaded q)
@@ -83,7 +83,7 @@ next_at runs step steps loaded q true is none =
 next_at runs step steps loaded q false is none =
     ap (λ found. step_after (runs q) (find (has_step q) steps) found) (done_other (runs step.label.now) step.label q step.operation loaded is)
 
-pub after_at : (runs : List ℕ → Bool) (steps : List Step) (loaded : List LoadedJob) (q : List ℕ) → AreOnce steps →
+pub after_at : (runs : List ℕ → Bool) (steps : List PlannedStep) (loaded : List LoadedJob) (q : List ℕ) → AreOnce steps →
     job_at (after runs steps loaded) q ≡ step_after (runs q) (find (has_step q) steps) (job_at loaded q)
 after_at runs [] loaded q once = refl
 after_at runs (step ∷ steps) loaded q once =
@@ -302,7 +302,7 @@ decided_again flags unread renamed block next choice found keeps none =
     ∙ held_nothing (bar flags)
 
 -- the same, of the step at a label
-pub settles_at : (flags : Flags) (unread renamed : Bool) (block next : Option Reason) (choice : Choice) (found : Option LoadedJob) (runs : Bool) (step : Option Step) →
+pub settles_at : (flags : Flags) (unread renamed : Bool) (block next : Option Reason) (choice : Choice) (found : Option LoadedJob) (runs : Bool) (step : Option PlannedStep) →
     ((b : Reason) → block ≡ Some b → next ≡ Some b) → ((w : Reason) → bar flags ≡ Some w → next ≡ block) →
     step_operation step ≡ decided flags unread renamed block choice found →
     decided flags unread renamed next choice (step_after runs step found) ≡ left (decided flags unread renamed block choice found)
@@ -321,7 +321,7 @@ as_file flags file why block (Some w) found (Some (Load other)) is none = let e 
 as_file flags file why block (Some w) found (Some (Replace other)) is none = let e : Some (Leave w) ≡ None = none in cc
 as_file flags file why block (Some w) found (Some Unload) is none = let e : Some (Leave w) ≡ None = none in cc
 
-pub puts_in_effect_at : (flags : Flags) (unread renamed : Bool) (block : Option Reason) (choice : Choice) (found : Option LoadedJob) (file : FileVerdict) (runs : Bool) (step : Option Step) →
+pub puts_in_effect_at : (flags : Flags) (unread renamed : Bool) (block : Option Reason) (choice : Choice) (found : Option LoadedJob) (file : FileVerdict) (runs : Bool) (step : Option PlannedStep) →
     step_operation step ≡ decided flags unread renamed block choice found → choice ≡ One file → left (decided flags unread renamed block choice found) ≡ None →
     HasDigest (step_after runs step found) file.digest.now
 puts_in_effect_at flags unread renamed block choice found file runs None is one none =
@@ -339,7 +339,7 @@ no_orphan flags unread renamed (Some w) own (Some (Load other)) is none = let e 
 no_orphan flags unread renamed (Some w) own (Some (Replace other)) is none = let e : Some (Leave w) ≡ None = none in cc
 no_orphan flags unread renamed (Some w) own (Some Unload) is none = let e : Some (Leave w) ≡ None = none in cc
 
-pub clears_orphans_at : (flags : Flags) (unread renamed : Bool) (block : Option Reason) (choice : Choice) (found : Option LoadedJob) (job : LoadedJob) (runs : Bool) (step : Option Step) →
+pub clears_orphans_at : (flags : Flags) (unread renamed : Bool) (block : Option Reason) (choice : Choice) (found : Option LoadedJob) (job : LoadedJob) (runs : Bool) (step : Option PlannedStep) →
     step_operation step ≡ decided flags unread renamed block choice found → choice ≡ Nobody → left (decided flags unread renamed block choice found) ≡ None → step_after runs step found ≡ Some job →
     job.was_applied_here ≡ false
 clears_orphans_at flags unread renamed block choice found job runs None is nobody none there =
@@ -367,7 +367,7 @@ block_stays flags unread renamed block Nobody (Some old) why is =
 block_stays flags unread renamed block Several found why is = let e : None ≡ Some why = is in cc
 block_stays flags unread renamed block (One file) found why is = let e : None ≡ Some why = is in cc
 
--- what is not acted on stays
-pub stays : (runs : Bool) (step : Option Step) (found : Option LoadedJob) (operation : Option Operation) → step_operation step ≡ operation → acts operation ≡ false → step_after runs step found ≡ found
+-- what is not supported stays
+pub stays : (runs : Bool) (step : Option PlannedStep) (found : Option LoadedJob) (operation : Option Operation) → step_operation step ≡ operation → acts operation ≡ false → step_after runs step found ≡ found
 stays runs None found operation is idle = refl
 stays runs (Some step) found operation is idle = stays_after runs step.label (Some step.operation) found (ap acts is ∙ idle)

@@ -2,8 +2,8 @@
 use Rattle.std.proofs.Common.{◌||◌, ◌≡◌, ◌&&◌, Bool, true, false, Option, Some, None, cond, refl, sym, ap, subst, arith}
 use Rattle.std.specs.Str.{bytes_eq}
 use Rattle.load_plan.proofs.PlanLemmas.{test_of_equal}
-use Rattle.load_plan.specs.declared.Standing.{Standing}
-use Rattle.load_plan.specs.declared.Standing.TheVariants.{Good, Refused, Unread, LeftAtBoot, Disabled}
+use Rattle.load_plan.specs.declared.FileState.{FileState}
+use Rattle.load_plan.specs.declared.FileState.TheVariants.{Good, Refused, Unread, LeftAtBoot, Disabled}
 use Rattle.load_plan.specs.declared.Reason.{Reason}
 use Rattle.load_plan.specs.declared.Reason.TheVariants as reason
 use Rattle.load_plan.specs.declared.FileVerdict.{FileVerdict}
@@ -69,7 +69,7 @@ pub leaves_unclear : (flags : Flags) (unread renamed : Bool) (block : Option Rea
 leaves_unclear flags unread renamed block choice found is =
     subst (λ o. acts (decided flags unread renamed block o found) ≡ false) (sym is) (held_acts (bar flags) (free_operation flags unread renamed block Several found) refl)
 
-not_good : (flags : Flags) (file : FileVerdict) (standing : Standing) (block : Option Reason) (found : Option LoadedJob) → is_good standing ≡ false →
+not_good : (flags : Flags) (file : FileVerdict) (standing : FileState) (block : Option Reason) (found : Option LoadedJob) → is_good standing ≡ false →
     acts (file_operation flags file (fault standing) block found) ≡ false
 not_good flags file Good block found bad = let e : true ≡ false = bad in cc
 not_good flags file Refused block found bad = refl

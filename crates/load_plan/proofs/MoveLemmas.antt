@@ -4,8 +4,8 @@ use Rattle.std.proofs.lemmas.Bool.Decides.{nat_tests}
 use Rattle.std.specs.List.{list_any}
 use Rattle.std.specs.Option.{option_or}
 use Rattle.std.specs.Borrow.{Bor}
-use Rattle.load_plan.specs.declared.Standing.{Standing}
-use Rattle.load_plan.specs.declared.Standing.TheVariants.{Good, Refused, Unread, LeftAtBoot, Disabled}
+use Rattle.load_plan.specs.declared.FileState.{FileState}
+use Rattle.load_plan.specs.declared.FileState.TheVariants.{Good, Refused, Unread, LeftAtBoot, Disabled}
 use Rattle.load_plan.specs.declared.Reason.{Reason}
 use Rattle.load_plan.specs.declared.Reason.TheVariants as reason
 use Rattle.load_plan.specs.declared.FileVerdict.{FileVerdict}
@@ -15,7 +15,7 @@ use Rattle.load_plan.specs.declared.Choice.{Choice}
 use Rattle.load_plan.specs.declared.Choice.TheVariants.{Nobody, One, Several}
 use Rattle.load_plan.specs.declared.Operation.{Operation}
 use Rattle.load_plan.specs.declared.Operation.TheVariants.{Load, Replace, Unload, Leave}
-use Rattle.load_plan.specs.declared.Step.{Step}
+use Rattle.load_plan.specs.declared.PlannedStep.{PlannedStep}
 use Rattle.load_plan.specs.Plan.{claims, claims_by_name, sole, choice_of, decider, fault, bar, held, has_unread, change_operation, file_operation, free_operation, orphan_operation, decided, is_good, is_former, is_decided_by, is_heir, has_heir, going_block, old_block, former_block, block_at, job_at, HasOperations}
 use Rattle.load_plan.specs.Laws.{MovesWhole, LoadsRightly, loads}
 use Rattle.load_plan.proofs.PlanLemmas.{equal_of_test, same_text}
@@ -97,7 +97,7 @@ heir files label file former one was good =
     (ap (λ o. is_former former.now o) was ∙ same_text former.now) good
     (ap (λ o. is_decided_by file.place o) decides ∙ same_place file.place))
 
-good_of : (standing : Standing) → fault standing ≡ None → is_good standing ≡ true
+good_of : (standing : FileState) → fault standing ≡ None → is_good standing ≡ true
 good_of Good is = refl
 good_of Refused is = let e : Some reason.Refused ≡ None = is in cc
 good_of Unread is = let e : Some reason.Unread ≡ None = is in cc
@@ -139,7 +139,7 @@ unloads flags unread renamed block choice found old nobody is new_name here clea
     ∙ ap (λ o. held o (orphan_operation flags unread renamed old)) unbarred
     ∙ old_goes flags unread renamed old new_name here clear_old
 
-pub moves_whole : (files : List FileVerdict) (loaded : List LoadedJob) (flags : Flags) (steps : List Step) → HasOperations files loaded flags steps → MovesWhole files loaded steps
+pub moves_whole : (files : List FileVerdict) (loaded : List LoadedJob) (flags : Flags) (steps : List PlannedStep) → HasOperations files loaded flags steps → MovesWhole files loaded steps
 moves_whole files loaded flags steps operations = λ label file former old one was nobody is here loads.
     let block = block_at files loaded flags (decider files label) in
     let operation : decided flags (has_unread files) (has_heir files label) block (One file) (job_at loaded label) ≡ Some (Load file) =
@@ -198,7 +198,7 @@ right files label file is =
       | inr e ↦ inr (one_of_test (count_by (claims label) files) (only_one (count_by (claims label) files == 1) (find (claims label) files) file e))
     ]
 
-pub loads_rightly : (files : List FileVerdict) (loaded : List LoadedJob) (flags : Flags) (steps : List Step) → HasOperations files loaded flags steps → LoadsRightly files steps
+pub loads_rightly : (files : List FileVerdict) (loaded : List LoadedJob) (flags : Flags) (steps : List PlannedStep) → HasOperations files loaded flags steps → LoadsRightly files steps
 loads_rightly files loaded flags steps operations = λ label file is.
     let block = block_at files loaded flags (decider files label) in
     let one : decider files label ≡ One file =

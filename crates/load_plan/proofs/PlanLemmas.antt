@@ -14,7 +14,7 @@ use Rattle.load_plan.specs.declared.Flags.{Flags}
 use Rattle.load_plan.specs.declared.Choice.TheVariants.{Nobody}
 use Rattle.load_plan.specs.declared.Operation.{Operation}
 use Rattle.load_plan.specs.declared.Operation.TheVariants.{Load, Replace, Unload, Leave}
-use Rattle.load_plan.specs.declared.Step.{Step}
+use Rattle.load_plan.specs.declared.PlannedStep.{PlannedStep}
 use Rattle.load_plan.specs.Plan.{claims, claims_by_name, only, sole, choice_of, decider, has_unread, has_heir, block_at, job_at, bar, held, decided, operation_of, step_operation, has_step, operation_in, AreOnce, with_operation, with_operations, unload_only, CoversUnloads, HasOperations}
 
 none_last : {A : Type 0} → (o : Option A) → option_or o None ≡ o
@@ -29,16 +29,16 @@ or_assoc : {A : Type 0} → (a b c : Option A) → option_or (option_or a b) c �
 or_assoc None b c = refl
 or_assoc (Some x) b c = refl
 
-step_operation_or : (a b : Option Step) → step_operation (option_or a b) ≡ option_or (step_operation a) (step_operation b)
+step_operation_or : (a b : Option PlannedStep) → step_operation (option_or a b) ≡ option_or (step_operation a) (step_operation b)
 step_operation_or None b = refl
 step_operation_or (Some x) b = refl
 
-last_operation : (test : Bool) (step : Step) → step_operation (cond test (Some step) None) ≡ cond test (Some step.operation) None
+last_operation : (test : Bool) (step : PlannedStep) → step_operation (cond test (Some step) None) ≡ cond test (Some step.operation) None
 last_operation true step = refl
 last_operation false step = refl
 
 -- the operation at a label, with one more step
-pub operation_in_more : (steps : List Step) (step : Step) (q : List ℕ) →
+pub operation_in_more : (steps : List PlannedStep) (step : PlannedStep) (q : List ℕ) →
     operation_in (steps ++ step ∷ []) q ≡ option_or (operation_in steps q) (cond (bytes_eq step.label.now q) (Some step.operation) None)
 operation_in_more steps step q =
     ap step_operation (find-append (has_step q) steps (step ∷ []))
@@ -73,14 +73,14 @@ back a b false is other = refl
 pub test_back : (a b : List ℕ) → bytes_eq a b ≡ false → bytes_eq b a ≡ false
 test_back a b other = back a b (bytes_eq b a) refl other
 
-put_operation : (steps : List Step) (label : Bor (List ℕ)) (q : List ℕ) (operation : Operation) (known : Option Operation) → operation_in steps label.now ≡ known →
+put_operation : (steps : List PlannedStep) (label : Bor (List ℕ)) (q : List ℕ) (operation : Operation) (known : Option Operation) → operation_in steps label.now ≡ known →
     operation_in (cond (is_some known) steps (steps ++ record { label = label; operation = operation } ∷ [])) q
     ≡ option_or (operation_in steps q) (cond (bytes_eq label.now q) (Some operation) None)
 put_operation steps label q operation None is = operation_in_more steps (record { label = label; operation = operation }) q
 put_operation steps label q operation (Some other) is =
     already (operation_in steps q) (bytes_eq label.now q) operation other (λ e. subst (λ l. operation_in steps l ≡ Some other) (equal_of_test label.now q e) is)
 
-pub with_operation_at : (steps : List Step) (label : Bor (List ℕ)) (q : List ℕ) (operation : Option Operation) →
+pub with_operation_at : (steps : List PlannedStep) (label : Bor (List ℕ)) (q : List ℕ) (operation : Option Operation) →
     operation_in (with_operation steps label operation) q ≡ option_or (operation_in steps q) (cond (bytes_eq label.now q) operation None)
 with_operation_at steps label q None = nothing_more (bytes_eq label.now q) (operation_in steps q)
 with_operation_at steps label q (Some operation) = put_operation steps label q operation (operation_in steps label.now) refl
@@ -91,7 +91,7 @@ joined false others a b same = refl
 joined true true a b same = ap (λ o. option_or o b) (same refl) ∙ same_twice b
 joined true false a b same = none_last a ∙ same refl
 
-pub with_operations_at : (operation : List ℕ → Option Operation) (labels : List (Bor (List ℕ))) (steps : List Step) (q : List ℕ) →
+pub with_operations_at : (operation : List ℕ → Option Operation) (labels : List (Bor (List ℕ))) (steps : List PlannedStep) (q : List ℕ) →
     operation_in (with_operations operation labels steps) q ≡ option_or (operation_in steps q) (cond (list_any (λ label. bytes_eq label.now q) labels) (operation q) None)
 with_operations_at operation [] steps q = sym (none_last (operation_in steps q))
 with_operations_at operation (label ∷ labels) steps q =
@@ -159,7 +159,7 @@ both_passes true false operation none = none_last operation
 both_passes false true operation none = refl
 both_passes false false operation none = sym (none refl refl)
 
--- the unloads, which stand first, are among what the jobs have
+-- the unloads, which come first, are among what the jobs have
 first_same : (a : Bool) (operation : Option Operation) → option_or (cond a (unload_only operation) None) (cond a operation None) ≡ cond a operation None
 first_same false operation = refl
 first_same true None = refl
@@ -169,7 +169,7 @@ first_same true (Some (Replace file)) = refl
 first_same true (Some (Leave why)) = refl
 
 -- what the first pass has of a label
-pub first_at : (files : List FileVerdict) (loaded : List LoadedJob) (flags : Flags) (none first : List Step) (q : List ℕ) → none ≡ [] →
+pub first_at : (files : List FileVerdict) (loaded : List LoadedJob) (flags : Flags) (none first : List PlannedStep) (q : List ℕ) → none ≡ [] →
     CoversUnloads (map (λ job. job.label) loaded) files loaded flags none first →
     operation_in first q ≡ cond (list_any (λ label. bytes_eq label.now q) (map (λ job. job.label) loaded)) (unload_only (operation_of files loaded flags q)) None
 first_at files loaded flags none first q is_none is_first =
@@ -180,7 +180,7 @@ first_at files loaded flags none first q is_none is_first =
     ∙ ap (λ list. option_or (operation_in list q) (cond a (unload q) None)) is_none
 
 -- the steps for the labels of the jobs and of the files are the operations of all labels
-pub has_operations : (files : List FileVerdict) (loaded : List LoadedJob) (flags : Flags) (none first middle steps : List Step) → none ≡ [] →
+pub has_operations : (files : List FileVerdict) (loaded : List LoadedJob) (flags : Flags) (none first middle steps : List PlannedStep) → none ≡ [] →
     CoversUnloads (map (λ job. job.label) loaded) files loaded flags none first →
     middle ≡ with_operations (operation_of files loaded flags) (map (λ job. job.label) loaded) first →
     steps ≡ with_operations (operation_of files loaded flags) (map (λ file. file.label) files) middle →
@@ -202,11 +202,11 @@ has_operations files loaded flags none first middle steps is_none is_first is_mi
     (sym (any-map (λ label. bytes_eq label.now q) (λ file. file.label) files) ∙ no_file)
     (sym (any-map (λ label. bytes_eq label.now q) (λ job. job.label) loaded) ∙ no_job))
 
-behind : (test : Bool) (step : Step) (rest : Option Step) → step_operation (cond test (Some step) rest) ≡ None → (test ≡ false) × (step_operation rest ≡ None)
+behind : (test : Bool) (step : PlannedStep) (rest : Option PlannedStep) → step_operation (cond test (Some step) rest) ≡ None → (test ≡ false) × (step_operation rest ≡ None)
 behind true step rest none = let e : Some step.operation ≡ None = none in cc
 behind false step rest none = (refl, none)
 
-once_more : (steps : List Step) (step : Step) → AreOnce steps → operation_in steps step.label.now ≡ None → AreOnce (steps ++ step ∷ [])
+once_more : (steps : List PlannedStep) (step : PlannedStep) → AreOnce steps → operation_in steps step.label.now ≡ None → AreOnce (steps ++ step ∷ [])
 once_more [] step once none = (refl, tt)
 once_more (first ∷ steps) step once none =
     let split = behind (bytes_eq first.label.now step.label.now) first (find (has_step step.label.now) steps) none in
@@ -216,21 +216,21 @@ once_more (first ∷ steps) step once none =
     ∙ ap (λ b. cond b (Some step.operation) None) (test_back first.label.now step.label.now split.0) in
     (alone, once_more steps step once.1 split.1)
 
-put_once : (steps : List Step) (label : Bor (List ℕ)) (operation : Operation) (known : Option Operation) → operation_in steps label.now ≡ known → AreOnce steps →
+put_once : (steps : List PlannedStep) (label : Bor (List ℕ)) (operation : Operation) (known : Option Operation) → operation_in steps label.now ≡ known → AreOnce steps →
     AreOnce (cond (is_some known) steps (steps ++ record { label = label; operation = operation } ∷ []))
 put_once steps label operation None is once = once_more steps (record { label = label; operation = operation }) once is
 put_once steps label operation (Some other) is once = once
 
-with_operation_once : (steps : List Step) (label : Bor (List ℕ)) (operation : Option Operation) → AreOnce steps → AreOnce (with_operation steps label operation)
+with_operation_once : (steps : List PlannedStep) (label : Bor (List ℕ)) (operation : Option Operation) → AreOnce steps → AreOnce (with_operation steps label operation)
 with_operation_once steps label None once = once
 with_operation_once steps label (Some operation) once = put_once steps label operation (operation_in steps label.now) refl once
 
-pub with_operations_once : (operation : List ℕ → Option Operation) (labels : List (Bor (List ℕ))) (steps : List Step) → AreOnce steps → AreOnce (with_operations operation labels steps)
+pub with_operations_once : (operation : List ℕ → Option Operation) (labels : List (Bor (List ℕ))) (steps : List PlannedStep) → AreOnce steps → AreOnce (with_operations operation labels steps)
 with_operations_once operation [] steps once = once
 with_operations_once operation (label ∷ labels) steps once = with_operations_once operation labels (with_operation steps label (operation label.now)) (with_operation_once steps label (operation label.now) once)
 
 -- the passes leave each label once
-pub are_once : (unload operation : List ℕ → Option Operation) (jobs files : List (Bor (List ℕ))) (none first middle steps : List Step) → none ≡ [] →
+pub are_once : (unload operation : List ℕ → Option Operation) (jobs files : List (Bor (List ℕ))) (none first middle steps : List PlannedStep) → none ≡ [] →
     first ≡ with_operations unload jobs none → middle ≡ with_operations operation jobs first → steps ≡ with_operations operation files middle → AreOnce steps
 are_once unload operation jobs files none first middle steps is_none is_first is_middle is_steps =
     let start : AreOnce none = subst AreOnce (sym is_none) tt in
@@ -238,13 +238,13 @@ are_once unload operation jobs files none first middle steps is_none is_first is
     let half : AreOnce middle = subst AreOnce (sym is_middle) (with_operations_once operation jobs first begun) in
     subst AreOnce (sym is_steps) (with_operations_once operation files middle half)
 
-with_operations-append : (operation : List ℕ → Option Operation) (front back : List (Bor (List ℕ))) (steps : List Step) →
+with_operations-append : (operation : List ℕ → Option Operation) (front back : List (Bor (List ℕ))) (steps : List PlannedStep) →
     with_operations operation (front ++ back) steps ≡ with_operations operation back (with_operations operation front steps)
 with_operations-append operation [] back steps = refl
 with_operations-append operation (label ∷ front) back steps = with_operations-append operation front back (with_operation steps label (operation label.now))
 
 -- the next of a list of things that have labels
-pub next_operation : {A : Type 0} → (operation : List ℕ → Option Operation) (label_of : A → Bor (List ℕ)) (items : List A) (at : ℕ) (other : A) (found : Option Operation) (old before after : List Step) →
+pub next_operation : {A : Type 0} → (operation : List ℕ → Option Operation) (label_of : A → Bor (List ℕ)) (items : List A) (at : ℕ) (other : A) (found : Option Operation) (old before after : List PlannedStep) →
     at < length items → found ≡ operation (label_of (get_or items at other)).now → before ≡ with_operations operation (map label_of (take at items)) old →
     after ≡ with_operation before (label_of (get_or items at other)) found →
     after ≡ with_operations operation (map label_of (take (at + 1) items)) old

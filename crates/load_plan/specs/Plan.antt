@@ -4,8 +4,8 @@ use Rattle.std.specs.Option.{option_or}
 use Rattle.std.specs.Str.{bytes_eq}
 use Rattle.std.specs.Borrow.{Bor}
 use Rattle.std.specs.List.{list_any}
-use Rattle.load_plan.specs.declared.Standing.{Standing}
-use Rattle.load_plan.specs.declared.Standing.TheVariants.{Good, Refused, Unread, LeftAtBoot, Disabled}
+use Rattle.load_plan.specs.declared.FileState.{FileState}
+use Rattle.load_plan.specs.declared.FileState.TheVariants.{Good, Refused, Unread, LeftAtBoot, Disabled}
 use Rattle.load_plan.specs.declared.Reason.{Reason}
 use Rattle.load_plan.specs.declared.Reason.TheVariants as reason
 use Rattle.load_plan.specs.declared.FileVerdict.{FileVerdict}
@@ -15,7 +15,7 @@ use Rattle.load_plan.specs.declared.Choice.{Choice}
 use Rattle.load_plan.specs.declared.Choice.TheVariants.{Nobody, One, Several}
 use Rattle.load_plan.specs.declared.Operation.{Operation}
 use Rattle.load_plan.specs.declared.Operation.TheVariants.{Load, Replace, Unload, Leave}
-use Rattle.load_plan.specs.declared.Step.{Step}
+use Rattle.load_plan.specs.declared.PlannedStep.{PlannedStep}
 
 -- the file names the label
 abbrev pub claims : List ℕ → FileVerdict → Bool
@@ -43,7 +43,7 @@ abbrev pub decider : List FileVerdict → List ℕ → Choice
 decider files label =
     choice_of (option_or (sole (claims_by_name label) files) (sole (claims label) files)) (list_any (claims label) files)
 
-abbrev pub is_unread : Standing → Bool
+abbrev pub is_unread : FileState → Bool
 is_unread Unread = true
 is_unread _ = false
 
@@ -56,7 +56,7 @@ abbrev pub job_at : List LoadedJob → List ℕ → Option LoadedJob
 job_at loaded label = find (λ job. bytes_eq job.label.now label) loaded
 
 -- why a file's definition is known not to be loaded
-abbrev pub fault : Standing → Option Reason
+abbrev pub fault : FileState → Option Reason
 fault Good = None
 fault Refused = Some reason.Refused
 fault Unread = Some reason.Unread
@@ -124,7 +124,7 @@ held (Some why) (Some operation) = Some (Leave why)
 abbrev pub decided : Flags → Bool → Bool → Option Reason → Choice → Option LoadedJob → Option Operation
 decided flags unread renamed block choice job = held (bar flags) (free_operation flags unread renamed block choice job)
 
-abbrev pub is_good : Standing → Bool
+abbrev pub is_good : FileState → Bool
 is_good Good = true
 is_good _ = false
 
@@ -169,30 +169,30 @@ operation_of files loaded flags label =
     decided flags (has_unread files) (has_heir files label) (block_at files loaded flags (decider files label)) (decider files label) (job_at loaded label)
 
 -- the operation of a step
-abbrev pub step_operation : Option Step → Option Operation
+abbrev pub step_operation : Option PlannedStep → Option Operation
 step_operation None = None
 step_operation (Some step) = Some step.operation
 
 -- the step is of the label
-abbrev pub has_step : List ℕ → Step → Bool
+abbrev pub has_step : List ℕ → PlannedStep → Bool
 has_step label step = bytes_eq step.label.now label
 
 -- the operation that the steps have for a label
-abbrev pub operation_in : List Step → List ℕ → Option Operation
+abbrev pub operation_in : List PlannedStep → List ℕ → Option Operation
 operation_in steps label = step_operation (find (has_step label) steps)
 
 -- no label has two steps
-abbrev pub AreOnce : List Step → Type 0
+abbrev pub AreOnce : List PlannedStep → Type 0
 AreOnce [] = Unit {0}
 AreOnce (step ∷ steps) = (operation_in steps step.label.now ≡ None) × AreOnce steps
 
 -- the steps with one more, if the label has a operation and no step yet
-abbrev pub with_operation : List Step → Bor (List ℕ) → Option Operation → List Step
+abbrev pub with_operation : List PlannedStep → Bor (List ℕ) → Option Operation → List PlannedStep
 with_operation steps label None = steps
 with_operation steps label (Some operation) = if is_some (operation_in steps label.now) then steps else steps ++ record { label = label; operation = operation } ∷ []
 
 -- the steps with one more for each of the labels, in their order, if it has a operation and no step yet
-abbrev pub with_operations : (List ℕ → Option Operation) → List (Bor (List ℕ)) → List Step → List Step
+abbrev pub with_operations : (List ℕ → Option Operation) → List (Bor (List ℕ)) → List PlannedStep → List PlannedStep
 with_operations operation [] steps = steps
 with_operations operation (label ∷ labels) steps = with_operations operation labels (with_operation steps label (operation label.now))
 
@@ -207,13 +207,13 @@ unload_only (Some Unload) = Some Unload
 unload_only _ = None
 
 -- each of the labels got its step, if what it has is an unload for good and it had none yet
-abbrev pub CoversUnloads : List (Bor (List ℕ)) → List FileVerdict → List LoadedJob → Flags → List Step → List Step → Type 0
+abbrev pub CoversUnloads : List (Bor (List ℕ)) → List FileVerdict → List LoadedJob → Flags → List PlannedStep → List PlannedStep → Type 0
 CoversUnloads labels files loaded flags old new = new ≡ with_operations (λ label. unload_only (operation_of files loaded flags label)) labels old
 
 -- each of the labels got its step, if it has a operation and had none yet
-abbrev pub Covers : List (Bor (List ℕ)) → List FileVerdict → List LoadedJob → Flags → List Step → List Step → Type 0
+abbrev pub Covers : List (Bor (List ℕ)) → List FileVerdict → List LoadedJob → Flags → List PlannedStep → List PlannedStep → Type 0
 Covers labels files loaded flags old new = new ≡ with_operations (operation_of files loaded flags) labels old
 
 -- the steps are the operations of all labels
-abbrev pub HasOperations : List FileVerdict → List LoadedJob → Flags → List Step → Type 0
+abbrev pub HasOperations : List FileVerdict → List LoadedJob → Flags → List PlannedStep → Type 0
 HasOperations files loaded flags steps = (label : List ℕ) → operation_in steps label ≡ operation_of files loaded flags label

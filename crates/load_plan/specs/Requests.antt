@@ -1,4 +1,4 @@
--- What is asked of the launcher next for a step, as its job stands just before.
+-- What is asked of the launcher next for a step, by the job's state just before.
 use Rattle.std.specs.Prelude.{Bool, true, false, if◌then◌else◌}
 use Rattle.load_plan.specs.declared.Reason.TheVariants as reason
 use Rattle.load_plan.specs.declared.Operation.{Operation}
@@ -21,7 +21,7 @@ unloaded_next Gone afterwards = afterwards
 unloaded_next Removing afterwards = next.Wait
 unloaded_next _ afterwards = next.Leave reason.Meanwhile
 
--- what is asked next for a step; whether its unload was accepted is handed in
+-- what is asked next for a step; an argument says whether its unload was accepted
 abbrev pub next_request : Operation → JobSeen → Bool → Bool → NextRequest
 next_request (Load file) seen may_end unloaded = next.Load
 next_request (Replace file) seen may_end true = unloaded_next seen next.Load

@@ -1,4 +1,4 @@
--- What is told of a step: a word for what is done, and why a job is left.
+-- What is printed for a step: what is done, and why a job is left.
 use Rattle.std.specs.Prelude.{ℕ, Bool, true, false, List, [], ◌∷◌, Option, find, codes}
 use Rattle.std.specs.Str.{bytes_eq}
 use Rattle.load_plan.specs.declared.Reason.{Reason}
@@ -28,7 +28,7 @@ reasons = Runs ∷ Goes ∷ Several ∷ Refused ∷ Unread ∷ LeftAtBoot ∷ Di
 abbrev pub reason_named : List ℕ → Option Reason
 reason_named text = find (λ reason. bytes_eq (reason_text reason) text) reasons
 
--- the word of a job that is left
+-- what is printed for a job that is left
 abbrev pub left_word : Reason → List ℕ
 left_word Runs = codes "running"
 left_word Goes = codes "waits"
@@ -43,7 +43,7 @@ left_word Warned = codes "warned"
 left_word ShutsDown = codes "shutdown"
 left_word Meanwhile = codes "loaded"
 
--- the word of what is done at a label; of what is unloaded it says whether its file has another label now
+-- what is printed for what is done at a label; if it is unloaded, it says whether its file has another label now
 abbrev pub operation_word : Operation → Bool → List ℕ
 operation_word (Load file) renamed = codes "new"
 operation_word (Replace file) renamed = codes "changed"

@@ -1,5 +1,5 @@
-//! What is to be done so that the loaded jobs are those of the files: the plan of `jobctl apply`, as a function of what the files say,
-//! of what is loaded and of the flags. It harms no run.
+//! What `jobctl apply` does so that the loaded jobs are those of the files. The plan is a function of what the files say, of what
+//! is loaded and of the flags. It harms no run.
 #![tactic(auto)]
 
 mod requests;
@@ -16,7 +16,7 @@ pub use texts::{operation_word, reason_text};
 
 /// What became of a file that was read.
 #[derive(Clone, Copy)]
-pub enum Standing {
+pub enum FileState {
     /// It is a definition.
     Good,
     /// It is a definition that a launcher refuses.
@@ -37,7 +37,7 @@ pub struct FileVerdict<'a> {
     pub label: &'a str,
     /// The SHA-256 of the definition, as 64 hexadecimal digits.
     pub digest: &'a str,
-    pub standing: Standing,
+    pub standing: FileState,
     /// Whether it is named LABEL.json.
     pub is_named: bool,
     /// Whether its job is kept alive.
@@ -85,9 +85,9 @@ pub enum Reason {
     Unread,
     LeftAtBoot,
     Disabled,
-    /// Its file is gone, and nothing is to be pruned.
+    /// Its file was removed, and nothing is to be pruned.
     Orphan,
-    /// Its file is gone, or is one that can't be read.
+    /// Its file was removed, or is one that can't be read.
     UnreadBeside,
     /// There is a warning, and all is to be strict.
     Warned,
@@ -107,7 +107,7 @@ pub enum Operation<'a> {
 }
 
 #[derive(Clone, Copy)]
-pub struct Step<'a> {
+pub struct PlannedStep<'a> {
     pub label: &'a str,
     pub operation: Operation<'a>,
 }
@@ -120,15 +120,15 @@ pub enum Choice<'a> {
     Several,
 }
 
-fn fault(standing: Standing) -> Option<Reason>
+fn fault(standing: FileState) -> Option<Reason>
     ensures { result ≡ fault standing }
 {
     match standing {
-        Standing::Good => None,
-        Standing::Refused => Some(Reason::Refused),
-        Standing::Unread => Some(Reason::Unread),
-        Standing::LeftAtBoot => Some(Reason::LeftAtBoot),
-        Standing::Disabled => Some(Reason::Disabled),
+        FileState::Good => None,
+        FileState::Refused => Some(Reason::Refused),
+        FileState::Unread => Some(Reason::Unread),
+        FileState::LeftAtBoot => Some(Reason::LeftAtBoot),
+        FileState::Disabled => Some(Reason::Disabled),
     }
 }
 
@@ -266,7 +266,7 @@ fn has_unread(files: &[FileVerdict<'_>]) -> bool
 {
     files
         .iter()
-        .any(|file| matches!(&file.standing, Standing::Unread))
+        .any(|file| matches!(&file.standing, FileState::Unread))
 }
 
 fn job_at<'a>(loaded: &[LoadedJob<'a>], label: &str) -> Option<LoadedJob<'a>>
@@ -348,14 +348,14 @@ pub fn decider<'a>(files: &[FileVerdict<'a>], label: &str) -> Choice<'a>
     choice_of(named.or(sole(files, label)), is_claimed(files, label))
 }
 
-fn step_at<'a>(steps: &[Step<'a>], label: &str) -> Option<Step<'a>>
+fn step_at<'a>(steps: &[PlannedStep<'a>], label: &str) -> Option<PlannedStep<'a>>
     ensures { result ≡ find (has_step label.now) steps.now }
 {
     steps.iter().copied().find(|step| step.label == label)
 }
 
 /// The operation that the steps have for a label.
-pub fn operation_in<'a>(steps: &[Step<'a>], label: &str) -> Option<Operation<'a>>
+pub fn operation_in<'a>(steps: &[PlannedStep<'a>], label: &str) -> Option<Operation<'a>>
     ensures { result ≡ operation_in steps.now label.now }
 {
     match step_at(steps, label) {
@@ -380,10 +380,10 @@ fn decided<'a>(
     )
 }
 
-fn is_good(standing: Standing) -> bool
+fn is_good(standing: FileState) -> bool
     ensures { result ≡ is_good standing }
 {
-    matches!(standing, Standing::Good)
+    matches!(standing, FileState::Good)
 }
 
 fn is_former(label: &str, former: Option<&str>) -> bool
@@ -496,7 +496,7 @@ pub fn operation_of<'a>(
 
 // Writes a step for a label, if it has a operation and no step yet.
 fn add_operation<'a>(
-    steps: &mut Vec<Step<'a>>,
+    steps: &mut Vec<PlannedStep<'a>>,
     label: &'a str,
     operation: Option<Operation<'a>>,
 ) -> Result<(), AllocError>
@@ -507,7 +507,7 @@ fn add_operation<'a>(
     };
     let known = operation_in(steps, label);
     if known.is_none() {
-        steps.push(Step { label, operation })?;
+        steps.push(PlannedStep { label, operation })?;
     }
     Ok(())
 }
@@ -524,7 +524,7 @@ fn unload_only(operation: Option<Operation<'_>>) -> Option<Operation<'_>>
 
 // What is unloaded for good comes first: what it held, as a port, is free for what is loaded after it.
 fn add_unloads<'a>(
-    steps: &mut Vec<Step<'a>>,
+    steps: &mut Vec<PlannedStep<'a>>,
     files: &[FileVerdict<'a>],
     loaded: &[LoadedJob<'a>],
     flags: &Flags,
@@ -540,7 +540,7 @@ fn add_unloads<'a>(
 }
 
 fn add_loaded<'a>(
-    steps: &mut Vec<Step<'a>>,
+    steps: &mut Vec<PlannedStep<'a>>,
     files: &[FileVerdict<'a>],
     loaded: &[LoadedJob<'a>],
     flags: &Flags,
@@ -555,7 +555,7 @@ fn add_loaded<'a>(
 }
 
 fn add_files<'a>(
-    steps: &mut Vec<Step<'a>>,
+    steps: &mut Vec<PlannedStep<'a>>,
     files: &[FileVerdict<'a>],
     loaded: &[LoadedJob<'a>],
     flags: &Flags,
@@ -574,7 +574,7 @@ fn steps_of<'a>(
     files: &[FileVerdict<'a>],
     loaded: &[LoadedJob<'a>],
     flags: &Flags,
-) -> Result<Vec<Step<'a>>, AllocError>
+) -> Result<Vec<PlannedStep<'a>>, AllocError>
     ensures operations { IfOk result (λ steps. HasOperations files.now loaded.now flags.now steps.items) }
     ensures once { IfOk result (λ steps. AreOnce steps.items) }
     ensures in_order { IfOk result (λ steps. unloads_first steps.items ≡ true) }
@@ -586,13 +586,14 @@ fn steps_of<'a>(
     Ok(steps)
 }
 
-/// The steps that bring the files into effect, each label once. It is told which runs may be ended, and ends no other.
+/// The steps that bring the files into effect, each label once. The caller says which runs may be ended, and the plan ends no
+/// other.
 pub fn plan<'a>(
     alloc: Global,
     files: &[FileVerdict<'a>],
     loaded: &[LoadedJob<'a>],
     flags: &Flags,
-) -> Result<Vec<Step<'a>>, AllocError>
+) -> Result<Vec<PlannedStep<'a>>, AllocError>
     ensures operations { IfOk result (λ steps. HasOperations files.now loaded.now flags.now steps.items) }
     ensures once { IfOk result (λ steps. AreOnce steps.items) }
     ensures in_order { IfOk result (λ steps. unloads_first steps.items ≡ true) }

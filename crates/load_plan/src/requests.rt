@@ -6,14 +6,14 @@ ghost use Rattle.load_plan.specs.Requests.{is_asked_load, is_asked_unload, next_
 
 use crate::{Operation, Reason};
 
-/// How a job stands just before a request.
+/// The state of a job just before a request.
 #[derive(Clone, Copy)]
 pub enum JobSeen {
     /// Nothing of its label is loaded.
     Gone,
     /// It is being removed.
     Removing,
-    /// A run lives, or one is being started.
+    /// A run is running, or one is being started.
     Running,
     Idle,
 }
@@ -23,7 +23,7 @@ pub enum JobSeen {
 pub enum NextRequest {
     Unload,
     Load,
-    /// Nothing, until the job is gone.
+    /// Nothing, until the job is removed.
     Wait,
     /// Nothing more, for this reason.
     Leave(Reason),
@@ -53,8 +53,9 @@ fn unloaded_next(seen: JobSeen, afterwards: NextRequest) -> NextRequest
     }
 }
 
-/// What is asked next for a step of a plan, as its job stands now. `may_end`: a run of it may be ended. `is_unloaded`: its unload was accepted.
-/// An unload is asked at most once, only if the plan has it, and never of a run that may not be ended. What takes a job's place is loaded only once the job is gone.
+/// What is asked next for a step of a plan, by the job's present state. `may_end`: a run of it may be ended. `is_unloaded`: its
+/// unload was accepted. An unload is asked at most once, only if the plan has it, and never of a run that may not be ended. What
+/// takes a job's place is loaded only once the job is removed.
 pub fn next_request(
     operation: &Operation<'_>,
     seen: JobSeen,

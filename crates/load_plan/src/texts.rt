@@ -1,4 +1,4 @@
-//! What is told of a step.
+//! What is printed for a step.
 
 ghost use Rattle.std.specs.Prelude.{◌≡◌, Some};
 ghost use Rattle.load_plan.specs.Texts.{left_word, operation_word, reason_named, reason_text};
@@ -45,7 +45,7 @@ fn left_word(reason: Reason) -> &'static str
     }
 }
 
-/// The word with which the line of a step begins. Of a job that is unloaded it says whether its file has another label now.
+/// What the line of a step begins with. For a job that is unloaded it says whether its file has another label now.
 pub fn operation_word(operation: &Operation<'_>, is_renamed: bool) -> &'static str
     ensures { result.now ≡ operation_word operation.now is_renamed }
 {

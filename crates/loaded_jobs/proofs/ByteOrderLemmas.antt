@@ -1,4 +1,4 @@
--- The jobs stand in byte order of labels, so that halves find one.
+-- The jobs are in byte order of labels, so that halves find one.
 use Rattle.std.proofs.Common.{◌≡◌, ◌≢◌, ◌⊎◌, inl, inr, ℕ, zero, suc, ◌==◌, ◌<◌, ◌≤◌, nat_lt, Bool, true, false, not, ◌&&◌, cond, List, [], ◌∷◌, ◌++◌, map, take, drop, length, get_or, Option, Some, None, refl, sym, ap, subst, ◌∙◌, arith}
 use Rattle.std.specs.Prelude.{slice_get, unwrap_or}
 use Rattle.std.specs.List.{filter, position, AllByRecursion}
@@ -9,9 +9,9 @@ use Rattle.history_model.specs.Labels.{Label, is_before}
 use Rattle.history_model.specs.MachineLaws.{AreInOrder}
 use Rattle.history_model.proofs.StepLemmas.{all-implied}
 use Rattle.loaded_jobs.specs.Tables.{labels_in}
-use Rattle.loaded_jobs.specs.Seats.{name, seat_stays, has_label, is_above, is_loaded_under}
+use Rattle.loaded_jobs.specs.JobSlots.{name, job_slot_stays, has_label, is_above, is_loaded_under}
 use Rattle.loaded_jobs.specs.Loads.{IsAbsent}
-use Rattle.loaded_jobs.specs.declared.seat.Seat.{Seat}
+use Rattle.loaded_jobs.specs.declared.job_slot.JobSlot.{JobSlot}
 use Rattle.loaded_jobs.proofs.FirstLemmas.{IsFirstWhere, NonePasses, first-where, none-where, where-none, where-first, none-at, passes-at, within-where}
 use Rattle.loaded_jobs.proofs.HalvesLemmas.{halves, none-past, one-at, none-other}
 use Rattle.loaded_jobs.proofs.NearestLemmas.{not-before-self}
@@ -21,13 +21,13 @@ use Rattle.history_model.proofs.LabelOrderLemmas.{before-trans, after}
 
 -- ---- two jobs
 
-ahead : (label : Label) (es : List Seat) → AllByRecursion (λ other. is_before label other ≡ true) (labels_in (map name es)) → (j : ℕ) (y : Seat) → slice_get es j ≡ Some y →
+ahead : (label : Label) (es : List JobSlot) → AllByRecursion (λ other. is_before label other ≡ true) (labels_in (map name es)) → (j : ℕ) (y : JobSlot) → slice_get es j ≡ Some y →
     is_before label y.def.label ≡ true
 ahead label [] all j y at = cc
 ahead label (e ∷ es) all zero y at = let same : e ≡ y = cc in subst (λ x. is_before label x.def.label ≡ true) same all.0
 ahead label (e ∷ es) all (suc j) y at = ahead label es all.1 j y at
 
-pub in-order : (es : List Seat) → AreInOrder (labels_in (map name es)) → (i j : ℕ) (x y : Seat) → i < j → slice_get es i ≡ Some x → slice_get es j ≡ Some y →
+pub in-order : (es : List JobSlot) → AreInOrder (labels_in (map name es)) → (i j : ℕ) (x y : JobSlot) → i < j → slice_get es i ≡ Some x → slice_get es j ≡ Some y →
     is_before x.def.label y.def.label ≡ true
 in-order [] order i j x y less first second = cc
 in-order (e ∷ es) order zero zero x y less first second = absurd (omega (arith, less))
@@ -35,16 +35,16 @@ in-order (e ∷ es) order zero (suc j) x y less first second = let same : e ≡ 
 in-order (e ∷ es) order (suc i) zero x y less first second = absurd (omega (arith, less))
 in-order (e ∷ es) order (suc i) (suc j) x y less first second = in-order es order.1 i j x y (omega (arith, less)) first second
 
-module _ (es : List Seat) (order : AreInOrder (labels_in (map name es))) (label : Label) where
+module _ (es : List JobSlot) (order : AreInOrder (labels_in (map name es))) (label : Label) where
   -- ---- what halves need
 
-  abbrev pub is_below : Seat → Bool
+  abbrev pub is_below : JobSlot → Bool
   is_below e = is_before e.def.label label
 
-  abbrev pub is_no_later : Seat → Bool
+  abbrev pub is_no_later : JobSlot → Bool
   is_no_later e = not (is_above label e)
 
-  at-place : (k : ℕ) (d : Seat) → k < length es → slice_get es k ≡ Some (get_or es k d)
+  at-place : (k : ℕ) (d : JobSlot) → k < length es → slice_get es k ≡ Some (get_or es k d)
   at-place k d within = slice_get-get_or es k d within
 
   pub halves-below : IsPartitionedBy is_below es
@@ -69,23 +69,23 @@ module _ (es : List Seat) (order : AreInOrder (labels_in (map name es))) (label 
     pub label-past : length es ≤ k → None ≡ position (has_label label) es
     label-past = none-past (λ e. e.def.label) es (in-order es order) label k point
 
-    pub label-at : (e : Seat) → slice_get es k ≡ Some e → has_label label e ≡ true → Some k ≡ position (has_label label) es
+    pub label-at : (e : JobSlot) → slice_get es k ≡ Some e → has_label label e ≡ true → Some k ≡ position (has_label label) es
     label-at = one-at (λ e. e.def.label) es (in-order es order) label k point
 
-    pub label-other : (e : Seat) → slice_get es k ≡ Some e → has_label label e ≡ false → None ≡ position (has_label label) es
+    pub label-other : (e : JobSlot) → slice_get es k ≡ Some e → has_label label e ≡ false → None ≡ position (has_label label) es
     label-other = none-other (λ e. e.def.label) es (in-order es order) label k point
 
   -- ---- the place of a new job
 
   module _ (k : ℕ) (bound : k ≤ length es) (point : IsPartitionPoint (λ e. is_no_later e ≡ true) (λ e. is_no_later e ≡ false) es k) where
-    none-above : (j : ℕ) (y : Seat) → j < k → slice_get es j ≡ Some y → is_above label y ≡ false
+    none-above : (j : ℕ) (y : JobSlot) → j < k → slice_get es j ≡ Some y → is_above label y ≡ false
     none-above j y less at =
         not-true (is_above label y) (subst (λ e. is_no_later e ≡ true) (get_or_from_slice_get es j y y at) (point.0 j y (omega arith) less))
 
     pub above-at : k ≡ unwrap_or (position (is_above label) es) (length es)
     above-at = go (slice_get_cases es k).1
       where
-        go : ((x : Seat) × (k < length es) × (slice_get es k ≡ Some x) × (get_or es k x ≡ x)) ⊎ ((length es ≤ k) × (slice_get es k ≡ None)) →
+        go : ((x : JobSlot) × (k < length es) × (slice_get es k ≡ Some x) × (get_or es k x ≡ x)) ⊎ ((length es ≤ k) × (slice_get es k ≡ None)) →
             k ≡ unwrap_or (position (is_above label) es) (length es)
         go (inl found) =
             let x = found.0 in
@@ -100,25 +100,25 @@ module _ (es : List Seat) (order : AreInOrder (labels_in (map name es))) (label 
 -- ---- the job with the label that is not gone
 
 -- no two jobs have one label
-one-label : (es : List Seat) → AreInOrder (labels_in (map name es)) → (label : Label) (i j : ℕ) (x y : Seat) → slice_get es i ≡ Some x → slice_get es j ≡ Some y →
+one-label : (es : List JobSlot) → AreInOrder (labels_in (map name es)) → (label : Label) (i j : ℕ) (x y : JobSlot) → slice_get es i ≡ Some x → slice_get es j ≡ Some y →
     has_label label x ≡ true → has_label label y ≡ true → i < j → ⊥
 one-label es order label i j x y first second is_x is_y less =
     let same_x = is-label label x.def.label is_x in
     let same_y = is-label label y.def.label is_y in
     let clash : true ≡ false = sym (in-order es order i j x y less first second) ∙ (λ k. is_before (sym same_x k) (sym same_y k)) ∙ not-before-self label in cc clash
 
-labelled : (label : Label) (e : Seat) → is_loaded_under label e ≡ true → has_label label e ≡ true
+labelled : (label : Label) (e : JobSlot) → is_loaded_under label e ≡ true → has_label label e ≡ true
 labelled label e is = go (not e.has_gone) (has_label label e) is
   where
     go : (a b : Bool) → (a && b) ≡ true → b ≡ true
     go true b e = e
     go false b e = cc
 
-pub none-here : (es : List Seat) (label : Label) → None ≡ position (has_label label) es → None ≡ position (is_loaded_under label) es
+pub none-here : (es : List JobSlot) (label : Label) → None ≡ position (has_label label) es → None ≡ position (is_loaded_under label) es
 none-here es label none = where-none (is_loaded_under label) es (λ j y at. unless-true (is_loaded_under label y) (λ is. (
     let clash : true ≡ false = sym (labelled label y is) ∙ none-at (has_label label) es (none-where (has_label label) es none) j y at in cc clash)))
 
-module _ (es : List Seat) (order : AreInOrder (labels_in (map name es))) (label : Label) (k : ℕ) (e : Seat) (found : Some k ≡ position (has_label label) es) (is : e ≡ get_or es k e) where
+module _ (es : List JobSlot) (order : AreInOrder (labels_in (map name es))) (label : Label) (k : ℕ) (e : JobSlot) (found : Some k ≡ position (has_label label) es) (is : e ≡ get_or es k e) where
   at-first : IsFirstWhere (has_label label) es k
   at-first = first-where (has_label label) es k found
 
@@ -131,7 +131,7 @@ module _ (es : List Seat) (order : AreInOrder (labels_in (map name es))) (label 
   pub going-here : e.has_gone ≡ true → None ≡ position (is_loaded_under label) es
   going-here going = where-none (is_loaded_under label) es (λ j y at. unless-true (is_loaded_under label y) (λ here. go j y at here (nat_lt j k) refl (nat_lt k j) refl))
     where
-      go : (j : ℕ) (y : Seat) → slice_get es j ≡ Some y → is_loaded_under label y ≡ true → (b : Bool) → nat_lt j k ≡ b → (c : Bool) → nat_lt k j ≡ c → ⊥
+      go : (j : ℕ) (y : JobSlot) → slice_get es j ≡ Some y → is_loaded_under label y ≡ true → (b : Bool) → nat_lt j k ≡ b → (c : Bool) → nat_lt k j ≡ c → ⊥
       go j y at here true below c above = let less : j < k = grind (arith, below) in one-label es order label j k y e at at-k (labelled label y here) has-label less
       go j y at here false below true above = let less : k < j = grind (arith, above) in one-label es order label k j e y at-k at has-label (labelled label y here) less
       go j y at here false below false above =
@@ -143,17 +143,17 @@ module _ (es : List Seat) (order : AreInOrder (labels_in (map name es))) (label 
           let clash : true ≡ false = sym here ∙ ap (is_loaded_under label) (sym equal) ∙ ap (λ b. not b && has_label label e) going in cc clash
 
   pub stays-here : e.has_gone ≡ false → Some k ≡ position (is_loaded_under label) es
-  stays-here seat_stays = where-first (is_loaded_under label) es k e at-k ((λ i. not (seat_stays i) && has-label i)) (λ j y less at. unless-true (is_loaded_under label y) (λ here. one-label es order label j k y e at at-k (labelled label y here) has-label less))
+  stays-here job_slot_stays = where-first (is_loaded_under label) es k e at-k ((λ i. not (job_slot_stays i) && has-label i)) (λ j y less at. unless-true (is_loaded_under label y) (λ here. one-label es order label j k y e at at-k (labelled label y here) has-label less))
 
 -- ---- a new job, and those that left
 
-all-placed : (P : Label → Type 0) (new : Seat) → P new.def.label → (es : List Seat) (k : ℕ) → AllByRecursion P (labels_in (map name es)) → AllByRecursion P (labels_in (map name (take k es ++ new ∷ drop k es)))
+all-placed : (P : Label → Type 0) (new : JobSlot) → P new.def.label → (es : List JobSlot) (k : ℕ) → AllByRecursion P (labels_in (map name es)) → AllByRecursion P (labels_in (map name (take k es ++ new ∷ drop k es)))
 all-placed P new holds es zero all = (holds, all)
 all-placed P new holds [] (suc k) all = (holds, tt)
 all-placed P new holds (e ∷ es) (suc k) all = (all.0, all-placed P new holds es k all.1)
 
-module _ (new : Seat) where
-  order-first : (es : List Seat) (k : ℕ) → IsFirstWhere (is_above new.def.label) es k → IsAbsent new.def.label (map name es) → AreInOrder (labels_in (map name es)) →
+module _ (new : JobSlot) where
+  order-first : (es : List JobSlot) (k : ℕ) → IsFirstWhere (is_above new.def.label) es k → IsAbsent new.def.label (map name es) → AreInOrder (labels_in (map name es)) →
       AreInOrder (labels_in (map name (take k es ++ new ∷ drop k es)))
   order-first [] k first absent order = absurd first
   order-first (e ∷ es) zero first absent order =
@@ -161,13 +161,13 @@ module _ (new : Seat) where
   order-first (e ∷ es) (suc k) first absent order =
       (all-placed (λ other. is_before e.def.label other ≡ true) new (after new.def.label e.def.label first.0 absent.0) es k order.0, order-first es k first.1 absent.1 order.1)
 
-  order-last : (es : List Seat) → NonePasses (is_above new.def.label) es → IsAbsent new.def.label (map name es) → AreInOrder (labels_in (map name es)) →
+  order-last : (es : List JobSlot) → NonePasses (is_above new.def.label) es → IsAbsent new.def.label (map name es) → AreInOrder (labels_in (map name es)) →
       AreInOrder (labels_in (map name (take (length es) es ++ new ∷ drop (length es) es)))
   order-last [] none absent order = (tt, tt)
   order-last (e ∷ es) none absent order =
       (all-placed (λ other. is_before e.def.label other ≡ true) new (after new.def.label e.def.label none.0 absent.0) es (length es) order.0, order-last es none.1 absent.1 order.1)
 
-  pub order-placed : (es : List Seat) → IsAbsent new.def.label (map name es) → AreInOrder (labels_in (map name es)) →
+  pub order-placed : (es : List JobSlot) → IsAbsent new.def.label (map name es) → AreInOrder (labels_in (map name es)) →
       let k = unwrap_or (position (is_above new.def.label) es) (length es) in AreInOrder (labels_in (map name (take k es ++ new ∷ drop k es)))
   order-placed es absent order = go (position (is_above new.def.label) es) refl
     where
@@ -175,18 +175,18 @@ module _ (new : Seat) where
       go None is = order-last es (none-where (is_above new.def.label) es is) absent order
       go (Some k) is = order-first es k (first-where (is_above new.def.label) es k is) absent order
 
-all-tidy : (P : Label → Type 0) (es : List Seat) → AllByRecursion P (labels_in (map name es)) → AllByRecursion P (labels_in (map name (filter seat_stays es)))
+all-tidy : (P : Label → Type 0) (es : List JobSlot) → AllByRecursion P (labels_in (map name es)) → AllByRecursion P (labels_in (map name (filter job_slot_stays es)))
 all-tidy P [] all = tt
 all-tidy P (e ∷ es) all = go e.has_gone (all-tidy P es all.1)
   where
-    go : (b : Bool) → AllByRecursion P (labels_in (map name (filter seat_stays es))) → AllByRecursion P (labels_in (map name (cond (not b) (e ∷ filter seat_stays es) (filter seat_stays es))))
+    go : (b : Bool) → AllByRecursion P (labels_in (map name (filter job_slot_stays es))) → AllByRecursion P (labels_in (map name (cond (not b) (e ∷ filter job_slot_stays es) (filter job_slot_stays es))))
     go true later = later
     go false later = (all.0, later)
 
-pub order-tidy : (es : List Seat) → AreInOrder (labels_in (map name es)) → AreInOrder (labels_in (map name (filter seat_stays es)))
+pub order-tidy : (es : List JobSlot) → AreInOrder (labels_in (map name es)) → AreInOrder (labels_in (map name (filter job_slot_stays es)))
 order-tidy [] order = tt
 order-tidy (e ∷ es) order = go e.has_gone (order-tidy es order.1)
   where
-    go : (b : Bool) → AreInOrder (labels_in (map name (filter seat_stays es))) → AreInOrder (labels_in (map name (cond (not b) (e ∷ filter seat_stays es) (filter seat_stays es))))
+    go : (b : Bool) → AreInOrder (labels_in (map name (filter job_slot_stays es))) → AreInOrder (labels_in (map name (cond (not b) (e ∷ filter job_slot_stays es) (filter job_slot_stays es))))
     go true later = later
     go false later = (all-tidy (λ other. is_before e.def.label other ≡ true) es order.0, later)

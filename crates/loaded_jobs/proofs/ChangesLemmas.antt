@@ -12,7 +12,7 @@ use Rattle.history_model.specs.Step.{Outcome, with_orders, step, step_by, outcom
 use Rattle.loaded_jobs.specs.Tables.{Table}
 use Rattle.loaded_jobs.specs.StandsFor.{KeepsState, labelled, acts_in}
 use Rattle.loaded_jobs.specs.SettingChanges.{withdrawn, set_of}
-use Rattle.loaded_jobs.specs.Seats.{rows, name}
+use Rattle.loaded_jobs.specs.JobSlots.{rows, name}
 use Rattle.loaded_jobs.specs.TableOutcomes.{plain_outcome}
 use Rattle.loaded_jobs.specs.Alike.{IsAlike}
 use Rattle.loaded_jobs.specs.Counts.{counts, Counts, IsCounted}
@@ -28,14 +28,14 @@ pub record IsWithdrawn (new : Jobs) (s : State) : Type 0 where
   pub kept : KeepsState (seen_table new) (with_orders s)
   pub orders : acts_in (seen_table new) ≡ flat_map orders_of s.jobs
 
-pub none-withdrawn : (old new : Jobs) (label : Label) (b : Bool) (s : State) → b ≡ false → IsAlike old new → rows new.seats.items ≡ rows old.seats.items → new.orders.items ≡ [] →
+pub none-withdrawn : (old new : Jobs) (label : Label) (b : Bool) (s : State) → b ≡ false → IsAlike old new → rows new.job_slots.items ≡ rows old.job_slots.items → new.orders.items ≡ [] →
     old.reading.up ≤ MAX_UP → KeepsState (seen_table old) s → IsWithdrawn new (withdrawn label b s)
 none-withdrawn old new label true s is alike same orders range keeps = cc
 none-withdrawn old new label false s is alike same orders range keeps =
     let idle = rests-with_orders (seen_table old) s range keeps in
     record {
       kept = subst (KeepsState (seen_table new)) (sym idle.0) (alike-state old new s alike keeps same);
-      orders = ap (labelled (map name new.seats.items)) orders ∙ sym idle.1;
+      orders = ap (labelled (map name new.job_slots.items)) orders ∙ sym idle.1;
     }
 
 pub one-withdrawn : (new : Jobs) (label : Label) (b : Bool) (s : State) (result : Result (Unit {0}) Refusal) → b ≡ true → (b ≡ true → refusal_in s (UnloadJob label false true) ≡ None) →

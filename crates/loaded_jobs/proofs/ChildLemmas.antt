@@ -18,9 +18,9 @@ use Rattle.history_model.proofs.RunsLemmas.{sound, child-present}
 use Rattle.history_model.proofs.BooleanLemmas.{or-second, and-both}
 use Rattle.loaded_jobs.specs.Tables.{Name, IsOther, IsOnce, labels_in}
 use Rattle.loaded_jobs.specs.StandsFor.{KeepsJobs}
-use Rattle.loaded_jobs.specs.Seats.{row, name, rows, is_above, place_for}
+use Rattle.loaded_jobs.specs.JobSlots.{row, name, rows, is_above, place_for}
 use Rattle.loaded_jobs.specs.Nearest.{IsNearest, with_child, run_in}
-use Rattle.loaded_jobs.specs.declared.seat.Seat.{Seat}
+use Rattle.loaded_jobs.specs.declared.job_slot.JobSlot.{JobSlot}
 use Rattle.loaded_jobs.proofs.SettingLemmas.{is-label}
 use Rattle.loaded_jobs.proofs.FirstLemmas.{IsFirstWhere, first-where, none-where, none-at, passes-at, within-where}
 use Rattle.std.proofs.lemmas.Option.{slice_get_within, slice_get-get_or}
@@ -30,7 +30,7 @@ use Rattle.history_model.proofs.LabelOrderLemmas.{before-trans, same_self}
 
 module _ (at : Reading) where
   -- no other job has the label, with a child or without
-  no-other : (n : Name) (es : List Seat) (jobs : List Job) → IsOther n (map name es) → KeepsJobs at (rows es) jobs → list_any (is_same n.described.label) (with_child jobs) ≡ false
+  no-other : (n : Name) (es : List JobSlot) (jobs : List Job) → IsOther n (map name es) → KeepsJobs at (rows es) jobs → list_any (is_same n.described.label) (with_child jobs) ≡ false
   no-other n [] [] other keeps = refl
   no-other n [] (job ∷ jobs) other keeps = absurd keeps
   no-other n (e ∷ es) jobs other keeps = go e.has_gone jobs keeps (λ js. no-other n es js other.2)
@@ -46,7 +46,7 @@ module _ (at : Reading) where
           one (Some c) = λ i. (ap (is_same n.described.label) (sym keeps.0.label) ∙ other.1) i || later jobs keeps.1 i
 
   -- the one job with the label has a child
-  pub child-there : (label : Label) (es : List Seat) (jobs : List Job) → IsOnce (map name es) → KeepsJobs at (rows es) jobs → list_any (is_same label) (with_child jobs) ≡ true →
+  pub child-there : (label : Label) (es : List JobSlot) (jobs : List Job) → IsOnce (map name es) → KeepsJobs at (rows es) jobs → list_any (is_same label) (with_child jobs) ≡ true →
       is_some (run_in (past_in (first (filter (is_of label) jobs)))) ≡ true
   child-there label [] [] once keeps among = cc
   child-there label [] (job ∷ jobs) once keeps among = absurd keeps
@@ -81,11 +81,11 @@ run-present past o lawful is some = ap run_in is ∙ go (child past) refl (sym (
     go None stands some = let clash : false ≡ true = sym (ap (λ c. is_some (option_map (λ c. c.run) c)) stands) ∙ some in absurd (cc clash)
     go (Some c) stands some = ap (λ c. option_map (λ c. c.run) c) stands ∙ ap Some (child-present past c (sound past lawful).0 stands).0
 
--- ---- the first with a child behind a text
+-- ---- the first with a child after a text
 
 -- if no job whose label passes has a child, none with a child passes
-pub none-with-child : (at : Reading) (q : Label → Bool) (es : List Seat) (jobs : List Job) → KeepsJobs at (rows es) jobs →
-    ((k : ℕ) (e : Seat) → slice_get es k ≡ Some e → q e.def.label ≡ true → e.has_gone ≡ false → (past : History) → Keeps e.core.facts past → is_some (child past) ≡ false) → list_any q (with_child jobs) ≡ false
+pub none-with-child : (at : Reading) (q : Label → Bool) (es : List JobSlot) (jobs : List Job) → KeepsJobs at (rows es) jobs →
+    ((k : ℕ) (e : JobSlot) → slice_get es k ≡ Some e → q e.def.label ≡ true → e.has_gone ≡ false → (past : History) → Keeps e.core.facts past → is_some (child past) ≡ false) → list_any q (with_child jobs) ≡ false
 none-with-child at q [] [] keeps none = refl
 none-with-child at q [] (job ∷ jobs) keeps none = absurd keeps
 none-with-child at q (e ∷ es) jobs keeps none = go e.has_gone refl jobs keeps (λ js kept. none-with-child at q es js kept (λ k x there. none (suc k) x there))
@@ -105,7 +105,7 @@ none-with-child at q (e ∷ es) jobs keeps none = go e.has_gone refl jobs keeps 
         one None is = later jobs keeps.1
         one (Some c) is = λ i. passes c is (q job.label) refl i || later jobs keeps.1 i
 
-pub one-with-child : (at : Reading) (es : List Seat) (jobs : List Job) (k : ℕ) (e : Seat) → KeepsJobs at (rows es) jobs → slice_get es k ≡ Some e → e.has_gone ≡ false →
+pub one-with-child : (at : Reading) (es : List JobSlot) (jobs : List Job) (k : ℕ) (e : JobSlot) → KeepsJobs at (rows es) jobs → slice_get es k ≡ Some e → e.has_gone ≡ false →
     ((past : History) → Keeps e.core.facts past → is_some (child past) ≡ true) → list_any (is_same e.def.label) (with_child jobs) ≡ true
 one-with-child at [] jobs zero e keeps there stay has = cc
 one-with-child at [] jobs (suc k) e keeps there stay has = cc
@@ -141,12 +141,12 @@ one-with-child at (x ∷ xs) jobs (suc k) e keeps there stay has = go x.has_gone
         one None = later jobs keeps.1
         one (Some c) = or-second (is_same e.def.label job.label) (list_any (is_same e.def.label) (with_child jobs)) (later jobs keeps.1)
 
--- no job that was passed, of those behind the text, has a child
-abbrev pub ArePassedBy : List ℕ → List Seat → ℕ → Type 0
-ArePassedBy text es place = (k : ℕ) (e : Seat) → slice_get es k ≡ Some e → k < place → is_before text e.def.label ≡ true → e.has_gone ≡ false →
+-- no job that was passed, of those after the text, has a child
+abbrev pub ArePassedBy : List ℕ → List JobSlot → ℕ → Type 0
+ArePassedBy text es place = (k : ℕ) (e : JobSlot) → slice_get es k ≡ Some e → k < place → is_before text e.def.label ≡ true → e.has_gone ≡ false →
     (past : History) → Keeps e.core.facts past → is_some (child past) ≡ false
 
-pub passed-more : (text : List ℕ) (es : List Seat) (place : ℕ) (one : Seat) → slice_get es place ≡ Some one →
+pub passed-more : (text : List ℕ) (es : List JobSlot) (place : ℕ) (one : JobSlot) → slice_get es place ≡ Some one →
     (one.has_gone ≡ false → (past : History) → Keeps one.core.facts past → is_some (child past) ≡ false) → ArePassedBy text es place → ArePassedBy text es (place + 1)
 passed-more text es place one at own before k e there low behind stay = go (k == place) refl
   where
@@ -158,7 +158,7 @@ passed-more text es place one at own before k e there low behind stay = go (k ==
         subst (λ x. (past : History) → Keeps x.core.facts past → is_some (child past) ≡ false) equal (own (ap (λ x. x.has_gone) equal ∙ stay))
     go false apart = before k e there (grind (arith, nat_tests, low, apart)) behind stay
 
-pub nearest-child : (at : Reading) (text : List ℕ) (es : List Seat) (order : AreInOrder (labels_in (map name es))) (jobs : List Job) (k : ℕ) (e : Seat) → KeepsJobs at (rows es) jobs →
+pub nearest-child : (at : Reading) (text : List ℕ) (es : List JobSlot) (order : AreInOrder (labels_in (map name es))) (jobs : List Job) (k : ℕ) (e : JobSlot) → KeepsJobs at (rows es) jobs →
     slice_get es k ≡ Some e → is_before text e.def.label ≡ true → e.has_gone ≡ false → ((past : History) → Keeps e.core.facts past → is_some (child past) ≡ true) → ArePassedBy text es k →
     IsNearest text (with_child jobs) e.def.label
 nearest-child at text es order jobs k e keeps there behind stay has passed = record {
@@ -168,7 +168,7 @@ nearest-child at text es order jobs k e keeps there behind stay has passed = rec
       (λ j y here between. (let both = and-both (is_before text y.def.label) (is_before y.def.label e.def.label) between in passed j y here (nearer j y here both.1) both.0));
 }
   where
-    nearer : (j : ℕ) (y : Seat) → slice_get es j ≡ Some y → is_before y.def.label e.def.label ≡ true → j < k
+    nearer : (j : ℕ) (y : JobSlot) → slice_get es j ≡ Some y → is_before y.def.label e.def.label ≡ true → j < k
     nearer j y here before = go (nat_lt j k) refl (j == k) refl
       where
         go : (b : Bool) → nat_lt j k ≡ b → (c : Bool) → (j == k) ≡ c → j < k
@@ -182,23 +182,23 @@ nearest-child at text es order jobs k e keeps there behind stay has passed = rec
             let less : k < j = grind (arith, nat_tests, low, eq) in
             let clash : true ≡ false = sym (before-trans e.def.label y.def.label e.def.label (in-order es order k j e y less there here) before) ∙ not-before-self e.def.label in absurd (cc clash)
 
--- ---- where the jobs behind a text begin
+-- ---- where the jobs after a text begin
 
 module _ (text : List ℕ) where
-  first-before : (es : List Seat) (p k : ℕ) (e : Seat) → IsFirstWhere (is_above text) es p → k < p → slice_get es k ≡ Some e → is_above text e ≡ false
+  first-before : (es : List JobSlot) (p k : ℕ) (e : JobSlot) → IsFirstWhere (is_above text) es p → k < p → slice_get es k ≡ Some e → is_above text e ≡ false
   first-before [] p k e first low there = absurd first
   first-before (x ∷ xs) zero k e first low there = absurd (omega (arith, low))
   first-before (x ∷ xs) (suc p) zero e first low there = let same : x ≡ e = cc in ap (is_above text) (sym same) ∙ first.0
   first-before (x ∷ xs) (suc p) (suc k) e first low there = first-before xs p k e first.1 (omega (arith, low)) there
 
-  pub none-above-before : (es : List Seat) (k : ℕ) (e : Seat) → slice_get es k ≡ Some e → k < place_for text es → is_above text e ≡ false
+  pub none-above-before : (es : List JobSlot) (k : ℕ) (e : JobSlot) → slice_get es k ≡ Some e → k < place_for text es → is_above text e ≡ false
   none-above-before es k e there low = go (position (is_above text) es) refl low
     where
       go : (o : Option ℕ) → position (is_above text) es ≡ o → k < unwrap_or o (length es) → is_above text e ≡ false
       go None is low = none-at (is_above text) es (none-where (is_above text) es (sym is)) k e there
       go (Some p) is low = first-before es p k e (first-where (is_above text) es p (sym is)) low there
 
-  pub all-above-from : (es : List Seat) → AreInOrder (labels_in (map name es)) → (k : ℕ) (e : Seat) → slice_get es k ≡ Some e → place_for text es ≤ k → is_above text e ≡ true
+  pub all-above-from : (es : List JobSlot) → AreInOrder (labels_in (map name es)) → (k : ℕ) (e : JobSlot) → slice_get es k ≡ Some e → place_for text es ≤ k → is_above text e ≡ true
   all-above-from es order k e there up = go (position (is_above text) es) refl up
     where
       go : (o : Option ℕ) → position (is_above text) es ≡ o → unwrap_or o (length es) ≤ k → is_above text e ≡ true

@@ -4,10 +4,10 @@ use Rattle.std.specs.Prelude.{slice_set, if◌then◌else◌}
 use Rattle.std.specs.List.{filter, list_all, list_any}
 use Rattle.history_model.specs.Labels.{Label, is_same}
 use Rattle.loaded_jobs.specs.Tables.{Row, IsOther, IsOnce}
-use Rattle.loaded_jobs.specs.Seats.{row, name, rows, gone, AllStay}
+use Rattle.loaded_jobs.specs.JobSlots.{row, name, rows, gone, AllStay}
 use Rattle.loaded_jobs.specs.Loads.{IsAbsent}
 use Rattle.loaded_jobs.specs.Counts.{counts, count_in, next_count, went_up, is_near, IsCounted}
-use Rattle.loaded_jobs.specs.declared.seat.Seat.{Seat}
+use Rattle.loaded_jobs.specs.declared.job_slot.JobSlot.{JobSlot}
 use Rattle.loaded_jobs.proofs.ListLemmas.{set-map}
 use Rattle.loaded_jobs.proofs.PlacesLemmas.{rows-all, none-gone}
 use Rattle.loaded_jobs.proofs.SettingLemmas.{is-label}
@@ -21,21 +21,21 @@ use Rattle.history_model.proofs.FreshOrdersLemmas.{differ-sym}
 pub not-next : (n : ℕ) → (next_count n == n) ≡ false
 not-next n = grind arith
 
-abbrev pub AreFor : List (Label × ℕ) → List Seat → Type 0
+abbrev pub AreFor : List (Label × ℕ) → List JobSlot → Type 0
 AreFor all [] = Unit {0}
 AreFor all (e ∷ es) = (count_in all e.def.label ≡ e.core.decided) × AreFor all es
 
-for-more : (e : Seat) (all : List (Label × ℕ)) (es : List Seat) → IsOther (name e) (map name es) → AreFor all es → AreFor ((e.def.label, e.core.decided) ∷ all) es
+for-more : (e : JobSlot) (all : List (Label × ℕ)) (es : List JobSlot) → IsOther (name e) (map name es) → AreFor all es → AreFor ((e.def.label, e.core.decided) ∷ all) es
 for-more e all [] other is = tt
 for-more e all (x ∷ xs) other is =
     (ap (λ b. if b then e.core.decided else count_in all x.def.label) (differ-sym e.def.label x.def.label other.1) ∙ is.0, for-more e all xs other.2 is.1)
 
-pub for-all : (es : List Seat) → IsOnce (map name es) → AreFor (counts (map row es)) es
+pub for-all : (es : List JobSlot) → IsOnce (map name es) → AreFor (counts (map row es)) es
 for-all [] once = tt
 for-all (e ∷ es) once =
     (ap (λ b. if b then e.core.decided else count_in (counts (map row es)) e.def.label) (same_self e.def.label), for-more e (counts (map row es)) es once.0 (for-all es once.1))
 
-pub goes-up : (all : List (Label × ℕ)) (e new : Seat) → name new ≡ name e → count_in all e.def.label ≡ e.core.decided → new.core.decided ≡ next_count e.core.decided →
+pub goes-up : (all : List (Label × ℕ)) (e new : JobSlot) → name new ≡ name e → count_in all e.def.label ≡ e.core.decided → new.core.decided ≡ next_count e.core.decided →
     (went_up all (row new) ≡ true) × (is_near all (row new) ≡ true)
 goes-up all e new named before up =
     let at : count_in all new.def.label ≡ e.core.decided = ap (λ n. count_in all n.described.label) named ∙ before in
@@ -45,7 +45,7 @@ goes-up all e new named before up =
 
 -- ---- no job is asked
 
-idle-all : (all : List (Label × ℕ)) (es : List Seat) → AreFor all es → (list_all (is_near all) (map row es) ≡ true) × (length (filter (went_up all) (map row es)) ≡ 0)
+idle-all : (all : List (Label × ℕ)) (es : List JobSlot) → AreFor all es → (list_all (is_near all) (map row es) ≡ true) × (length (filter (went_up all) (map row es)) ≡ 0)
 idle-all all [] is = (refl, refl)
 idle-all all (e ∷ es) is =
     let rest = idle-all all es is.1 in
@@ -56,7 +56,7 @@ idle-all all (e ∷ es) is =
       ap (λ b. length (cond b (row e ∷ filter (went_up all) (map row es)) (filter (went_up all) (map row es)))) stays ∙ rest.1,
     )
 
-pub idle : (es : List Seat) → AllStay es → IsOnce (map name es) → IsCounted (counts (rows es)) (rows es) (gone es) 0
+pub idle : (es : List JobSlot) → AllStay es → IsOnce (map name es) → IsCounted (counts (rows es)) (rows es) (gone es) 0
 idle es stay once =
     let done = idle-all (counts (map row es)) es (for-all es once) in
     subst (λ rs. IsCounted (counts rs) rs (gone es) 0) (sym (rows-all es stay))
@@ -72,28 +72,28 @@ counted-from a b rs gs visited same is = record {
   unasked = sym (λ i. list_any (λ r. not (r.decided == same r.described.label i)) gs) ∙ is.unasked;
 }
 
-abbrev seat-count : Seat → Label × ℕ
-seat-count e = (e.def.label, e.core.decided)
+abbrev job_slot-count : JobSlot → Label × ℕ
+job_slot-count e = (e.def.label, e.core.decided)
 
-counts-map : (es : List Seat) → counts (map row es) ≡ map seat-count es
+counts-map : (es : List JobSlot) → counts (map row es) ≡ map job_slot-count es
 counts-map [] = refl
 counts-map (e ∷ es) = ap (λ cs. (e.def.label, e.core.decided) ∷ cs) (counts-map es)
 
--- a seat that is written with its own count leaves the counts
-pub counts-set : (es : List Seat) (k : ℕ) (e new : Seat) → AllStay es → AllStay (slice_set es k new) → k < length es → e ≡ get_or es k e → name new ≡ name e →
+-- a slot that is written with its own count leaves the counts
+pub counts-set : (es : List JobSlot) (k : ℕ) (e new : JobSlot) → AllStay es → AllStay (slice_set es k new) → k < length es → e ≡ get_or es k e → name new ≡ name e →
     new.core.decided ≡ e.core.decided → counts (rows (slice_set es k new)) ≡ counts (rows es)
 counts-set es k e new stay stays within is named same =
     ap counts (rows-all (slice_set es k new) stays) ∙ counts-map (slice_set es k new)
-    ∙ set-map seat-count es k e new within is (λ i. ((named i).described.label, same i))
+    ∙ set-map job_slot-count es k e new within is (λ i. ((named i).described.label, same i))
     ∙ sym (counts-map es) ∙ ap counts (sym (rows-all es stay))
 
 -- ---- a new job, which was never asked
 
-absent-count : (label : Label) (es : List Seat) → IsAbsent label (map name es) → count_in (counts (map row es)) label ≡ 0
+absent-count : (label : Label) (es : List JobSlot) → IsAbsent label (map name es) → count_in (counts (map row es)) label ≡ 0
 absent-count label [] absent = refl
 absent-count label (e ∷ es) absent = ap (λ b. if b then e.core.decided else count_in (counts (map row es)) label) absent.0 ∙ absent-count label es absent.1
 
-first-count : (new : Seat) (es : List Seat) (label : Label) → IsAbsent new.def.label (map name es) → new.core.decided ≡ 0 →
+first-count : (new : JobSlot) (es : List JobSlot) (label : Label) → IsAbsent new.def.label (map name es) → new.core.decided ≡ 0 →
     (if is_same label new.def.label then new.core.decided else count_in (counts (map row es)) label) ≡ count_in (counts (map row es)) label
 first-count new es label absent fresh = go (is_same label new.def.label) refl
   where
@@ -101,13 +101,13 @@ first-count new es label absent fresh = go (is_same label new.def.label) refl
     go true is = fresh ∙ sym (ap (count_in (counts (map row es))) (is-label label new.def.label is) ∙ absent-count new.def.label es absent)
     go false is = refl
 
-placed-count : (new : Seat) (es : List Seat) (k : ℕ) (label : Label) → IsAbsent new.def.label (map name es) → new.core.decided ≡ 0 →
+placed-count : (new : JobSlot) (es : List JobSlot) (k : ℕ) (label : Label) → IsAbsent new.def.label (map name es) → new.core.decided ≡ 0 →
     count_in (counts (map row (take k es ++ new ∷ drop k es))) label ≡ count_in (counts (map row es)) label
 placed-count new es zero label absent fresh = first-count new es label absent fresh
 placed-count new [] (suc k) label absent fresh = first-count new [] label absent fresh
 placed-count new (e ∷ es) (suc k) label absent fresh = ap (λ n. if is_same label e.def.label then e.core.decided else n) (placed-count new es k label absent.1 fresh)
 
-pub counts-placed : (new : Seat) (es : List Seat) (k : ℕ) (label : Label) → AllStay es → new.has_gone ≡ false → IsAbsent new.def.label (map name es) → new.core.decided ≡ 0 →
+pub counts-placed : (new : JobSlot) (es : List JobSlot) (k : ℕ) (label : Label) → AllStay es → new.has_gone ≡ false → IsAbsent new.def.label (map name es) → new.core.decided ≡ 0 →
     count_in (counts (rows (take k es ++ new ∷ drop k es))) label ≡ count_in (counts (rows es)) label
 counts-placed new es k label stay stays absent fresh =
     ap (λ rs. count_in (counts rs) label) (rows-all (take k es ++ new ∷ drop k es) (stay-placed new es k stays stay))

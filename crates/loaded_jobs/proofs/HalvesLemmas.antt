@@ -1,4 +1,4 @@
--- Halves find an item by its label in a list that stands in byte order of labels.
+-- Halves find an item by its label in a list that is in byte order of labels.
 use Rattle.std.proofs.Common.{◌≡◌, ◌≢◌, ℕ, ◌==◌, ◌<◌, ◌≤◌, nat_lt, Bool, true, false, List, length, get_or, Some, None, refl, sym, ap, subst, ◌∙◌, arith}
 use Rattle.std.specs.Prelude.{slice_get}
 use Rattle.std.specs.List.{position}
@@ -12,7 +12,7 @@ use Rattle.loaded_jobs.proofs.SettingLemmas.{is-label}
 use Rattle.history_model.proofs.BooleanLemmas.{unless-true}
 use Rattle.history_model.proofs.LabelOrderLemmas.{before-trans, after, same_self}
 
--- a label is not one before it, or behind it
+-- a label is not one before it, or after it
 pub apart-before : (label other : Label) → is_before other label ≡ true → is_same label other ≡ false
 apart-before label other before = unless-true (is_same label other) (λ is. (
     let same = is-label label other is in
@@ -62,7 +62,7 @@ module _ {X : Type 0} (label_of : X → Label) where
       pub one-at : (x : X) → slice_get xs k ≡ Some x → is_of x ≡ true → Some k ≡ position is_of xs
       one-at x at is = where-first is_of xs k x at is (λ j y less got. others-before j y less got)
 
-      -- the item there is of another label: it is behind, and so are those that follow
+      -- the item there is of another label: it is after, and so are those that follow
       module _ (x : X) (here : slice_get xs k ≡ Some x) (differ : is_of x ≡ false) where
         behind : is_before label (label_of x) ≡ true
         behind =

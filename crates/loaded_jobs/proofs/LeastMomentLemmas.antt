@@ -12,12 +12,12 @@ use Rattle.history_model.proofs.ComingLemmas.{next-by}
 use Rattle.history_model.proofs.BooleanLemmas.{or-second}
 use Rattle.loaded_jobs.specs.Tables.{Row}
 use Rattle.loaded_jobs.specs.StandsFor.{KeepsJob, KeepsJobs}
-use Rattle.loaded_jobs.specs.Seats.{row, rows, name}
+use Rattle.loaded_jobs.specs.JobSlots.{row, rows, name}
 use Rattle.loaded_jobs.specs.Index.{AreTimed, AreAlone, moment_for}
 use Rattle.loaded_jobs.specs.Minutes.{has_calendars}
 use Rattle.history_model.specs.News.{is_some_entry, have_calendars}
 use Rattle.loaded_jobs.specs.NextMoments.{is_moment, IsNextUp}
-use Rattle.loaded_jobs.specs.declared.seat.Seat.{Seat}
+use Rattle.loaded_jobs.specs.declared.job_slot.JobSlot.{JobSlot}
 use Rattle.loaded_jobs.proofs.AdvanceLemmas.{holder}
 use Rattle.history_model.proofs.LawfulLemmas.{eqb-self}
 
@@ -27,7 +27,7 @@ known : (at : Reading) (r : Row) (job : Job) → KeepsJob at r job → next_mome
 known at r job keeps = next-by job.past keeps.keeps.lawful ∙ (λ i. next_by (sym keeps.keeps.same i) (sym keeps.present i).up)
 
 -- what holds of each moment in the index holds of each job's next moment
-each-moment : (P : Option ℕ → Type 0) (at : Reading) (timers : Timers) (es : List Seat) (jobs : List Job) → AreTimed timers at.up es → ((number : ℕ) → P (moment_in timers number)) →
+each-moment : (P : Option ℕ → Type 0) (at : Reading) (timers : Timers) (es : List JobSlot) (jobs : List Job) → AreTimed timers at.up es → ((number : ℕ) → P (moment_in timers number)) →
     KeepsJobs at (rows es) jobs → AllByRecursion (λ job. P (next_moment job.past)) jobs
 each-moment P at timers [] [] timed each keeps = tt
 each-moment P at timers [] (job ∷ jobs) timed each keeps = absurd keeps
@@ -44,7 +44,7 @@ each-moment P at timers (e ∷ es) jobs timed each keeps =
         (subst P own (each e.number), later others keeps.1)
 
 -- the moment of a job that is not gone is that of some job
-some-moment : (at : Reading) (m : ℕ) (es : List Seat) (k : ℕ) (e : Seat) (jobs : List Job) → slice_get es k ≡ Some e → moment_for e at.up ≡ Some m → KeepsJobs at (rows es) jobs →
+some-moment : (at : Reading) (m : ℕ) (es : List JobSlot) (k : ℕ) (e : JobSlot) (jobs : List Job) → slice_get es k ≡ Some e → moment_for e at.up ≡ Some m → KeepsJobs at (rows es) jobs →
     list_any (λ job. is_moment m (next_moment job.past)) jobs ≡ true
 some-moment at m [] zero e jobs there is keeps = cc
 some-moment at m [] (suc k) e jobs there is keeps = cc
@@ -73,11 +73,11 @@ some-moment at m (x ∷ es) (suc k) e jobs there is keeps = go x.has_gone jobs k
     go false (job ∷ others) keeps later = or-second (is_moment m (next_moment job.past)) (list_any (λ other. is_moment m (next_moment other.past)) others) (later others keeps.1)
 
 -- no job has a moment if the index has none
-pub none-up : (at : Reading) (timers : Timers) (es : List Seat) (jobs : List Job) → AreTimed timers at.up es → IsLeast timers None → KeepsJobs at (rows es) jobs → IsNextUp jobs None
+pub none-up : (at : Reading) (timers : Timers) (es : List JobSlot) (jobs : List Job) → AreTimed timers at.up es → IsLeast timers None → KeepsJobs at (rows es) jobs → IsNextUp jobs None
 none-up at timers es jobs timed least keeps = each-moment (λ moment. moment ≡ None) at timers es jobs timed least keeps
 
 -- the least moment in the index is the least of the jobs
-pub least-up : (at : Reading) (timers : Timers) (es : List Seat) (jobs : List Job) (number m : ℕ) → AreTimed timers at.up es → AreAlone timers (map name es) →
+pub least-up : (at : Reading) (timers : Timers) (es : List JobSlot) (jobs : List Job) (number m : ℕ) → AreTimed timers at.up es → AreAlone timers (map name es) →
     IsLeast timers (Some (number, m)) → KeepsJobs at (rows es) jobs → IsNextUp jobs (Some m)
 least-up at timers es jobs number m timed alone least keeps =
     let found = holder es number (alone number m least.0) in
@@ -92,7 +92,7 @@ least-up at timers es jobs number m timed alone least keeps =
 
 -- ---- calendars
 
-pub calendars-rows : (es : List Seat) → list_any (λ e. not e.has_gone && is_some_entry e.def.calendar) es ≡ has_calendars (rows es)
+pub calendars-rows : (es : List JobSlot) → list_any (λ e. not e.has_gone && is_some_entry e.def.calendar) es ≡ has_calendars (rows es)
 calendars-rows [] = refl
 calendars-rows (e ∷ es) = go e.has_gone (calendars-rows es)
   where

@@ -8,7 +8,7 @@ pub mod PeriodsLemmas
 pub mod ReleaseLemmas
 pub mod HeldNumbersLemmas
 pub mod LabelledLemmas
-pub mod HearingLemmas
+pub mod ReceivingLemmas
 pub mod ListedPathsLemmas
 pub mod SettingLemmas
 pub mod EnteringLemmas

@@ -27,7 +27,7 @@ module _ {X : Type 0} where
   at-drop (y ∷ ys) zero x within is = ap (λ z. z ∷ ys) (sym is)
   at-drop (y ∷ ys) (suc i) x within is = at-drop ys i x (omega arith) is
 
-  -- a write at a place leaves what stands behind it, and is the last of what stands before the next
+  -- a write at a place leaves what is after it, and is the last of what comes before the next
   pub set-drop : (xs : List X) (i : ℕ) (v : X) → drop (suc i) (slice_set xs i v) ≡ drop (suc i) xs
   set-drop [] zero v = refl
   set-drop [] (suc i) v = refl

@@ -19,50 +19,50 @@ use Rattle.loaded_jobs.specs.Tables.{IsOnce, labels_in, definition_of_number, is
 use Rattle.loaded_jobs.specs.StandsFor.{KeepsJobs, KeepsState}
 use Rattle.loaded_jobs.specs.Triggers.{AreListed}
 use Rattle.loaded_jobs.specs.Leaving.{StayBut}
-use Rattle.loaded_jobs.specs.Seats.{row, name, AllStay, has_label}
+use Rattle.loaded_jobs.specs.JobSlots.{row, name, AllStay, has_label}
 use Rattle.loaded_jobs.specs.Loads.{IsAbsent, enabled_if}
 use Rattle.loaded_jobs.specs.TableOutcomes.{Means}
 use Rattle.loaded_jobs.specs.Sound.{seen_table, AreHeld, IsSound, IsWhole}
 use Rattle.loaded_jobs.specs.Index.{IsNamed, IsIndexOf, IsIndexed}
 use Rattle.loaded_jobs.specs.Minutes.{some_calendar}
 use Rattle.loaded_jobs.proofs.IndexGrowthLemmas.{named-of}
-use Rattle.loaded_jobs.specs.declared.seat.Seat.{Seat}
+use Rattle.loaded_jobs.specs.declared.job_slot.JobSlot.{JobSlot}
 use Rattle.loaded_jobs.specs.declared.jobs.Jobs.{Jobs}
 use Rattle.loaded_jobs.proofs.FirstLemmas.{NonePasses, none-where}
 use Rattle.loaded_jobs.proofs.PlacesLemmas.{rows-all}
 
 -- ---- growth
 
-held-slots : (old new : Slab (Unit {0})) (es : List Seat) → new.slots ≡ old.slots → AreHeld old es → AreHeld new es
+held-slots : (old new : Slab (Unit {0})) (es : List JobSlot) → new.slots ≡ old.slots → AreHeld old es → AreHeld new es
 held-slots old new [] same held = tt
 held-slots old new (e ∷ es) same held =
     (ap (λ slots. get (record { slots = slots; vacant_key = 0; capacity = 0 }) e.number) same ∙ held.0, held-slots old new es same held.1)
 
-pub grown-sound : (old new : Jobs) → IsSound old → new.reading ≡ old.reading → new.seats.items ≡ old.seats.items → vec_len new.seats ≡ vec_len old.seats →
+pub grown-sound : (old new : Jobs) → IsSound old → new.reading ≡ old.reading → new.job_slots.items ≡ old.job_slots.items → vec_len new.job_slots ≡ vec_len old.job_slots →
     new.numbers.slots ≡ old.numbers.slots → new.orders.items ≡ old.orders.items → vec_capacity old.orders ≤ vec_capacity new.orders → new.index ≡ old.index → new.has_calendars ≡ old.has_calendars → new.triggers.items ≡ old.triggers.items → IsSound new
 grown-sound old new sound reading items len slots orders capacity index calendars triggers = record {
   in_range = subst (λ at. at.up ≤ MAX_UP) (sym reading) sound.in_range;
   wall = subst (λ at. at.wall ≤ MAX_WALL) (sym reading) sound.wall;
   once = subst (λ es. IsOnce (map name es)) (sym items) sound.once;
-  held = subst (AreHeld new.numbers) (sym items) (held-slots old.numbers new.numbers old.seats.items slots sound.held);
+  held = subst (AreHeld new.numbers) (sym items) (held-slots old.numbers new.numbers old.job_slots.items slots sound.held);
   free = λ number none. ap (λ held. get (record { slots = held; vacant_key = 0; capacity = 0 }) number) slots
       ∙ sound.free number (ap (λ es. definition_of_number (map name es) number) (sym items) ∙ none);
   known = (λ i. list_all (is_known (map name (items i))) (orders i)) ∙ sound.known;
   few = let few = sound.few in omega (arith, few, len);
   room = let room = sound.room in omega (arith, room, len, capacity);
-  named = subst (λ i. IsNamed i (map name new.seats.items)) (sym index) (subst (λ es. IsNamed old.index (map name es)) (sym items) sound.named);
+  named = subst (λ i. IsNamed i (map name new.job_slots.items)) (sym index) (subst (λ es. IsNamed old.index (map name es)) (sym items) sound.named);
   periods = subst (λ es. HavePeriods (map name es)) (sym items) sound.periods;
   calendars = calendars ∙ sound.calendars ∙ ap (λ es. some_calendar (map name es)) (sym items);
-  listed = subst (λ ls. AreListed ls (map name new.seats.items)) (sym triggers) (subst (λ es. AreListed old.triggers.items (map name es)) (sym items) sound.listed);
+  listed = subst (λ ls. AreListed ls (map name new.job_slots.items)) (sym triggers) (subst (λ es. AreListed old.triggers.items (map name es)) (sym items) sound.listed);
   order = subst (λ es. AreInOrder (labels_in (map name es))) (sym items) sound.order;
 }
 
 -- growth beside the index, and then of the index
-pub grown-whole : (old new : Jobs) → IsWhole old → new.reading ≡ old.reading → new.seats.items ≡ old.seats.items → vec_len new.seats ≡ vec_len old.seats →
+pub grown-whole : (old new : Jobs) → IsWhole old → new.reading ≡ old.reading → new.job_slots.items ≡ old.job_slots.items → vec_len new.job_slots ≡ vec_len old.job_slots →
     new.numbers.slots ≡ old.numbers.slots → new.orders.items ≡ old.orders.items → vec_capacity old.orders ≤ vec_capacity new.orders → new.gone ≡ old.gone → new.has_calendars ≡ old.has_calendars →
-    new.triggers.items ≡ old.triggers.items → IsIndexOf new.index old.reading.up old.seats.items → IsWhole new
+    new.triggers.items ≡ old.triggers.items → IsIndexOf new.index old.reading.up old.job_slots.items → IsWhole new
 grown-whole old new whole reading items len slots orders capacity stay calendars triggers index =
-    let indexed : IsIndexed new = subst (λ at. IsIndexOf new.index at.up new.seats.items) (sym reading) (subst (IsIndexOf new.index old.reading.up) (sym items) index) in
+    let indexed : IsIndexed new = subst (λ at. IsIndexOf new.index at.up new.job_slots.items) (sym reading) (subst (IsIndexOf new.index old.reading.up) (sym items) index) in
     let before = grown-sound old (record new { index = old.index }) whole.sound reading items len slots orders capacity refl calendars triggers in
     record {
       sound = record {
@@ -74,31 +74,31 @@ grown-whole old new whole reading items len slots orders capacity stay calendars
         few = before.few;
         known = before.known;
         room = before.room;
-        named = named-of new.index new.reading.up new.seats.items indexed;
+        named = named-of new.index new.reading.up new.job_slots.items indexed;
         periods = before.periods;
         calendars = before.calendars;
         listed = before.listed;
         order = before.order;
       };
       indexed = indexed;
-      stay = subst (λ g. StayBut g new.seats.items) (sym stay) (subst (StayBut old.gone) (sym items) whole.stay);
+      stay = subst (λ g. StayBut g new.job_slots.items) (sym stay) (subst (StayBut old.gone) (sym items) whole.stay);
     }
 
 -- ---- refusals
 
-jobs-length : (at : Reading) (es : List Seat) (jobs : List Job) → KeepsJobs at (map row es) jobs → length jobs ≡ length es
+jobs-length : (at : Reading) (es : List JobSlot) (jobs : List Job) → KeepsJobs at (map row es) jobs → length jobs ≡ length es
 jobs-length at [] [] keeps = refl
 jobs-length at [] (j ∷ js) keeps = absurd keeps
 jobs-length at (e ∷ es) [] keeps = absurd keeps
 jobs-length at (e ∷ es) (j ∷ js) keeps = ap suc (jobs-length at es js keeps.1)
 
-pub count-jobs : (t : Jobs) (s : State) → KeepsState (seen_table t) s → AllStay t.seats.items → length s.jobs ≡ length t.seats.items
-count-jobs t s keeps stay = jobs-length s.reading t.seats.items s.jobs (subst (λ rs. KeepsJobs s.reading rs s.jobs) (rows-all t.seats.items stay) keeps.jobs)
+pub count-jobs : (t : Jobs) (s : State) → KeepsState (seen_table t) s → AllStay t.job_slots.items → length s.jobs ≡ length t.job_slots.items
+count-jobs t s keeps stay = jobs-length s.reading t.job_slots.items s.jobs (subst (λ rs. KeepsJobs s.reading rs s.jobs) (rows-all t.job_slots.items stay) keeps.jobs)
 
-pub absent-names : (label : Label) (es : List Seat) → None ≡ position (has_label label) es → IsAbsent label (map name es)
+pub absent-names : (label : Label) (es : List JobSlot) → None ≡ position (has_label label) es → IsAbsent label (map name es)
 absent-names label es none = go es (none-where (has_label label) es none)
   where
-    go : (es : List Seat) → NonePasses (has_label label) es → IsAbsent label (map name es)
+    go : (es : List JobSlot) → NonePasses (has_label label) es → IsAbsent label (map name es)
     go [] none = tt
     go (e ∷ es) none = (none.0, go es none.1)
 

@@ -14,12 +14,12 @@ use Rattle.history_model.specs.Step.{lists}
 use Rattle.history_model.specs.Described.{Described}
 use Rattle.history_model.specs.Definitions.{definition}
 use Rattle.history_model.specs.declared.definition.parts.PathState.{PathState}
-use Rattle.loaded_jobs.specs.Seats.{name}
+use Rattle.loaded_jobs.specs.JobSlots.{name}
 use Rattle.loaded_jobs.specs.Index.{ArePlaced, is_minute_among}
 use Rattle.loaded_jobs.specs.Visiting.{is_spared}
 use Rattle.loaded_jobs.specs.Marking.{IsMinuteAt, HaveMarks, Marks, stands_at}
 use Rattle.loaded_jobs.specs.Triggers.{rank, rank_of_minute, has_rank, triggers_of, is_placed_at, AreListed}
-use Rattle.loaded_jobs.specs.declared.seat.Seat.{Seat}
+use Rattle.loaded_jobs.specs.declared.job_slot.JobSlot.{JobSlot}
 use Rattle.loaded_jobs.specs.declared.trigger.Trigger.{Trigger}
 use Rattle.loaded_jobs.specs.declared.trigger.Trigger.TheVariants.{Minute, Path}
 use Rattle.loaded_jobs.specs.declared.trigger.Listed.{Listed}
@@ -64,22 +64,22 @@ pub exact-marks : (old new : Places) (passes : ℕ → Bool) → Marks old new p
 exact-marks old new passes marked empty place = marked.places place ∙ ap (λ b. b || passes place) (empty place)
 
 -- each listed job has a place for its mark
-pub have-marks : (places : List ℕ) (es : List Seat) (listed : List Listed) (ready : Places) → ArePlaced places es → AreListed listed (map name es) → length es ≤ place_room ready → HaveMarks listed places ready
+pub have-marks : (places : List ℕ) (es : List JobSlot) (listed : List Listed) (ready : Places) → ArePlaced places es → AreListed listed (map name es) → length es ≤ place_room ready → HaveMarks listed places ready
 have-marks places es listed ready placed are fits k one at =
     let own = each-placed places es placed listed (any-listed listed _ are.exact) k one at in
     let low = own.1 in (own.0, omega (arith, low, fits))
 
 -- ---- what a run of one rank marks
 
-module _ (places : List ℕ) (es : List Seat) (placed : ArePlaced places es) (listed : List Listed) (are : AreListed listed (map name es)) where
+module _ (places : List ℕ) (es : List JobSlot) (placed : ArePlaced places es) (listed : List Listed) (are : AreListed listed (map name es)) where
   -- the definition has a trigger of this rank
   abbrev pub has : List ℕ → Described → Bool
   has r d = list_any (λ trigger. is_same r (rank trigger)) (triggers_of d)
 
-  pub stands : (r : List ℕ) (k : ℕ) (e : Seat) → slice_get es k ≡ Some e → stands_at listed places r k ≡ has r e.def
+  pub stands : (r : List ℕ) (k : ℕ) (e : JobSlot) → slice_get es k ≡ Some e → stands_at listed places r k ≡ has r e.def
   stands r k e at = any-filter (is_placed_at places k) (has_rank r) listed ∙ at-place places es placed listed (any-listed listed _ are.exact) k e at (λ trigger. is_same r (rank trigger))
 
-  pub stood : (r : List ℕ) (k : ℕ) → stands_at listed places r k ≡ true → (e : Seat) × (slice_get es k ≡ Some e) × (has r e.def ≡ true)
+  pub stood : (r : List ℕ) (k : ℕ) → stands_at listed places r k ≡ true → (e : JobSlot) × (slice_get es k ≡ Some e) × (has r e.def ≡ true)
   stood r k is = from-place places es placed listed (any-listed listed _ are.exact) k (λ trigger. is_same r (rank trigger)) (sym (any-filter (is_placed_at places k) (has_rank r) listed) ∙ is)
 
 -- ---- the triggers of a definition
@@ -162,7 +162,7 @@ pub some-first : (ms : List CivilMinute) → (length ms == 0) ≡ false → is_s
 some-first [] none = cc
 some-first (m ∷ ms) none = refl
 
--- at the place stands a job with an entry that has no minute, or with one of these
+-- at the place is a job with an entry that has no minute, or with one of these
 abbrev pub stands_among : List Listed → List ℕ → List CivilMinute → ℕ → Bool
 stands_among listed places minutes place = stands_at listed places (0 ∷ []) place || list_any (λ minute. stands_at listed places (0 ∷ minute.minute ∷ []) place) minutes
 
@@ -241,7 +241,7 @@ once-more listed places first ready later seen after minutes i d within if_noted
         pick k true same there = or-true (list_any (λ m. m.minute == k) (take i minutes))
         pick k false differ there = or-first (list_any (λ m. m.minute == k) (take i minutes)) false (so_far.noted k (noted-set seen n k there differ))
 
-module _ (places : List ℕ) (es : List Seat) (placed : ArePlaced places es) (listed : List Listed) (are : AreListed listed (map name es)) (first later : Places) (minutes : List CivilMinute) (some : is_some (slice_get minutes 0) ≡ true)
+module _ (places : List ℕ) (es : List JobSlot) (placed : ArePlaced places es) (listed : List Listed) (are : AreListed listed (map name es)) (first later : Places) (minutes : List CivilMinute) (some : is_some (slice_get minutes 0) ≡ true)
     (marks : Marks first later (stands_among listed places minutes)) where
   spread : (a : Bool) (b c : CivilMinute → Bool) → ((m : CivilMinute) → (a || b m) ≡ c m) → (ms : List CivilMinute) → is_some (slice_get ms 0) ≡ true → (a || list_any b ms) ≡ list_any c ms
   spread a b c each [] some = cc
@@ -262,31 +262,31 @@ module _ (places : List ℕ) (es : List Seat) (placed : ArePlaced places es) (li
   among d = spread (has places es placed listed are (0 ∷ []) d) (λ minute. has places es placed listed are (0 ∷ minute.minute ∷ []) d) (λ minute. list_any (λ due. allows due.minute minute.minute) d.calendar)
       (λ minute. allowed minute.minute d) minutes some
 
-  stands-all : (ms : List CivilMinute) (place : ℕ) (e : Seat) → slice_get es place ≡ Some e →
+  stands-all : (ms : List CivilMinute) (place : ℕ) (e : JobSlot) → slice_get es place ≡ Some e →
       list_any (λ (minute : CivilMinute). stands_at listed places (0 ∷ minute.minute ∷ []) place) ms ≡ list_any (λ (minute : CivilMinute). has places es placed listed are (0 ∷ minute.minute ∷ []) e.def) ms
   stands-all [] place e at = refl
   stands-all (m ∷ ms) place e at = λ i. stands places es placed listed are (0 ∷ m.minute ∷ []) place e at i || stands-all ms place e at i
 
-  here : (place : ℕ) (e : Seat) → slice_get es place ≡ Some e → stands_among listed places minutes place ≡ is_minute_among e.def.calendar minutes
+  here : (place : ℕ) (e : JobSlot) → slice_get es place ≡ Some e → stands_among listed places minutes place ≡ is_minute_among e.def.calendar minutes
   here place e at = (λ i. stands places es placed listed are (0 ∷ []) place e at i || stands-all minutes place e at i) ∙ among e.def
 
-  some-job : (place : ℕ) → stands_among listed places minutes place ≡ true → (e : Seat) × (slice_get es place ≡ Some e)
+  some-job : (place : ℕ) → stands_among listed places minutes place ≡ true → (e : JobSlot) × (slice_get es place ≡ Some e)
   some-job place is = go (stands_at listed places (0 ∷ []) place) refl is
     where
-      by : (ms : List CivilMinute) → list_any (λ (minute : CivilMinute). stands_at listed places (0 ∷ minute.minute ∷ []) place) ms ≡ true → (e : Seat) × (slice_get es place ≡ Some e)
+      by : (ms : List CivilMinute) → list_any (λ (minute : CivilMinute). stands_at listed places (0 ∷ minute.minute ∷ []) place) ms ≡ true → (e : JobSlot) × (slice_get es place ≡ Some e)
       by [] is = cc
       by (m ∷ ms) is = pick (stands_at listed places (0 ∷ m.minute ∷ []) place) refl is (by ms)
         where
           pick : (b : Bool) → stands_at listed places (0 ∷ m.minute ∷ []) place ≡ b → (b || list_any (λ (minute : CivilMinute). stands_at listed places (0 ∷ minute.minute ∷ []) place) ms) ≡ true →
-              (list_any (λ (minute : CivilMinute). stands_at listed places (0 ∷ minute.minute ∷ []) place) ms ≡ true → (e : Seat) × (slice_get es place ≡ Some e)) → (e : Seat) × (slice_get es place ≡ Some e)
+              (list_any (λ (minute : CivilMinute). stands_at listed places (0 ∷ minute.minute ∷ []) place) ms ≡ true → (e : JobSlot) × (slice_get es place ≡ Some e)) → (e : JobSlot) × (slice_get es place ≡ Some e)
           pick true one is later = let found = stood places es placed listed are (0 ∷ m.minute ∷ []) place one in (found.0, found.1)
           pick false one is later = later is
 
-      go : (b : Bool) → stands_at listed places (0 ∷ []) place ≡ b → (b || list_any (λ (minute : CivilMinute). stands_at listed places (0 ∷ minute.minute ∷ []) place) minutes) ≡ true → (e : Seat) × (slice_get es place ≡ Some e)
+      go : (b : Bool) → stands_at listed places (0 ∷ []) place ≡ b → (b || list_any (λ (minute : CivilMinute). stands_at listed places (0 ∷ minute.minute ∷ []) place) minutes) ≡ true → (e : JobSlot) × (slice_get es place ≡ Some e)
       go true one is = let found = stood places es placed listed are (0 ∷ []) place one in (found.0, found.1)
       go false one is = by minutes is
 
-  pub minute-spared : (place : ℕ) (e : Seat) → slice_get es place ≡ Some e → is_spared later place ≡ true → (is_spared first place ≡ true) × (is_minute_among e.def.calendar minutes ≡ false)
+  pub minute-spared : (place : ℕ) (e : JobSlot) → slice_get es place ≡ Some e → is_spared later place ≡ true → (is_spared first place ≡ true) × (is_minute_among e.def.calendar minutes ≡ false)
   minute-spared place e at none =
       let both = or-false (has_place first place) (stands_among listed places minutes place) (sym (marks.places place) ∙ not-true (has_place later place) none) in
       (ap not both.0, sym (here place e at) ∙ both.1)

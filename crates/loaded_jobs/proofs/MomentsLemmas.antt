@@ -4,9 +4,9 @@ use Rattle.std.specs.Prelude.{slice_set, slice_get}
 use Rattle.std.proofs.lemmas.Bool.Decides.{nat_tests}
 use Rattle.timer_heap.specs.Timers.{Timers, moment_in, Updates}
 use Rattle.loaded_jobs.specs.Tables.{Name, IsOther, IsOnce, definition_of_number}
-use Rattle.loaded_jobs.specs.Seats.{name}
+use Rattle.loaded_jobs.specs.JobSlots.{name}
 use Rattle.loaded_jobs.specs.Index.{moment_for, AreAlone}
-use Rattle.loaded_jobs.specs.declared.seat.Seat.{Seat}
+use Rattle.loaded_jobs.specs.declared.job_slot.JobSlot.{JobSlot}
 
 module _ {X : Type 0} where
   pub set-same : (xs : List X) (i : ℕ) (v : X) → i < length xs → slice_get (slice_set xs i v) i ≡ Some v
@@ -31,14 +31,14 @@ module _ {X : Type 0} where
 
 -- ---- two places have two numbers
 
-number-other : (n : Name) (es : List Seat) (k : ℕ) (e : Seat) → IsOther n (map name es) → slice_get es k ≡ Some e → n.number ≢ e.number
+number-other : (n : Name) (es : List JobSlot) (k : ℕ) (e : JobSlot) → IsOther n (map name es) → slice_get es k ≡ Some e → n.number ≢ e.number
 number-other n [] zero e other at = cc
 number-other n [] (suc k) e other at = cc
 number-other n (x ∷ xs) zero e other at =
     let same : x ≡ e = cc in λ equal. (let equals : n.number ≡ x.number = equal ∙ ap (λ y. y.number) (sym same) in let differ = other.0 in let clash : ⊥ = grind (arith, nat_tests, differ, equals) in clash)
 number-other n (x ∷ xs) (suc k) e other at = number-other n xs k e other.2 at
 
-pub apart : (es : List Seat) (k p : ℕ) (e other : Seat) → IsOnce (map name es) → slice_get es k ≡ Some e → slice_get es p ≡ Some other → k ≢ p → e.number ≢ other.number
+pub apart : (es : List JobSlot) (k p : ℕ) (e other : JobSlot) → IsOnce (map name es) → slice_get es k ≡ Some e → slice_get es p ≡ Some other → k ≢ p → e.number ≢ other.number
 apart [] zero p e other once at here differ = cc
 apart [] (suc k) p e other once at here differ = cc
 apart (x ∷ xs) zero zero e other once at here differ = absurd (differ refl)
@@ -51,11 +51,11 @@ apart (x ∷ xs) (suc k) (suc p) e other once at here differ = apart xs k p e ot
 -- ---- the index after a visit
 
 -- the jobs that were passed, and those that are spared, have their moments
-abbrev pub AreTimedTo : Timers → ℕ → (ℕ → Bool) → ℕ → List Seat → Type 0
+abbrev pub AreTimedTo : Timers → ℕ → (ℕ → Bool) → ℕ → List JobSlot → Type 0
 AreTimedTo timers up spared front es =
-    (k : ℕ) (e : Seat) → slice_get es k ≡ Some e → (k < front) ⊎ (spared k ≡ true) → moment_in timers e.number ≡ moment_for e up
+    (k : ℕ) (e : JobSlot) → slice_get es k ≡ Some e → (k < front) ⊎ (spared k ≡ true) → moment_in timers e.number ≡ moment_for e up
 
-pub retimed : (es : List Seat) (p : ℕ) (old new : Seat) (timers later : Timers) (up front : ℕ) (spared : ℕ → Bool) → IsOnce (map name es) → p < length es → old ≡ get_or es p old → name new ≡ name old →
+pub retimed : (es : List JobSlot) (p : ℕ) (old new : JobSlot) (timers later : Timers) (up front : ℕ) (spared : ℕ → Bool) → IsOnce (map name es) → p < length es → old ≡ get_or es p old → name new ≡ name old →
     Updates timers later new.number (moment_for new up) → ((k : ℕ) → front ≤ k → k < p → spared k ≡ true) →
     AreTimedTo timers up spared front es → AreTimedTo later up spared (p + 1) (slice_set es p new)
 retimed es p old new timers later up front spared once within is named updates between timed k e at reached = go (k == p) refl where
@@ -70,8 +70,8 @@ retimed es p old new timers later up front spared once within is named updates b
   go true equal =
       let same : k ≡ p = grind (arith, nat_tests, equal) in
       let there : Some new ≡ Some e = sym (set-same es p new within) ∙ ap (slice_get (slice_set es p new)) (sym same) ∙ at in
-      let seat : new ≡ e = cc in
-      subst (λ x. moment_in later x.number ≡ moment_for x up) seat updates.changed
+      let job_slot : new ≡ e = cc in
+      subst (λ x. moment_in later x.number ≡ moment_for x up) job_slot updates.changed
   go false other =
       let differ : k ≢ p = (λ same. (let clash : ⊥ = grind (arith, nat_tests, other, same) in clash)) in
       let here : slice_get es k ≡ Some e = sym (set-other es p k new differ) ∙ at in

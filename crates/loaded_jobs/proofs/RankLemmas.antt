@@ -1,4 +1,4 @@
--- The list of triggers stands in byte order of their ranks, so that halves find those of one rank.
+-- The list of triggers is in byte order of their ranks, so that halves find those of one rank.
 use Rattle.std.proofs.Common.{◌≡◌, ◌≢◌, ◌⊎◌, inl, inr, ℕ, zero, suc, ◌==◌, ◌+◌, ◌-◌, ◌<◌, ◌≤◌, nat_lt, Bool, true, false, not, ◌||◌, cond, List, [], ◌∷◌, ◌++◌, take, drop, length, get_or, Some, None, refl, sym, ap, subst, ◌∙◌, arith}
 use Rattle.std.specs.Prelude.{slice_get}
 use Rattle.std.specs.List.{filter, list_any, AllByRecursion}
@@ -18,7 +18,7 @@ use Rattle.history_model.proofs.LabelOrderLemmas.{before-trans, after}
 pub not-both : (a b : List ℕ) → is_before a b ≡ true → is_before b a ≡ false
 not-both a b before = unless-true (is_before b a) (λ back. (let clash : true ≡ false = sym (before-trans a b a before back) ∙ not-before-self a in cc clash))
 
--- a text that is not behind one before the third is before it too
+-- a text that is not after one before the third is before it too
 up-to : (a b k : List ℕ) → is_before b a ≡ false → is_before b k ≡ true → is_before a k ≡ true
 up-to a b k order before = go (is_same b a) refl
   where
@@ -65,7 +65,7 @@ in-order (z ∷ zs) order zero (suc j) x y less first second =
 in-order (z ∷ zs) order (suc i) zero x y less first second = absurd (omega (arith, less))
 in-order (z ∷ zs) order (suc i) (suc j) x y less first second = in-order zs order.1 i j x y (omega (arith, less)) first second
 
--- what comes behind one that is behind a rank is behind it too
+-- what comes after one that is after a rank is after it too
 pub behind-on : (xs : List Listed) → AreOrdered xs → (k : List ℕ) (from : ℕ) (x : Listed) → slice_get xs from ≡ Some x → is_behind k x ≡ true →
     (j : ℕ) (y : Listed) → slice_get xs j ≡ Some y → from ≤ j → is_behind k y ≡ true
 behind-on xs order k from x first behind j y second up = go (from == j) refl
@@ -81,7 +81,7 @@ behind-on xs order k from x first behind j y second up = go (from == j) refl
         let less : from < j = omega (arith, up, differ) in
         from-on (rank x.trigger) (rank y.trigger) k (in-order xs order from j x y less first second) behind
 
--- what is below a rank is not behind it
+-- what is below a rank is not after it
 pub not-behind-below : (xs : List Listed) (k : List ℕ) (from : ℕ) → ((j : ℕ) (y : Listed) → slice_get xs j ≡ Some y → j < from → is_below k y ≡ true) →
     (j : ℕ) (y : Listed) → slice_get xs j ≡ Some y → j < from → is_behind k y ≡ false
 not-behind-below xs k from low j y at less = not-both (rank y.trigger) k (low j y at less)

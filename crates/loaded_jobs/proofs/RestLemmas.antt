@@ -10,8 +10,8 @@ use Rattle.history_model.specs.Texts.{text_after}
 use Rattle.history_model.proofs.OneLabelLemmas.{rest-stays, rest-orders}
 use Rattle.loaded_jobs.specs.Tables.{Table, label_of, definition_of_number}
 use Rattle.loaded_jobs.specs.StandsFor.{KeepsJobs, KeepsState, is_none}
-use Rattle.loaded_jobs.specs.Seats.{row, name, rows, has_number}
-use Rattle.loaded_jobs.specs.declared.seat.Seat.{Seat}
+use Rattle.loaded_jobs.specs.JobSlots.{row, name, rows, has_number}
+use Rattle.loaded_jobs.specs.declared.job_slot.JobSlot.{JobSlot}
 use Rattle.loaded_jobs.proofs.FirstLemmas.{IsFirstWhere, NonePasses}
 use Rattle.loaded_jobs.proofs.OutcomesLemmas.{good}
 
@@ -32,8 +32,8 @@ rests-with_orders table s range keeps =
     let rests = (good table s range keeps).rests in
     ((λ i. record s { jobs = rest-stays s.reading s.jobs rests i }), rest-orders s.reading s.jobs rests)
 
--- no job is loaded if every seat is gone
-pub empty-same : (at : Reading) (es : List Seat) (jobs : List Job) → KeepsJobs at (rows es) jobs → list_all (λ e. e.has_gone) es ≡ is_none jobs
+-- no job is loaded if every slot is gone
+pub empty-same : (at : Reading) (es : List JobSlot) (jobs : List Job) → KeepsJobs at (rows es) jobs → list_all (λ e. e.has_gone) es ≡ is_none jobs
 empty-same at [] [] keeps = refl
 empty-same at [] (job ∷ jobs) keeps = absurd keeps
 empty-same at (e ∷ es) jobs keeps = go e.has_gone jobs keeps (empty-same at es jobs)
@@ -46,20 +46,20 @@ empty-same at (e ∷ es) jobs keeps = go e.has_gone jobs keeps (empty-same at es
 
 -- ---- labels by number
 
-pub label-at : (number : ℕ) (es : List Seat) (k : ℕ) (d : Seat) → IsFirstWhere (has_number number) es k → label_of (map name es) number ≡ (get_or es k d).def.label
+pub label-at : (number : ℕ) (es : List JobSlot) (k : ℕ) (d : JobSlot) → IsFirstWhere (has_number number) es k → label_of (map name es) number ≡ (get_or es k d).def.label
 label-at number [] k d at = absurd at
 label-at number (e ∷ es) zero d at = ap (λ b. cond b e.def.label (label_of (map name es) number)) at
 label-at number (e ∷ es) (suc k) d at = ap (λ b. cond b e.def.label (label_of (map name es) number)) at.0 ∙ label-at number es k d at.1
 
-pub no-label : (number : ℕ) (es : List Seat) → NonePasses (has_number number) es → label_of (map name es) number ≡ []
+pub no-label : (number : ℕ) (es : List JobSlot) → NonePasses (has_number number) es → label_of (map name es) number ≡ []
 no-label number [] none = refl
 no-label number (e ∷ es) none = ap (λ b. cond b e.def.label (label_of (map name es) number)) none.0 ∙ no-label number es none.1
 
-pub definition-at : (number : ℕ) (es : List Seat) (k : ℕ) (d : Seat) → IsFirstWhere (has_number number) es k → definition_of_number (map name es) number ≡ Some (get_or es k d).def
+pub definition-at : (number : ℕ) (es : List JobSlot) (k : ℕ) (d : JobSlot) → IsFirstWhere (has_number number) es k → definition_of_number (map name es) number ≡ Some (get_or es k d).def
 definition-at number [] k d at = absurd at
 definition-at number (e ∷ es) zero d at = ap (λ b. cond b (Some e.def) (definition_of_number (map name es) number)) at
 definition-at number (e ∷ es) (suc k) d at = ap (λ b. cond b (Some e.def) (definition_of_number (map name es) number)) at.0 ∙ definition-at number es k d at.1
 
-pub no-definition : (number : ℕ) (es : List Seat) → NonePasses (has_number number) es → definition_of_number (map name es) number ≡ None
+pub no-definition : (number : ℕ) (es : List JobSlot) → NonePasses (has_number number) es → definition_of_number (map name es) number ≡ None
 no-definition number [] none = refl
 no-definition number (e ∷ es) none = ap (λ b. cond b (Some e.def) (definition_of_number (map name es) number)) none.0 ∙ no-definition number es none.1

@@ -10,8 +10,8 @@ use Rattle.history_model.specs.FactsOfPast.{Keeps, ordered}
 use Rattle.history_model.specs.Machine.{Job}
 use Rattle.loaded_jobs.specs.Tables.{Row}
 use Rattle.loaded_jobs.specs.StandsFor.{KeepsJobs}
-use Rattle.loaded_jobs.specs.Seats.{row, rows}
-use Rattle.loaded_jobs.specs.declared.seat.Seat.{Seat}
+use Rattle.loaded_jobs.specs.JobSlots.{row, rows}
+use Rattle.loaded_jobs.specs.declared.job_slot.JobSlot.{JobSlot}
 
 pub now-ordered : (o : Option Act) (t : History) → now (ordered o t) ≡ now t
 now-ordered None t = refl
@@ -34,9 +34,9 @@ rows-cons : (b : Bool) (r : Row) (xs ys both : List Row) → both ≡ xs ++ ys �
 rows-cons true r xs ys both e = e
 rows-cons false r xs ys both e = ap (λ rs. r ∷ rs) e
 
-pub rows-append : (xs ys : List Seat) → rows (xs ++ ys) ≡ rows xs ++ rows ys
+pub rows-append : (xs ys : List JobSlot) → rows (xs ++ ys) ≡ rows xs ++ rows ys
 rows-append [] ys = refl
 rows-append (e ∷ es) ys = rows-cons e.has_gone (row e) (rows es) (rows ys) (rows (es ++ ys)) (rows-append es ys)
 
-pub rows-stay : (e : Seat) (es : List Seat) → e.has_gone ≡ false → rows (e ∷ es) ≡ row e ∷ rows es
+pub rows-stay : (e : JobSlot) (es : List JobSlot) → e.has_gone ≡ false → rows (e ∷ es) ≡ row e ∷ rows es
 rows-stay e es stays = ap (λ b. cond b (rows es) (row e ∷ rows es)) stays

@@ -16,7 +16,7 @@ pub is-label : (a b : Label) → is_same a b ≡ true → a ≡ b
 is-label a b e = (bytes_decides a b).0 e
 
 module _ (new : Setting) (label : Label) where
-  -- one more setting behind a list, seen by whether each is of the label
+  -- one more setting after a list, seen by whether each is of the label
   behind : (x : Setting) (rest xs : List Setting) (a b : Bool) → sets label new ≡ a → sets label x ≡ b → sets new.label x ≡ false →
       first (filter (sets label) rest) ≡ first (cond a (new ∷ filter (sets label) xs) (filter (sets label) xs)) →
       first (cond b (x ∷ filter (sets label) rest) (filter (sets label) rest))
@@ -44,7 +44,7 @@ module _ (new : Setting) (label : Label) where
   set-last [] none = refl
   set-last (x ∷ xs) none = behind x (xs ++ new ∷ []) xs (sets label new) (sets label x) refl refl none.0 (set-last xs none.1)
 
-  -- a setting that stands behind none of its label decides as if it stood first
+  -- a setting that is after none of its label decides as if it was first
   pub set-placed : (xs : List Setting) (k : ℕ) → ((j : ℕ) (x : Setting) → slice_get xs j ≡ Some x → j < k → sets new.label x ≡ false) →
       first (filter (sets label) (take k xs ++ new ∷ drop k xs)) ≡ first (filter (sets label) (new ∷ xs))
   set-placed xs zero apart = refl

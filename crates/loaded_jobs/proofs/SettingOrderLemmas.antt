@@ -1,4 +1,4 @@
--- The settings stand in byte order of labels, each label once.
+-- The settings are in byte order of labels, each label once.
 use Rattle.std.proofs.Common.{◌≡◌, ℕ, zero, suc, ◌+◌, ◌<◌, ◌≤◌, nat_lt, Bool, true, false, cond, List, [], ◌∷◌, ◌++◌, map, take, drop, length, get_or, Option, Some, None, refl, sym, ap, subst, ◌∙◌, arith}
 use Rattle.std.specs.Prelude.{slice_get, slice_set, reverse}
 use Rattle.std.specs.List.{filter, position, AllByRecursion, remove, insert}
@@ -187,7 +187,7 @@ module _ {X : Type 0} where
       let rest = as-long k xs ys (omega (arith, longer)) (ap (drop 1) same) in
       let all : suc k ≤ suc (length ys) = omega (arith, rest) in all
 
--- one more of the overrides is among those that are in order
+-- one more of the settings is among those that are in order
 pub keeps-step : (xs new overrides : List Setting) (k : ℕ) → take (suc k) xs ≡ take (suc k) overrides → KeepsSettings (drop (suc k) xs) (reverse (drop (suc k) overrides)) →
     KeepsSettings (drop k new) (drop (k + 1) xs ++ take 1 (drop k xs)) → KeepsSettings (drop k new) (reverse (drop k overrides))
 keeps-step xs new overrides k same before now = λ label.

@@ -1,17 +1,17 @@
--- The text of the list grows seat by seat.
+-- The text of the list grows slot by slot.
 use Rattle.std.proofs.Common.{◌≡◌, ℕ, suc, Bool, true, false, List, [], ◌∷◌, ◌++◌, cond, ◌+◌, ◌<◌, drop, length, get_or, add-one, subst, append-nil, refl, sym, ap, ◌∙◌, append_assoc}
 use Rattle.std.specs.List.{flat_map}
 use Rattle.history_model.specs.declared.Reading.{Reading}
 use Rattle.history_model.specs.Machine.{Job}
 use Rattle.history_model.specs.Texts.{shown_text}
 use Rattle.loaded_jobs.specs.StandsFor.{KeepsJob, KeepsJobs}
-use Rattle.loaded_jobs.specs.Seats.{row, rows}
+use Rattle.loaded_jobs.specs.JobSlots.{row, rows}
 use Rattle.loaded_jobs.specs.Listed.{IsListed}
-use Rattle.loaded_jobs.specs.declared.seat.Seat.{Seat}
+use Rattle.loaded_jobs.specs.declared.job_slot.JobSlot.{JobSlot}
 use Rattle.loaded_jobs.proofs.ListLemmas.{at-drop}
 
--- the list comes one seat further
-pub listed-step : (at : Reading) (es : List Seat) (i : ℕ) (e : Seat) (text later whole : List ℕ) → i < length es → e ≡ get_or es i e →
+-- the list comes one slot further
+pub listed-step : (at : Reading) (es : List JobSlot) (i : ℕ) (e : JobSlot) (text later whole : List ℕ) → i < length es → e ≡ get_or es i e →
     (e.has_gone ≡ true → later ≡ text) → ((job : Job) → e.has_gone ≡ false → KeepsJob at (row e) job → later ≡ text ++ shown_text job) →
     IsListed at (rows (drop i es)) text whole → IsListed at (rows (drop (i + 1) es)) later whole
 listed-step at es i e text later whole within is going line way =

@@ -1,4 +1,4 @@
--- A reading that reaches no moment of a job: the same facts keep its past with the reading, and nothing new is due.
+-- A clock reading that reaches no moment of a job: the same facts keep its past with the clock reading, and nothing new is due.
 use Rattle.std.proofs.Common.{◌≡◌, ◌≤◌, false, None, ◌∷◌, sym, ap, ◌∙◌, subst}
 use Rattle.history_model.specs.declared.Reading.{Reading}
 use Rattle.history_model.specs.Items.{Read, History}

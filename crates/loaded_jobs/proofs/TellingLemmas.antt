@@ -11,12 +11,12 @@ use Rattle.history_model.specs.FactsOfPast.{reply}
 use Rattle.history_model.specs.Labels.{Label, is_label, is_same}
 use Rattle.history_model.specs.Machine.{State, Event, past_of}
 use Rattle.history_model.specs.Acceptance.{refusal_at, refusal_in}
-use Rattle.history_model.specs.Step.{taken, heard_one, with_orders}
+use Rattle.history_model.specs.Step.{taken, received_one, with_orders}
 use Rattle.history_model.specs.Texts.{text_after}
 use Rattle.history_model.proofs.FreshOrdersLemmas.{differ-sym}
 use Rattle.history_model.proofs.LabelOrderLemmas.{same_self}
 use Rattle.loaded_jobs.specs.Tables.{Name, Table, IsOther, IsOnce, label_of}
-use Rattle.loaded_jobs.specs.Seats.{row, name, rows, has_label, has_number}
+use Rattle.loaded_jobs.specs.JobSlots.{row, name, rows, has_label, has_number}
 use Rattle.loaded_jobs.specs.Alike.{IsAlike}
 use Rattle.loaded_jobs.specs.Counts.{counts, Counts, IsCounted}
 use Rattle.loaded_jobs.specs.Loads.{refused_with}
@@ -26,7 +26,7 @@ use Rattle.loaded_jobs.specs.TableOutcomes.{plain_outcome, IsOrderedFrom}
 use Rattle.loaded_jobs.specs.Sound.{seen_table}
 use Rattle.loaded_jobs.specs.StandsFor.{KeepsState}
 use Rattle.loaded_jobs.specs.Telling.{IsTold}
-use Rattle.loaded_jobs.specs.declared.seat.Seat.{Seat}
+use Rattle.loaded_jobs.specs.declared.job_slot.JobSlot.{JobSlot}
 use Rattle.loaded_jobs.specs.declared.jobs.Jobs.{Jobs}
 use Rattle.loaded_jobs.proofs.EventsLemmas.{alike-both, alike-state}
 use Rattle.loaded_jobs.proofs.FirstLemmas.{first-where, within-where}
@@ -54,8 +54,8 @@ on-err (Ok done) so holds = tt
 on-err (Err refusal) so holds = so holds
 
 -- what the job was told is the machine's event
-pub told-done : (old begun new : Jobs) (s : State) (e : Event) (label : Label) (item : Item) (result : Result (Unit {0}) Refusal) → IsAlike old begun → rows begun.seats.items ≡ rows old.seats.items →
-    IsAlike begun new → old.reading.up ≤ MAX_UP → IsTold label item (seen_table begun) result (seen_table new) → taken s e ≡ record s { jobs = heard_one label item s.jobs } →
+pub told-done : (old begun new : Jobs) (s : State) (e : Event) (label : Label) (item : Item) (result : Result (Unit {0}) Refusal) → IsAlike old begun → rows begun.job_slots.items ≡ rows old.job_slots.items →
+    IsAlike begun new → old.reading.up ≤ MAX_UP → IsTold label item (seen_table begun) result (seen_table new) → taken s e ≡ record s { jobs = received_one label item s.jobs } →
     refusal_in s e ≡ refusal_at (past_of s label) item → text_after e (with_orders (taken s e)) ≡ [] → KeepsState (seen_table old) s → IsDone s e (seen_table new) (plain_outcome result (seen_table new))
 told-done old begun new s e label item result begins same tells range told takes refusal quiet keeps =
     let start = alike-state old begun s begins keeps same in
@@ -114,16 +114,16 @@ agrees (m ∷ names) number once is = go (m.number == number) refl (agrees names
   go true at later is = (at ∙ sym (same_self m.described.label), apart-from m names number (eqb-true m.number number at) once.0)
   go false at later is = (at ∙ sym (other-known m names number once.0 is), later is)
 
-rows-agree : (number : ℕ) (label : Label) (es : List Seat) → Agrees number label (map name es) → Agrees number label (row_names (rows es))
+rows-agree : (number : ℕ) (label : Label) (es : List JobSlot) → Agrees number label (map name es) → Agrees number label (row_names (rows es))
 rows-agree number label [] all = tt
 rows-agree number label (e ∷ es) all = go e.has_gone (rows-agree number label es all.1) where
   go : (b : Bool) → Agrees number label (row_names (rows es)) → Agrees number label (row_names (cond b (rows es) (row e ∷ rows es)))
   go true rest = rest
   go false rest = (all.0, rest)
 
-seats-agree : (number : ℕ) (label : Label) (es : List Seat) → Agrees number label (map name es) → AllByRecursion (λ e. has_number number e ≡ has_label label e) es
-seats-agree number label [] all = tt
-seats-agree number label (e ∷ es) all = (all.0, seats-agree number label es all.1)
+job_slots-agree : (number : ℕ) (label : Label) (es : List JobSlot) → Agrees number label (map name es) → AllByRecursion (λ e. has_number number e ≡ has_label label e) es
+job_slots-agree number label [] all = tt
+job_slots-agree number label (e ∷ es) all = (all.0, job_slots-agree number label es all.1)
 
 prefix-same : {X : Type 0} (p q : X → Bool) (xs : List X) → AllByRecursion (λ x. p x ≡ q x) xs → prefix_len (λ x. not (p x)) xs ≡ prefix_len (λ x. not (q x)) xs
 prefix-same p q [] each = refl
@@ -132,10 +132,10 @@ prefix-same p q (x ∷ xs) each = let rest = prefix-same p q xs each.1 in λ i. 
 position-same : {X : Type 0} (p q : X → Bool) (xs : List X) → AllByRecursion (λ x. p x ≡ q x) xs → position p xs ≡ position q xs
 position-same p q xs each = ap (λ k. cond (nat_lt k (length xs)) (Some k) None) (prefix-same p q xs each)
 
--- once the jobs that left are dropped, the job of the number stands where the job of its label stands
-pub number-label : (es later : List Seat) (number : ℕ) → IsOnce (map name es) → map name later ≡ row_names (rows es) → is_label (label_of (map name es) number) ≡ true →
+-- once the jobs that left are dropped, the job of the number is where the job of its label is
+pub number-label : (es later : List JobSlot) (number : ℕ) → IsOnce (map name es) → map name later ≡ row_names (rows es) → is_label (label_of (map name es) number) ≡ true →
     position (has_number number) later ≡ position (has_label (label_of (map name es) number)) later
 number-label es later number once same is =
     let label = label_of (map name es) number in
     position-same (has_number number) (has_label label) later
-    (seats-agree number label later (subst (Agrees number label) (sym same) (rows-agree number label es (agrees (map name es) number once is))))
+    (job_slots-agree number label later (subst (Agrees number label) (sym same) (rows-agree number label es (agrees (map name es) number once is))))

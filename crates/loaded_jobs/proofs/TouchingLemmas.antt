@@ -1,4 +1,4 @@
--- If a job has a mark, the reading touches it.
+-- If a job has a mark, the clock reading touches it.
 use Rattle.std.proofs.Common.{◌≡◌, ◌⊎◌, inl, inr, ℕ, suc, ◌+◌, ◌-◌, ◌*◌, ◌/◌, ◌==◌, ◌<◌, ◌≤◌, nat_lt, nat_le, Bool, true, false, ◌||◌, ◌&&◌, cond, List, [], ◌∷◌, map, Option, Some, None, refl, sym, ap, ◌∙◌, subst, arith}
 use Rattle.std.specs.Prelude.{slice_get, if◌then◌else◌}
 use Rattle.std.specs.Option.{ForSome}
@@ -24,13 +24,13 @@ use Rattle.history_model.proofs.ComingLemmas.{next-by}
 use Rattle.history_model.proofs.MomentsLemmas.{is-one}
 use Rattle.loaded_jobs.specs.StandsFor.{KeepsJob, KeepsJobs}
 use Rattle.loaded_jobs.specs.Counts.{counts, count_in}
-use Rattle.loaded_jobs.specs.Seats.{row, name, rows, AllStay}
+use Rattle.loaded_jobs.specs.JobSlots.{row, name, rows, AllStay}
 use Rattle.loaded_jobs.specs.Periods.{HavePeriods}
 use Rattle.loaded_jobs.specs.Index.{is_minute_among}
 use Rattle.loaded_jobs.specs.Minutes.{has_calendars}
 use Rattle.history_model.specs.News.{is_some_entry}
 use Rattle.loaded_jobs.specs.Visiting.{is_spared, AreVisitedOnce}
-use Rattle.loaded_jobs.specs.declared.seat.Seat.{Seat}
+use Rattle.loaded_jobs.specs.declared.job_slot.JobSlot.{JobSlot}
 use Rattle.history_model.specs.declared.TheConstants.{SECOND}
 use Rattle.history_model.proofs.BooleanLemmas.{or-true, or-false}
 
@@ -72,9 +72,9 @@ or-right-true true b c is = refl
 or-right-true false true c is = refl
 or-right-true false false c is = is
 
-pub touch-moment : (zone : Zone) (at : Moment) (f : Facts) (past : History) (m : ℕ) → Keeps f past → ForSome (definition_of past).start_interval (λ seconds. 0 < seconds) →
+pub affected-moment : (zone : Zone) (at : Moment) (f : Facts) (past : History) (m : ℕ) → Keeps f past → ForSome (definition_of past).start_interval (λ seconds. 0 < seconds) →
     next_by f (now past).up ≡ Some m → m ≤ at.up → touches zone at past ≡ true
-touch-moment zone at f past m keeps positive next due =
+affected-moment zone at f past m keeps positive next due =
     let moment : next_moment past ≡ Some m = next-by past keeps.lawful ∙ ap (λ g. next_by g (now past).up) (sym keeps.same) ∙ next in
     let one = is-one past positive m moment in
     go one.1 one.0 where
@@ -105,9 +105,9 @@ none-swapped zone cal (m ∷ ms) none = λ i. head cal none i || none-swapped zo
       let one = or-false (allows entry.minute (zone m).minute) (list_any (λ n. allows entry.minute (zone n).minute) ms) both.0 in
       λ i. one.1 i || tail rest both.1 i
 
-pub touch-minute : (zone : Zone) (at : Moment) (past : History) (minutes : List CivilMinute) → minutes ≡ map zone (crossed (now past).wall at.wall) →
+pub affected-minute : (zone : Zone) (at : Moment) (past : History) (minutes : List CivilMinute) → minutes ≡ map zone (crossed (now past).wall at.wall) →
     is_minute_among (definition_of past).calendar minutes ≡ true → touches zone at past ≡ true
-touch-minute zone at past minutes is among = go (list_any (is_minute_crossed zone (crossed (now past).wall at.wall)) (definition_of past).calendar) refl where
+affected-minute zone at past minutes is among = go (list_any (is_minute_crossed zone (crossed (now past).wall at.wall)) (definition_of past).calendar) refl where
   go : (b : Bool) → list_any (is_minute_crossed zone (crossed (now past).wall at.wall)) (definition_of past).calendar ≡ b → touches zone at past ≡ true
   go true there =
       or-right-true (crosses_interval (definition_of past).start_interval (load_of past).at.up (now past).up at.up) (list_any (is_reached (now past).up at.up) (waits past))
@@ -119,14 +119,14 @@ touch-minute zone at past minutes is among = go (list_any (is_minute_crossed zon
 -- ---- the counts of those that are spared
 
 -- a job with a mark is touched
-abbrev pub MarksTouch : Zone → Moment → Places → ℕ → List Seat → List Job → Type 0
-MarksTouch zone at ready place [] jobs = Unit {0}
-MarksTouch zone at ready place (e ∷ es) [] = Unit {0}
-MarksTouch zone at ready place (e ∷ es) (job ∷ jobs) =
-    (is_spared ready place ≡ false → touches zone at job.past ≡ true) × MarksTouch zone at ready (suc place) es jobs
+abbrev pub MarksAffected : Zone → Moment → Places → ℕ → List JobSlot → List Job → Type 0
+MarksAffected zone at ready place [] jobs = Unit {0}
+MarksAffected zone at ready place (e ∷ es) [] = Unit {0}
+MarksAffected zone at ready place (e ∷ es) (job ∷ jobs) =
+    (is_spared ready place ≡ false → touches zone at job.past ≡ true) × MarksAffected zone at ready (suc place) es jobs
 
-pub spared-count : (zone : Zone) (before at : Moment) (ready : Places) (place : ℕ) (es later : List Seat) (jobs : List Job) (label : Label) (past : History) →
-    AllStay es → AreVisitedOnce (is_spared ready) place es later → KeepsJobs before (map row es) jobs → MarksTouch zone at ready place es jobs →
+pub spared-count : (zone : Zone) (before at : Moment) (ready : Places) (place : ℕ) (es later : List JobSlot) (jobs : List Job) (label : Label) (past : History) →
+    AllStay es → AreVisitedOnce (is_spared ready) place es later → KeepsJobs before (map row es) jobs → MarksAffected zone at ready place es jobs →
     past_in (first (filter (is_of label) jobs)) ≡ Some past → touches zone at past ≡ false →
     count_in (counts (rows later)) label ≡ count_in (counts (map row es)) label
 spared-count zone before at ready place [] later [] label past stay visited_once keeps marks found none = cc
@@ -163,7 +163,7 @@ spared-count zone before at ready place (e ∷ es) (n ∷ ns) (job ∷ jobs) lab
                 ∙ ap (λ b. if b then n.core.decided else count_in (counts (rows ns)) label) is
 
 -- why a job has a mark
-abbrev pub IsReason : Moment → Moment → List CivilMinute → Seat → Type 0
+abbrev pub IsReason : Moment → Moment → List CivilMinute → JobSlot → Type 0
 IsReason before at minutes e = ((m : ℕ) × (next_by e.core.facts before.up ≡ Some m) × (m ≤ at.up)) ⊎ (is_minute_among e.def.calendar minutes ≡ true)
 
 some-entry : (calendar : List Entry) (minutes : List CivilMinute) → is_minute_among calendar minutes ≡ true → is_some_entry calendar ≡ true
@@ -173,22 +173,22 @@ some-entry [] minutes among = let clash : true ≡ false = sym among ∙ none-an
   none-any (m ∷ ms) = none-any ms
 some-entry (entry ∷ rest) minutes among = refl
 
-reason-touches : (zone : Zone) (before at : Moment) (minutes : List CivilMinute) (e : Seat) (job : Job) → KeepsJob before (row e) job → ForSome (definition_of job.past).start_interval (λ seconds. 0 < seconds) →
+reason-touches : (zone : Zone) (before at : Moment) (minutes : List CivilMinute) (e : JobSlot) (job : Job) → KeepsJob before (row e) job → ForSome (definition_of job.past).start_interval (λ seconds. 0 < seconds) →
     (is_some_entry e.def.calendar ≡ true → minutes ≡ map zone (crossed before.wall at.wall)) → IsReason before at minutes e → touches zone at job.past ≡ true
 reason-touches zone before at minutes e job keeps positive crosses (inl moment) =
-    touch-moment zone at e.core.facts job.past moment.0 keeps.keeps positive (subst (λ r. next_by e.core.facts r.up ≡ Some moment.0) keeps.present moment.1) moment.2
+    affected-moment zone at e.core.facts job.past moment.0 keeps.keeps positive (subst (λ r. next_by e.core.facts r.up ≡ Some moment.0) keeps.present moment.1) moment.2
 reason-touches zone before at minutes e job keeps positive crosses (inr among) =
-    touch-minute zone at job.past minutes (crosses (some-entry e.def.calendar minutes among) ∙ ap (λ r. map zone (crossed r.wall at.wall)) keeps.present)
+    affected-minute zone at job.past minutes (crosses (some-entry e.def.calendar minutes among) ∙ ap (λ r. map zone (crossed r.wall at.wall)) keeps.present)
     (ap (λ d. is_minute_among d.calendar minutes) (sym keeps.definition) ∙ among)
 
-pub marks-touch : (zone : Zone) (before at : Moment) (minutes : List CivilMinute) (ready : Places) (place : ℕ) (es : List Seat) (jobs : List Job) → HavePeriods (map name es) →
-    ((k : ℕ) (e : Seat) → slice_get es k ≡ Some e → is_spared ready (place + k) ≡ false → IsReason before at minutes e) →
-    (has_calendars (map row es) ≡ true → minutes ≡ map zone (crossed before.wall at.wall)) → KeepsJobs before (map row es) jobs → MarksTouch zone at ready place es jobs
-marks-touch zone before at minutes ready place [] jobs periods reasons crosses keeps = tt
-marks-touch zone before at minutes ready place (e ∷ es) [] periods reasons crosses keeps = tt
-marks-touch zone before at minutes ready place (e ∷ es) (job ∷ jobs) periods reasons crosses keeps = (
+pub marks-affected : (zone : Zone) (before at : Moment) (minutes : List CivilMinute) (ready : Places) (place : ℕ) (es : List JobSlot) (jobs : List Job) → HavePeriods (map name es) →
+    ((k : ℕ) (e : JobSlot) → slice_get es k ≡ Some e → is_spared ready (place + k) ≡ false → IsReason before at minutes e) →
+    (has_calendars (map row es) ≡ true → minutes ≡ map zone (crossed before.wall at.wall)) → KeepsJobs before (map row es) jobs → MarksAffected zone at ready place es jobs
+marks-affected zone before at minutes ready place [] jobs periods reasons crosses keeps = tt
+marks-affected zone before at minutes ready place (e ∷ es) [] periods reasons crosses keeps = tt
+marks-affected zone before at minutes ready place (e ∷ es) (job ∷ jobs) periods reasons crosses keeps = (
   λ marked. reason-touches zone before at minutes e job keeps.0 (subst (λ d. ForSome d.start_interval (λ seconds. 0 < seconds)) keeps.0.definition periods.0) (λ some. crosses (ap (λ b. b || has_calendars (map row es)) some))
       (reasons 0 e refl (subst (λ p. is_spared ready p ≡ false) (omega arith) marked)),
-  marks-touch zone before at minutes ready (suc place) es jobs periods.1 (λ k x there marked. reasons (suc k) x there (subst (λ p. is_spared ready p ≡ false) (omega arith) marked))
+  marks-affected zone before at minutes ready (suc place) es jobs periods.1 (λ k x there marked. reasons (suc k) x there (subst (λ p. is_spared ready p ≡ false) (omega arith) marked))
       (λ some. crosses (ap (λ b. is_some_entry e.def.calendar || b) some ∙ or-true (is_some_entry e.def.calendar))) keeps.1,
 )

@@ -3,10 +3,10 @@ use Rattle.std.proofs.Common.{◌≡◌, ℕ, suc, ◌+◌, nat_lt, Bool, true, 
 use Rattle.std.specs.Prelude.{slice_get}
 use Rattle.std.specs.List.{filter, list_any, sum_by}
 use Rattle.std.proofs.lemmas.List.Sums.{sum_by-cons, sum_by-append, sum_by-insert}
-use Rattle.loaded_jobs.specs.Seats.{name}
+use Rattle.loaded_jobs.specs.JobSlots.{name}
 use Rattle.loaded_jobs.specs.Sound.{IsSound, seen_table}
 use Rattle.loaded_jobs.specs.Triggers.{triggers_of, under, listed_in}
-use Rattle.loaded_jobs.specs.declared.seat.Seat.{Seat}
+use Rattle.loaded_jobs.specs.declared.job_slot.JobSlot.{JobSlot}
 use Rattle.loaded_jobs.specs.declared.jobs.Jobs.{Jobs}
 use Rattle.loaded_jobs.specs.declared.trigger.Listed.{Listed}
 
@@ -58,10 +58,10 @@ count-map p f (x ∷ xs) =
     sum_by-cons (λ y. cond (p y) 1 0) (f x) (map f xs) ∙ ap (λ n. cond (p (f x)) 1 0 + n) (count-map p f xs) ∙ sym (sum_by-cons (λ y. cond (p (f y)) 1 0) x xs)
 
 -- how many of the job's triggers pass
-abbrev pub own-count : (Listed → Bool) → Seat → ℕ
+abbrev pub own-count : (Listed → Bool) → JobSlot → ℕ
 own-count test e = count_by (λ trigger. test (under e.number trigger)) (triggers_of e.def)
 
-pub by-counts : (test : Listed → Bool) (es : List Seat) → count_by test (listed_in (map name es)) ≡ sum_by (own-count test) es
+pub by-counts : (test : Listed → Bool) (es : List JobSlot) → count_by test (listed_in (map name es)) ≡ sum_by (own-count test) es
 by-counts test [] = refl
 by-counts test (e ∷ es) =
     sum_by-append (λ one. cond (test one) 1 0) (map (under e.number) (triggers_of e.def)) (listed_in (map name es))
@@ -77,10 +77,10 @@ as-many listed owned exact = sym (count-all listed) ∙ exact (λ one. true) ∙
 
 -- the table holds as many triggers as its definitions have
 pub triggers_held : (t : Jobs) → IsSound t → (seen_table t).reserved.held_triggers ≡ length (listed_in (seen_table t).names)
-triggers_held t sound = let same = as-many t.triggers.items (listed_in (map name t.seats.items)) sound.listed.exact in omega (arith, same)
+triggers_held t sound = let same = as-many t.triggers.items (listed_in (map name t.job_slots.items)) sound.listed.exact in omega (arith, same)
 
 -- one more job
-pub exact-placed : (listed later : List Listed) (new : Seat) (es : List Seat) (k : ℕ) → ((test : Listed → Bool) → count_by test listed ≡ count_by test (listed_in (map name es))) →
+pub exact-placed : (listed later : List Listed) (new : JobSlot) (es : List JobSlot) (k : ℕ) → ((test : Listed → Bool) → count_by test listed ≡ count_by test (listed_in (map name es))) →
     ((test : Listed → Bool) → count_by test later ≡ count_by test listed + own-count test new) →
     (test : Listed → Bool) → count_by test later ≡ count_by test (listed_in (map name (take k es ++ new ∷ drop k es)))
 exact-placed listed later new es k before more test =

@@ -9,11 +9,11 @@ use Rattle.history_model.specs.Labels.{is_same, is_before}
 use Rattle.history_model.specs.Described.{Described}
 use Rattle.history_model.specs.Definitions.{definition}
 use Rattle.history_model.specs.declared.definition.parts.PathState.{PathState}
-use Rattle.loaded_jobs.specs.Seats.{row, rows, name, seat_stays}
+use Rattle.loaded_jobs.specs.JobSlots.{row, rows, name, job_slot_stays}
 use Rattle.loaded_jobs.specs.Index.{place_in, ArePlaced}
 use Rattle.loaded_jobs.specs.Nearest.{IsNearestOf, paths_of, paths_in}
 use Rattle.loaded_jobs.specs.Triggers.{rank, path_in, is_below, is_behind, triggers_of, under, listed_in, AreOrdered, is_staying, stays_at, stays_under, is_placed_at}
-use Rattle.loaded_jobs.specs.declared.seat.Seat.{Seat}
+use Rattle.loaded_jobs.specs.declared.job_slot.JobSlot.{JobSlot}
 use Rattle.loaded_jobs.specs.declared.trigger.Trigger.{Trigger}
 use Rattle.loaded_jobs.specs.declared.trigger.Trigger.TheVariants.{Minute, Path}
 use Rattle.loaded_jobs.specs.declared.trigger.Listed.{Listed}
@@ -100,14 +100,14 @@ module _ {X : Type 0} where
 -- ---- by jobs
 
 -- one of the job's triggers passes
-abbrev pub own : (Listed → Bool) → Seat → Bool
+abbrev pub own : (Listed → Bool) → JobSlot → Bool
 own test e = list_any (λ trigger. test (under e.number trigger)) (triggers_of e.def)
 
-pub by-seats : (test : Listed → Bool) (es : List Seat) → list_any test (listed_in (map name es)) ≡ list_any (own test) es
-by-seats test [] = refl
-by-seats test (e ∷ es) =
+pub by-job_slots : (test : Listed → Bool) (es : List JobSlot) → list_any test (listed_in (map name es)) ≡ list_any (own test) es
+by-job_slots test [] = refl
+by-job_slots test (e ∷ es) =
     list_any-append test (map (under e.number) (triggers_of e.def)) (listed_in (map name es))
-    ∙ (λ i. any-map test (under e.number) (triggers_of e.def) i || by-seats test es i)
+    ∙ (λ i. any-map test (under e.number) (triggers_of e.def) i || by-job_slots test es i)
 
 -- ---- paths
 
@@ -140,12 +140,12 @@ definition-paths q d =
     ∙ (λ i. sym (any-map q (λ (wish : PathState). wish.path) d.path_state) i || sym (list_any-append q d.watch_paths d.queue_directories) i)
     ∙ sym (list_any-append q (map (λ (wish : PathState). wish.path) d.path_state) (d.watch_paths ++ d.queue_directories))
 
-rows-paths : (q : List ℕ → Bool) (es : List Seat) → list_any q (paths_in (rows es)) ≡ list_any (λ e. seat_stays e && list_any (on-path q) (triggers_of e.def)) es
+rows-paths : (q : List ℕ → Bool) (es : List JobSlot) → list_any q (paths_in (rows es)) ≡ list_any (λ e. job_slot_stays e && list_any (on-path q) (triggers_of e.def)) es
 rows-paths q [] = refl
 rows-paths q (e ∷ es) = go e.has_gone (rows-paths q es)
   where
-    go : (b : Bool) → list_any q (paths_in (rows es)) ≡ list_any (λ e. seat_stays e && list_any (on-path q) (triggers_of e.def)) es → list_any q (paths_in (cond b (rows es) (row e ∷ rows es)))
-        ≡ ((not b && list_any (on-path q) (triggers_of e.def)) || list_any (λ e. seat_stays e && list_any (on-path q) (triggers_of e.def)) es)
+    go : (b : Bool) → list_any q (paths_in (rows es)) ≡ list_any (λ e. job_slot_stays e && list_any (on-path q) (triggers_of e.def)) es → list_any q (paths_in (cond b (rows es) (row e ∷ rows es)))
+        ≡ ((not b && list_any (on-path q) (triggers_of e.def)) || list_any (λ e. job_slot_stays e && list_any (on-path q) (triggers_of e.def)) es)
     go true later = later
     go false later = list_any-append q (paths_of (definition e.def)) (paths_in (rows es)) ∙ (λ i. sym (definition-paths q e.def) i || later i)
 
@@ -174,29 +174,29 @@ count-kept p q xs = sum-filter (λ x. cond (p x) 1 0) q xs
     both true b = refl
     both false b = refl
 
-module _ (kept : Listed → Bool) (es : List Seat) (own : (k : ℕ) (e : Seat) → slice_get es k ≡ Some e → (trigger : Trigger) → kept (under e.number trigger) ≡ seat_stays e) where
+module _ (kept : Listed → Bool) (es : List JobSlot) (own : (k : ℕ) (e : JobSlot) → slice_get es k ≡ Some e → (trigger : Trigger) → kept (under e.number trigger) ≡ job_slot_stays e) where
   -- how many of a job's triggers pass, of the jobs that stay
-  count-stays : (test : Listed → Bool) (k : ℕ) (e : Seat) → slice_get es k ≡ Some e → own-count (λ one. kept one && test one) e ≡ cond (seat_stays e) (own-count test e) 0
+  count-stays : (test : Listed → Bool) (k : ℕ) (e : JobSlot) → slice_get es k ≡ Some e → own-count (λ one. kept one && test one) e ≡ cond (job_slot_stays e) (own-count test e) 0
   count-stays test k e at =
-      sum-agree (λ trigger. cond (kept (under e.number trigger) && test (under e.number trigger)) 1 0) (λ trigger. cond (seat_stays e && test (under e.number trigger)) 1 0) (triggers_of e.def)
+      sum-agree (λ trigger. cond (kept (under e.number trigger) && test (under e.number trigger)) 1 0) (λ trigger. cond (job_slot_stays e && test (under e.number trigger)) 1 0) (triggers_of e.def)
       (λ j trigger there. ap (λ b. cond (b && test (under e.number trigger)) 1 0) (own k e at trigger))
-      ∙ count-and (seat_stays e) (λ trigger. test (under e.number trigger)) (triggers_of e.def)
+      ∙ count-and (job_slot_stays e) (λ trigger. test (under e.number trigger)) (triggers_of e.def)
 
-  -- those that pass are those of the seats that stay
+  -- those that pass are those of the slots that stay
   pub exact-kept : (listed : List Listed) → ((test : Listed → Bool) → count_by test listed ≡ count_by test (listed_in (map name es))) →
-      (test : Listed → Bool) → count_by test (filter kept listed) ≡ count_by test (listed_in (map name (filter seat_stays es)))
+      (test : Listed → Bool) → count_by test (filter kept listed) ≡ count_by test (listed_in (map name (filter job_slot_stays es)))
   exact-kept listed before test =
       count-kept test kept listed
       ∙ before (λ one. kept one && test one)
       ∙ by-counts (λ one. kept one && test one) es
-      ∙ sum-agree (own-count (λ one. kept one && test one)) (λ e. cond (seat_stays e) (own-count test e) 0) es (count-stays test)
-      ∙ sym (sum-filter (own-count test) seat_stays es) ∙ sym (by-counts test (filter seat_stays es))
+      ∙ sum-agree (own-count (λ one. kept one && test one)) (λ e. cond (job_slot_stays e) (own-count test e) 0) es (count-stays test)
+      ∙ sym (sum-filter (own-count test) job_slot_stays es) ∙ sym (by-counts test (filter job_slot_stays es))
 
 -- ---- those that left
 
-module _ (places : List ℕ) (es : List Seat) (placed : ArePlaced places es) where
+module _ (places : List ℕ) (es : List JobSlot) (placed : ArePlaced places es) where
   -- each job's place in the list of places
-  place-got : (k : ℕ) (e : Seat) → slice_get es k ≡ Some e → slice_get places e.number ≡ Some k
+  place-got : (k : ℕ) (e : JobSlot) → slice_get es k ≡ Some e → slice_get places e.number ≡ Some k
   place-got k e at = let own = placed k e at in got places e.number k own.0 own.1
     where
       got : (ps : List ℕ) (n place : ℕ) → n < length ps → place_in ps n ≡ place → slice_get ps n ≡ Some place
@@ -204,32 +204,32 @@ module _ (places : List ℕ) (es : List Seat) (placed : ArePlaced places es) whe
       got (p ∷ ps) zero place within is = ap Some is
       got (p ∷ ps) (suc n) place within is = got ps n place (omega (arith, within)) is
 
-  own-stays : (k : ℕ) (e : Seat) → slice_get es k ≡ Some e → (trigger : Trigger) → stays_under places es (under e.number trigger) ≡ seat_stays e
+  own-stays : (k : ℕ) (e : JobSlot) → slice_get es k ≡ Some e → (trigger : Trigger) → stays_under places es (under e.number trigger) ≡ job_slot_stays e
   own-stays k e at trigger = ap (stays_at es) (place-got k e at) ∙ ap is_staying at
 
-  if-stays : (test : Trigger → ℕ → Bool) (k : ℕ) (e : Seat) → slice_get es k ≡ Some e →
-      own (λ one. stays_under places es one && test one.trigger one.number) e ≡ (seat_stays e && list_any (λ trigger. test trigger e.number) (triggers_of e.def))
+  if-stays : (test : Trigger → ℕ → Bool) (k : ℕ) (e : JobSlot) → slice_get es k ≡ Some e →
+      own (λ one. stays_under places es one && test one.trigger one.number) e ≡ (job_slot_stays e && list_any (λ trigger. test trigger e.number) (triggers_of e.def))
   if-stays test k e at =
-      any-agree (λ trigger. stays_under places es (under e.number trigger) && test trigger e.number) (λ trigger. seat_stays e && test trigger e.number) (triggers_of e.def)
+      any-agree (λ trigger. stays_under places es (under e.number trigger) && test trigger e.number) (λ trigger. job_slot_stays e && test trigger e.number) (triggers_of e.def)
       (λ j trigger there. ap (λ b. b && test trigger e.number) (own-stays k e at trigger))
-      ∙ and-any (seat_stays e) (λ trigger. test trigger e.number) (triggers_of e.def)
+      ∙ and-any (job_slot_stays e) (λ trigger. test trigger e.number) (triggers_of e.def)
 
-  -- those of the jobs that stay are those of the seats that stay
+  -- those of the jobs that stay are those of the slots that stay
   pub exact-tidy : (listed : List Listed) → ((test : Listed → Bool) → count_by test listed ≡ count_by test (listed_in (map name es))) →
-      (test : Listed → Bool) → count_by test (filter (stays_under places es) listed) ≡ count_by test (listed_in (map name (filter seat_stays es)))
+      (test : Listed → Bool) → count_by test (filter (stays_under places es) listed) ≡ count_by test (listed_in (map name (filter job_slot_stays es)))
   exact-tidy = exact-kept (stays_under places es) es own-stays
 
   -- ---- the jobs at one place
 
   module _ (listed : List Listed) (exact : (test : Listed → Bool) → list_any test listed ≡ list_any test (listed_in (map name es))) where
-    own-place : (k j : ℕ) (y : Seat) → slice_get es j ≡ Some y → (f : Trigger → Bool) →
+    own-place : (k j : ℕ) (y : JobSlot) → slice_get es j ≡ Some y → (f : Trigger → Bool) →
         own (λ one. f one.trigger && is_placed_at places k one) y ≡ (list_any f (triggers_of y.def) && (j == k))
     own-place k j y at f = any-and f (place_in places y.number == k) (triggers_of y.def) ∙ ap (λ p. list_any f (triggers_of y.def) && (p == k)) (placed j y at).1
 
-    -- some item that passes stands at the job's place exactly if one of the job's triggers passes
-    pub at-place : (k : ℕ) (e : Seat) → slice_get es k ≡ Some e → (f : Trigger → Bool) → list_any (λ one. f one.trigger && is_placed_at places k one) listed ≡ list_any f (triggers_of e.def)
+    -- some item that passes is at the job's place exactly if one of the job's triggers passes
+    pub at-place : (k : ℕ) (e : JobSlot) → slice_get es k ≡ Some e → (f : Trigger → Bool) → list_any (λ one. f one.trigger && is_placed_at places k one) listed ≡ list_any f (triggers_of e.def)
     at-place k e at f =
-        exact (λ one. f one.trigger && is_placed_at places k one) ∙ by-seats (λ one. f one.trigger && is_placed_at places k one) es
+        exact (λ one. f one.trigger && is_placed_at places k one) ∙ by-job_slots (λ one. f one.trigger && is_placed_at places k one) es
         ∙ any-only (own (λ one. f one.trigger && is_placed_at places k one)) es k e at
         (λ j y there apart. own-place k j y there f ∙ ap (λ b. list_any f (triggers_of y.def) && b) (differs j apart) ∙ and-false (list_any f (triggers_of y.def)))
         ∙ own-place k k e at f ∙ ap (λ b. list_any f (triggers_of e.def) && b) (same k) ∙ and-true (list_any f (triggers_of e.def))
@@ -242,10 +242,10 @@ module _ (places : List ℕ) (es : List Seat) (placed : ArePlaced places es) whe
 
     -- an item that passes is that of a job at its place
     pub from-place : (k : ℕ) (f : Trigger → Bool) → list_any (λ one. f one.trigger && is_placed_at places k one) listed ≡ true →
-        (e : Seat) × (slice_get es k ≡ Some e) × (list_any f (triggers_of e.def) ≡ true)
+        (e : JobSlot) × (slice_get es k ≡ Some e) × (list_any f (triggers_of e.def) ≡ true)
     from-place k f some =
         let found = any-has (own (λ one. f one.trigger && is_placed_at places k one)) es
-        (sym (exact (λ one. f one.trigger && is_placed_at places k one) ∙ by-seats (λ one. f one.trigger && is_placed_at places k one) es) ∙ some) in
+        (sym (exact (λ one. f one.trigger && is_placed_at places k one) ∙ by-job_slots (λ one. f one.trigger && is_placed_at places k one) es) ∙ some) in
         let both = and-both (list_any f (triggers_of found.1.def)) (found.0 == k) (sym (own-place k found.0 found.1 found.2 f) ∙ found.3) in
         let is = both.1 in
         let same : found.0 ≡ k = grind (arith, nat_tests, is) in
@@ -256,7 +256,7 @@ module _ (places : List ℕ) (es : List Seat) (placed : ArePlaced places es) whe
     each-placed j one at =
         let none : list_any (λ x. not (nat_lt x.number (length places) && nat_lt (place_in places x.number) (length es))) listed ≡ false =
         exact (λ x. not (nat_lt x.number (length places) && nat_lt (place_in places x.number) (length es)))
-        ∙ by-seats (λ x. not (nat_lt x.number (length places) && nat_lt (place_in places x.number) (length es))) es
+        ∙ by-job_slots (λ x. not (nat_lt x.number (length places) && nat_lt (place_in places x.number) (length es))) es
         ∙ any-none (own (λ x. not (nat_lt x.number (length places) && nat_lt (place_in places x.number) (length es)))) es
         (λ k e there. any-none (λ trigger. not (nat_lt e.number (length places) && nat_lt (place_in places e.number) (length es))) (triggers_of e.def) (λ i trigger here. (
         let first = (placed k e there).0 in
@@ -276,9 +276,9 @@ module _ (places : List ℕ) (es : List Seat) (placed : ArePlaced places es) whe
     pub exact-paths : (q : List ℕ → Bool) → list_any q (paths_in (rows es)) ≡ list_any (λ one. stays_under places es one && on-path q one.trigger) listed
     exact-paths q =
         rows-paths q es
-        ∙ any-agree (λ e. seat_stays e && list_any (on-path q) (triggers_of e.def)) (own (λ one. stays_under places es one && on-path q one.trigger)) es
+        ∙ any-agree (λ e. job_slot_stays e && list_any (on-path q) (triggers_of e.def)) (own (λ one. stays_under places es one && on-path q one.trigger)) es
         (λ k e at. sym (if-stays (λ trigger number. on-path q trigger) k e at))
-        ∙ sym (by-seats (λ one. stays_under places es one && on-path q one.trigger) es) ∙ sym (exact (λ one. stays_under places es one && on-path q one.trigger))
+        ∙ sym (by-job_slots (λ one. stays_under places es one && on-path q one.trigger) es) ∙ sym (exact (λ one. stays_under places es one && on-path q one.trigger))
 
     pub none-after : (text : List ℕ) → ((j : ℕ) (one : Listed) → slice_get listed j ≡ Some one → is_behind (1 ∷ text) one ≡ true → stays_under places es one ≡ false) →
         list_any (is_before text) (paths_in (rows es)) ≡ false
@@ -322,7 +322,7 @@ module _ (places : List ℕ) (es : List Seat) (placed : ArePlaced places es) whe
       next-found = next-at one.trigger refl
 
 -- one more was passed
-pub pass-more : (places : List ℕ) (es : List Seat) (listed : List Listed) (text : List ℕ) (k : ℕ) (one : Listed) → slice_get listed k ≡ Some one → stays_under places es one ≡ false →
+pub pass-more : (places : List ℕ) (es : List JobSlot) (listed : List Listed) (text : List ℕ) (k : ℕ) (one : Listed) → slice_get listed k ≡ Some one → stays_under places es one ≡ false →
     ((j : ℕ) (y : Listed) → slice_get listed j ≡ Some y → j < k → is_behind (1 ∷ text) y ≡ true → stays_under places es y ≡ false) →
     (j : ℕ) (y : Listed) → slice_get listed j ≡ Some y → j < k + 1 → is_behind (1 ∷ text) y ≡ true → stays_under places es y ≡ false
 pass-more places es listed text k one at going before j y there low behind = go (j == k) refl

@@ -9,14 +9,14 @@ use Rattle.history_model.specs.declared.Reading.{Reading}
 use Rattle.history_model.proofs.LawfulLemmas.{eqb-self}
 use Rattle.loaded_jobs.specs.Tables.{Name, definition_of_number, is_known}
 use Rattle.loaded_jobs.specs.Counts.{next_count}
-use Rattle.loaded_jobs.specs.Seats.{name}
+use Rattle.loaded_jobs.specs.JobSlots.{name}
 use Rattle.loaded_jobs.specs.Index.{moment_for}
 use Rattle.loaded_jobs.specs.Leaving.{StayBut}
 use Rattle.loaded_jobs.specs.Visiting.{is_other, IsVisit}
 use Rattle.loaded_jobs.specs.Visits.{CanVisit, VisitsTouched}
 use Rattle.loaded_jobs.specs.declared.gone_jobs.Gone.{Gone}
-use Rattle.loaded_jobs.specs.declared.seat.Seat.{Seat}
-use Rattle.loaded_jobs.specs.Touch.{nothing_for}
+use Rattle.loaded_jobs.specs.declared.job_slot.JobSlot.{JobSlot}
+use Rattle.loaded_jobs.specs.AffectedJobs.{nothing_for}
 use Rattle.loaded_jobs.proofs.ListLemmas.{set-map}
 use Rattle.loaded_jobs.proofs.KnownNumbersLemmas.{named-at, all-named}
 use Rattle.loaded_jobs.proofs.MomentsLemmas.{retimed, alone-after}
@@ -38,8 +38,8 @@ reached : (place k : ℕ) (b : Bool) → (place == k) ≡ b → (k < place + 1) 
 reached place k true is = let same : place ≡ k = grind (arith, nat_tests, is) in inl (omega (arith, same))
 reached place k false is = inr (ap not is)
 
-module _ (place : ℕ) (now : Reading) (es : List Seat) (e new : Seat) (timers : Timers) (can : CanVisit nothing_for now now (is_other place) es timers) (within : place < length es) (is : e ≡ get_or es place e) (named : name new ≡ name e) where
-  -- the seat's number is that of a job
+module _ (place : ℕ) (now : Reading) (es : List JobSlot) (e new : JobSlot) (timers : Timers) (can : CanVisit nothing_for now now (is_other place) es timers) (within : place < length es) (is : e ≡ get_or es place e) (named : name new ≡ name e) where
+  -- the slot's number is that of a job
   pub known-number : is_some (definition_of_number (map name es) new.number) ≡ true
   known-number = ap (λ n. is_some (definition_of_number (map name es) n.number)) named ∙ named-at (map name es) es es place e within refl is (all-named es)
 

@@ -31,8 +31,7 @@ abbrev pub is_near : List (Label × ℕ) → Row → Bool
 is_near before row =
     not (went_up before row) || (row.decided == next_count (count_in before row.described.label))
 
--- each loaded job's count stays or goes up by one, and so many went up; the count of a job that is
--- gone stays
+-- each loaded job's count stays or goes up by one, and `count` of them went up; the count of a job that is gone stays
 pub record IsCounted (before : List (Label × ℕ)) (after gone : List Row) (count : ℕ) : Type 0 where
   pub each : list_all (is_near before) after ≡ true
   pub visited : count ≡ length (filter (went_up before) after)

@@ -38,8 +38,8 @@ pub record GoesUnstored (label : Label) (old : Table) (result : Result (Unit {0}
   pub names : KeepsNames result old new
   pub room : HasSameRoom old new
 
--- The same of a reading, for whose minutes memory may be wanting: the table then stands for the states
--- that it stood for. No job that the reading does not touch was visited
+-- The same of a clock reading, for whose minutes memory may be wanting: the table then represents the states that it represented.
+-- No job that the clock reading does not touch was visited
 pub record GoesByReading (at : Reading) (old : Table) (result : Result (Unit {0}) Refusal)
     (new : Table) : Type 0 where
   pub answer : UnlessMemory result (IsOutcome (Tick at) old result new)
@@ -49,9 +49,8 @@ pub record GoesByReading (at : Reading) (old : Table) (result : Result (Unit {0}
   pub names : KeepsNames result old new
   pub room : HasSameRoom old new
 
--- The same of a load that was made ready, which can't be refused. Each job keeps its number, and the new
--- one has that which it was made ready with. The table holds the label's setting, if one was to be made,
--- and the new job's triggers beside the others
+-- The same of a load that was made ready, which can't be refused. Each job keeps its number, and the new one has the number that
+-- it was made ready with. The table holds the label's setting, if one was to be made, and the new job's triggers with the others
 pub record GoesWithJob (ready : Ready) (old new : Table) : Type 0 where
   pub kept : Loads old ready new
   pub counted : IsCounted (counts old.rows) new.rows new.gone new.visited

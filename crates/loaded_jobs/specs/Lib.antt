@@ -6,14 +6,14 @@ pub mod Counts
 pub mod Minutes
 pub mod Periods
 pub mod Triggers
-pub mod Seats
+pub mod JobSlots
 pub mod Sound
 pub mod Alike
 pub mod Begun
-pub mod Touch
+pub mod AffectedJobs
 pub mod Numbers
 pub mod Room
-pub mod Hearing
+pub mod Receiving
 pub mod Opening
 pub mod Loads
 pub mod SettingChanges

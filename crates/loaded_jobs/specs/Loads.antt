@@ -21,7 +21,7 @@ use Rattle.loaded_jobs.specs.declared.loading.Ready.{Ready}
 use Rattle.loaded_jobs.specs.declared.trigger.Trigger.{Trigger}
 use Rattle.std.specs.Vec.{vec_len}
 use Rattle.history_model.specs.declared.TheConstants.{MAX_JOBS}
-use Rattle.loaded_jobs.specs.declared.seat.TheConstants.{ORDERS}
+use Rattle.loaded_jobs.specs.declared.job_slot.TheConstants.{ORDERS}
 
 -- the load of a definition that was read, with what the outside answers
 abbrev pub load_of : Described → (writes_setting force bind store : Bool) → Event
@@ -54,11 +54,11 @@ enabled_if true label = Some (record { label = label; disabled = false })
 -- the job that a load makes, under the number that is given out next
 pub record IsMade (at : Reading) (numbers : Slab (Unit {0})) (described : Described)
     (writes_setting : Bool) (ready : Ready) : Type 0 where
-  pub number : ready.seat.number ≡ numbers.vacant_key
-  pub same : ready.seat.def ≡ described
-  pub loaded : Keeps ready.seat.core.facts (Loaded (definition described) at ∷ [])
-  pub stays : ready.seat.has_gone ≡ false
-  pub fresh : ready.seat.core.decided ≡ 0
+  pub number : ready.job_slot.number ≡ numbers.vacant_key
+  pub same : ready.job_slot.def ≡ described
+  pub loaded : Keeps ready.job_slot.core.facts (Loaded (definition described) at ∷ [])
+  pub stays : ready.job_slot.has_gone ≡ false
+  pub fresh : ready.job_slot.core.decided ≡ 0
   pub setting : ready.setting ≡ enabled_if writes_setting described.label
 
 -- what was refused, if anything was
@@ -68,11 +68,11 @@ refused_with (Err refusal) = Some refusal
 
 -- of what was made ready, the definition that was read
 abbrev pub described_in : Ready → Described
-described_in ready = ready.seat.def
+described_in ready = ready.job_slot.def
 
 -- the number that the job is to have
 abbrev pub number_in : Ready → ℕ
-number_in ready = ready.seat.number
+number_in ready = ready.job_slot.number
 
 -- what touches the job
 abbrev pub triggers_in : Ready → List Trigger
@@ -92,10 +92,10 @@ pub record IsReady (table : Table) (ready : Ready) : Type 0 where
   pub places : table.reserved.held_jobs < table.reserved.jobs
   pub orders : ORDERS * (table.reserved.held_jobs + 1) ≤ table.reserved.orders
   pub absent : IsAbsent (described_in ready).label table.names
-  pub loaded : Keeps ready.seat.core.facts
+  pub loaded : Keeps ready.job_slot.core.facts
       (Loaded (definition (described_in ready)) table.reading ∷ [])
-  pub stays : ready.seat.has_gone ≡ false
-  pub fresh : ready.seat.core.decided ≡ 0
+  pub stays : ready.job_slot.has_gone ≡ false
+  pub fresh : ready.job_slot.core.decided ≡ 0
   pub room : table.reserved.held_settings < table.reserved.settings
   pub moments : table.numbers.vacant_key < table.reserved.moments
   pub marks : table.reserved.held_jobs + 1 ≤ table.reserved.marks
@@ -105,8 +105,7 @@ pub record IsReady (table : Table) (ready : Ready) : Type 0 where
   pub touches : triggers_in ready ≡ triggers_of (described_in ready)
   pub triggers : table.reserved.held_triggers + vec_len ready.triggers ≤ table.reserved.triggers
 
--- the table as the load leaves it: the machine's next state and its outcome, whose text names the
--- keys that are not acted on
+-- the table as the load leaves it: the machine's next state and its outcome, whose text names the keys that are not supported
 pub record IsLoaded (table : Table) (described : Described) (s : State) (e : Event) : Type 0 where
   pub kept : KeepsState table (step s e)
   pub outcome : outcome s e

@@ -4,7 +4,7 @@ use Rattle.place_set.specs.Places.{Places, has_place, place_room}
 use Rattle.timer_heap.specs.Timers.{Timers, moment_in}
 use Rattle.history_model.specs.declared.CivilMinute.{CivilMinute}
 use Rattle.loaded_jobs.specs.Index.{is_minute_among, place_in}
-use Rattle.loaded_jobs.specs.declared.seat.Seat.{Seat}
+use Rattle.loaded_jobs.specs.declared.job_slot.JobSlot.{JobSlot}
 use Rattle.std.specs.List.{list_any, filter}
 use Rattle.loaded_jobs.specs.Triggers.{has_rank, is_placed_at}
 use Rattle.loaded_jobs.specs.declared.trigger.Listed.{Listed}
@@ -29,10 +29,10 @@ IsReachedAt up timers places place =
     × (moment_in timers number ≡ Some moment) × (moment ≤ up)
 
 -- the place is that of a job with a calendar entry whose minute is among these
-abbrev pub IsMinuteAt : List Seat → List CivilMinute → ℕ → Type 0
+abbrev pub IsMinuteAt : List JobSlot → List CivilMinute → ℕ → Type 0
 IsMinuteAt es minutes place =
-    (seat : Seat) × (slice_get es place ≡ Some seat)
-    × (is_minute_among seat.def.calendar minutes ≡ true)
+    (job_slot : JobSlot) × (slice_get es place ≡ Some job_slot)
+    × (is_minute_among job_slot.def.calendar minutes ≡ true)
 
 -- each listed job has a place, and a place has room for its mark
 abbrev pub HaveMarks : List Listed → List ℕ → Places → Type 0
@@ -40,7 +40,7 @@ HaveMarks listed places ready =
     (k : ℕ) (one : Listed) → slice_get listed k ≡ Some one → (one.number < length places)
     × (place_in places one.number < place_room ready)
 
--- a listed job with this rank stands at the place
+-- a listed job with this rank is at the place
 abbrev pub stands_at : List Listed → List ℕ → List ℕ → ℕ → Bool
 stands_at listed places rank place =
     list_any (is_placed_at places place) (filter (has_rank rank) listed)

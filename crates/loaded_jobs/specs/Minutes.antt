@@ -1,4 +1,4 @@
--- The civil minutes that a reading crosses.
+-- The civil minutes that a clock reading crosses.
 use Rattle.std.specs.Prelude.{◌≡◌, Bool, true, List, map}
 use Rattle.std.specs.List.{list_any}
 use Rattle.history_model.specs.declared.Reading.{Reading}
@@ -16,7 +16,7 @@ has_calendars rows = list_any (λ row. is_some_entry row.described.calendar) row
 abbrev pub some_calendar : List Name → Bool
 some_calendar names = list_any (λ name. is_some_entry name.described.calendar) names
 
--- all that the reading crosses in the table's zone, if some loaded job has calendar entries
+-- all that the clock reading crosses in the table's zone, if some loaded job has calendar entries
 abbrev pub AreMinutes : Table → Reading → List CivilMinute → Type 0
 AreMinutes table at minutes =
     has_calendars table.rows ≡ true →

@@ -12,15 +12,15 @@ use Rattle.history_model.specs.Definitions.{definition}
 use Rattle.loaded_jobs.specs.Tables.{Row, Table, label_of}
 
 -- one of the texts comes after the given one, and none of them between the two
-pub record IsNearest (sought : List ℕ) (texts : List (List ℕ)) (found : List ℕ) : Type 0 where
+pub record IsNearest (query : List ℕ) (texts : List (List ℕ)) (found : List ℕ) : Type 0 where
   pub among : list_any (is_same found) texts ≡ true
-  pub after : is_before sought found ≡ true
-  pub nearest : list_any (λ other. is_before sought other && is_before other found) texts ≡ false
+  pub after : is_before query found ≡ true
+  pub nearest : list_any (λ other. is_before query other && is_before other found) texts ≡ false
 
 -- this is the nearest of the texts, or none of them comes after the given one
 abbrev pub IsNearestOf : List ℕ → List (List ℕ) → Option (List ℕ) → Type 0
-IsNearestOf sought texts None = list_any (is_before sought) texts ≡ false
-IsNearestOf sought texts (Some found) = IsNearest sought texts found
+IsNearestOf query texts None = list_any (is_before query) texts ≡ false
+IsNearestOf query texts (Some found) = IsNearest query texts found
 
 -- ---- paths
 
@@ -54,7 +54,7 @@ run_in (Some past) = option_map (λ c. c.run) (child past)
 -- the label is the nearest one with a child, the number stands for it, and the run is that of its
 -- child; or there is none
 abbrev pub IsNextChild : Table → List ℕ → State → Option (Bor Label × ℕ × ℕ) → Type 0
-IsNextChild table sought s None = list_any (is_before sought) (with_child s.jobs) ≡ false
-IsNextChild table sought s (Some found) =
-    IsNearest sought (with_child s.jobs) found.0.now × (label_of table.names found.1 ≡ found.0.now)
+IsNextChild table query s None = list_any (is_before query) (with_child s.jobs) ≡ false
+IsNextChild table query s (Some found) =
+    IsNearest query (with_child s.jobs) found.0.now × (label_of table.names found.1 ≡ found.0.now)
     × (run_in (past_of s found.0.now) ≡ Some found.2)

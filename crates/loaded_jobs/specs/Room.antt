@@ -20,8 +20,7 @@ abbrev pub held_after : Option Setting → List Setting → ℕ
 held_after None settings = length settings
 held_after (Some setting) settings = held_with setting.label settings
 
--- no memory was taken: there is room for as many jobs, orders, settings, numbers, moments, marks,
--- places and triggers as before
+-- no memory was taken: the room for jobs, orders, settings, numbers, moments, marks, places and triggers is as before
 pub record HasSameRoom (old new : Table) : Type 0 where
   pub jobs : new.reserved.jobs ≡ old.reserved.jobs
   pub orders : new.reserved.orders ≡ old.reserved.orders

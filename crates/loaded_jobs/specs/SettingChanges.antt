@@ -3,7 +3,7 @@ use Rattle.std.specs.Prelude.{◌≡◌, ◌<◌, Bool, true, false, [], None, i
 use Rattle.history_model.specs.Labels.{Label}
 use Rattle.history_model.specs.Machine.{State, Event, UnloadJob, Set}
 use Rattle.history_model.specs.Acceptance.{refusal_in}
-use Rattle.history_model.specs.Step.{outcome, step, heard_one}
+use Rattle.history_model.specs.Step.{outcome, step, received_one}
 use Rattle.history_model.specs.declared.Ask.TheVariants.{Unload}
 use Rattle.history_model.specs.Items.{Asked}
 use Rattle.loaded_jobs.specs.declared.settings_change.NewSetting.{NewSetting}
@@ -33,5 +33,5 @@ Changes old ready new = (s : State) (store : Bool) → KeepsState old s →
 
 -- the state once the job with the label heard its unload, if that is wanted
 abbrev pub withdrawn : Label → Bool → State → State
-withdrawn label true s = record s { jobs = heard_one label (Asked Unload) s.jobs }
+withdrawn label true s = record s { jobs = received_one label (Asked Unload) s.jobs }
 withdrawn label false s = s

@@ -6,7 +6,7 @@ use Rattle.history_model.specs.declared.TheConstants.{MAX_JOBS, MAX_UP, MAX_WALL
 use Rattle.std.specs.List.{list_all}
 use Rattle.history_model.specs.MachineLaws.{AreInOrder}
 use Rattle.loaded_jobs.specs.Tables.{Table, Name, IsOnce, labels_in, definition_of_number, is_known}
-use Rattle.loaded_jobs.specs.Seats.{name, rows, gone}
+use Rattle.loaded_jobs.specs.JobSlots.{name, rows, gone}
 use Rattle.loaded_jobs.specs.Leaving.{StayBut}
 use Rattle.loaded_jobs.specs.Index.{IsNamed, IsIndexed}
 use Rattle.loaded_jobs.specs.Minutes.{some_calendar}
@@ -14,9 +14,9 @@ use Rattle.loaded_jobs.specs.Periods.{HavePeriods}
 use Rattle.loaded_jobs.specs.Triggers.{AreListed}
 use Rattle.place_set.specs.Places.{place_room}
 use Rattle.timer_heap.specs.Timers.{room as room_of}
-use Rattle.loaded_jobs.specs.declared.seat.Seat.{Seat}
+use Rattle.loaded_jobs.specs.declared.job_slot.JobSlot.{JobSlot}
 use Rattle.loaded_jobs.specs.declared.jobs.Jobs.{Jobs}
-use Rattle.loaded_jobs.specs.declared.seat.TheConstants.{ORDERS}
+use Rattle.loaded_jobs.specs.declared.job_slot.TheConstants.{ORDERS}
 
 -- the table as a caller sees it
 abbrev pub seen_table : Jobs → Table
@@ -25,15 +25,15 @@ seen_table t = record {
   zone = t.zone;
   settings = t.settings.items;
   is_shutting_down = t.is_shutting_down;
-  rows = rows t.seats.items;
-  gone = gone t.seats.items;
+  rows = rows t.job_slots.items;
+  gone = gone t.job_slots.items;
   orders = t.orders.items;
   visited = t.visited;
-  names = map name t.seats.items;
+  names = map name t.job_slots.items;
   numbers = t.numbers;
   reserved = record {
-    held_jobs = vec_len t.seats;
-    jobs = vec_capacity t.seats;
+    held_jobs = vec_len t.job_slots;
+    jobs = vec_capacity t.job_slots;
     orders = vec_capacity t.orders;
     held_settings = vec_len t.settings;
     settings = vec_capacity t.settings;
@@ -45,12 +45,12 @@ seen_table t = record {
   };
 }
 
--- each seat's number is given out
-abbrev pub AreHeld : Slab (Unit {0}) → List Seat → Type 0
+-- each slot's number is given out
+abbrev pub AreHeld : Slab (Unit {0}) → List JobSlot → Type 0
 AreHeld numbers [] = Unit {0}
 AreHeld numbers (e ∷ es) = (get numbers e.number ≡ Some tt) × AreHeld numbers es
 
--- each number that stands for no seat is free
+-- each number that stands for no slot is free
 abbrev pub AreFree : Slab (Unit {0}) → List Name → Type 0
 AreFree numbers names =
     (number : ℕ) → definition_of_number names number ≡ None → get numbers number ≡ None
@@ -58,20 +58,20 @@ AreFree numbers names =
 pub record IsSound (t : Jobs) : Type 0 where
   pub in_range : t.reading.up ≤ MAX_UP
   pub wall : t.reading.wall ≤ MAX_WALL
-  pub once : IsOnce (map name t.seats.items)
-  pub held : AreHeld t.numbers t.seats.items
-  pub free : AreFree t.numbers (map name t.seats.items)
-  pub few : vec_len t.seats ≤ MAX_JOBS
-  pub known : list_all (is_known (map name t.seats.items)) t.orders.items ≡ true
-  pub room : ORDERS * vec_len t.seats ≤ vec_capacity t.orders
-  pub named : IsNamed t.index (map name t.seats.items)
-  pub periods : HavePeriods (map name t.seats.items)
-  pub calendars : t.has_calendars ≡ some_calendar (map name t.seats.items)
-  pub listed : AreListed t.triggers.items (map name t.seats.items)
-  pub order : AreInOrder (labels_in (map name t.seats.items))
+  pub once : IsOnce (map name t.job_slots.items)
+  pub held : AreHeld t.numbers t.job_slots.items
+  pub free : AreFree t.numbers (map name t.job_slots.items)
+  pub few : vec_len t.job_slots ≤ MAX_JOBS
+  pub known : list_all (is_known (map name t.job_slots.items)) t.orders.items ≡ true
+  pub room : ORDERS * vec_len t.job_slots ≤ vec_capacity t.orders
+  pub named : IsNamed t.index (map name t.job_slots.items)
+  pub periods : HavePeriods (map name t.job_slots.items)
+  pub calendars : t.has_calendars ≡ some_calendar (map name t.job_slots.items)
+  pub listed : AreListed t.triggers.items (map name t.job_slots.items)
+  pub order : AreInOrder (labels_in (map name t.job_slots.items))
 
 -- between events the index is right too, and what says who may have gone is right
 pub record IsWhole (t : Jobs) : Type 0 where
   pub sound : IsSound t
   pub indexed : IsIndexed t
-  pub stay : StayBut t.gone t.seats.items
+  pub stay : StayBut t.gone t.job_slots.items

@@ -9,12 +9,12 @@ use Rattle.calendar_due.specs.ZoneRules.{minute_at}
 use Rattle.loaded_jobs.specs.Tables.{Table}
 use Rattle.loaded_jobs.specs.StandsFor.{KeepsJobs, KeepsSettings, KeepsState, acts_in}
 
--- an event that is no question has no text
+-- an event that is not a question has no text
 abbrev pub plain_outcome : Result (Unit {0}) Refusal → Table → Outcome
 plain_outcome (Ok done) table = record { refusal = None; orders = acts_in table; text = [] }
 plain_outcome (Err refusal) table = refused refusal
 
--- the answer is the machine's, for each state that the table stood for
+-- the answer is the machine's, for each state that the table represented
 abbrev pub IsOutcome : Event → Table → Result (Unit {0}) Refusal → Table → Type 0
 IsOutcome e old result new = (s : State) → KeepsState old s → outcome s e ≡ plain_outcome result new
 
@@ -22,7 +22,7 @@ IsOutcome e old result new = (s : State) → KeepsState old s → outcome s e �
 abbrev pub IsNextTable : Event → Table → Table → Type 0
 IsNextTable e old new = (s : State) → KeepsState old s → KeepsState new (step s e)
 
--- the table stands for the states that it stood for
+-- the table represents the states that it represented
 abbrev pub IsSameFor : Table → Table → Type 0
 IsSameFor old new = (s : State) → KeepsState old s → KeepsState new s
 
@@ -41,7 +41,7 @@ UnlessMemory (Ok a) P = P
 UnlessMemory (Err NoMemory) P = Unit {0}
 UnlessMemory (Err refusal) P = P
 
--- unless memory ran out, which leaves the table standing for the states that it stood for
+-- unless memory ran out, after which the table represents the states that it represented
 abbrev pub IsNextTableUnless : {A : Type 0} → Result A Refusal → Event → Table → Table → Type 0
 IsNextTableUnless (Ok a) e old new = IsNextTable e old new
 IsNextTableUnless (Err NoMemory) e old new = IsSameFor old new

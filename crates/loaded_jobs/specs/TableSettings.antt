@@ -1,4 +1,4 @@
--- How the settings stand: in byte order of labels, each label once.
+-- The order of the settings: by bytes of labels, each label once.
 use Rattle.std.specs.Prelude.{◌≡◌, ℕ, ◌<◌, ◌≤◌, true, List, map, length, Some, slice_get}
 use Rattle.history_model.specs.declared.event.Setting.{Setting}
 use Rattle.history_model.specs.Labels.{Label, is_before}
@@ -8,7 +8,7 @@ use Rattle.history_model.specs.MachineLaws.{AreInOrder}
 abbrev pub AreSet : List Setting → Type 0
 AreSet settings = AreInOrder (map (λ setting. setting.label) settings)
 
--- the place that a new setting of the label takes: behind those before it, and before the others
+-- the place that a new setting of the label takes: after those before it, and before the others
 pub record IsPlaceFor (label : Label) (settings : List Setting) (place : ℕ) : Type 0 where
   pub bound : place ≤ length settings
   pub before : (k : ℕ) (setting : Setting) → slice_get settings k ≡ Some setting → k < place →

@@ -10,14 +10,14 @@ use Rattle.history_model.specs.Runs.{is_gone}
 use Rattle.history_model.specs.Due.{due}
 use Rattle.history_model.specs.FactsOfPast.{Keeps, ordered}
 use Rattle.history_model.specs.Machine.{Job}
-use Rattle.history_model.specs.Step.{acts_of, stays, heard}
+use Rattle.history_model.specs.Step.{acts_of, stays, received}
 use Rattle.history_model.specs.Described.{Described}
 use Rattle.loaded_jobs.specs.Tables.{Row}
 use Rattle.loaded_jobs.specs.StandsFor.{KeepsJobs, IsAtRest, numbered_orders, numbered_all}
 use Rattle.loaded_jobs.specs.Counts.{next_count}
-use Rattle.loaded_jobs.specs.Seats.{name}
-use Rattle.loaded_jobs.specs.Hearing.{followed, refusal_if, IsHeard, AreFor}
-use Rattle.loaded_jobs.specs.declared.seat.Seat.{Seat}
+use Rattle.loaded_jobs.specs.JobSlots.{name}
+use Rattle.loaded_jobs.specs.Receiving.{followed, refusal_if, IsReceived, AreFor}
+use Rattle.loaded_jobs.specs.declared.job_slot.JobSlot.{JobSlot}
 
 -- the place has no mark
 abbrev pub is_spared : Places → ℕ → Bool
@@ -27,8 +27,8 @@ is_spared ready place = not (has_place ready place)
 abbrev pub is_other : ℕ → ℕ → Bool
 is_other visited place = not (visited == place)
 
--- a seat that took in the item, if there is one, and then gave its order
-pub record IsVisit (before at : Reading) (item : Option Item) (e new : Seat)
+-- a slot that took in the item, if there is one, and then gave its order
+pub record IsVisit (before at : Reading) (item : Option Item) (e new : JobSlot)
     (earlier later : List Order) : Type 0 where
   pub orders : (past : History) → Keeps e.core.facts past → before ≡ now past →
       refusal_if item past ≡ None → at ≡ now (followed item past) →
@@ -43,12 +43,12 @@ pub record IsVisit (before at : Reading) (item : Option Item) (e new : Seat)
   pub name : name new ≡ name e
 
 -- from this place on: the jobs that are passed by have their item though they did not hear it
-abbrev pub AreSpared : (ℕ → Bool) → Reading → (Described → Option Item) → ℕ → List Seat →
+abbrev pub AreSpared : (ℕ → Bool) → Reading → (Described → Option Item) → ℕ → List JobSlot →
     Type 0
-AreSpared is_passed before hears place [] = Unit {0}
-AreSpared is_passed before hears place (e ∷ es) =
-    (is_passed place ≡ true → IsHeard before (hears e.def) e e)
-    × AreSpared is_passed before hears (suc place) es
+AreSpared is_passed before receives place [] = Unit {0}
+AreSpared is_passed before receives place (e ∷ es) =
+    (is_passed place ≡ true → IsReceived before (receives e.def) e e)
+    × AreSpared is_passed before receives (suc place) es
 
 -- from this place on: the jobs that are passed by rest
 abbrev pub AreAtRest : (ℕ → Bool) → ℕ → List Job → Type 0
@@ -56,21 +56,21 @@ AreAtRest is_passed place [] = Unit {0}
 AreAtRest is_passed place (job ∷ jobs) =
     (is_passed place ≡ true → IsAtRest job) × AreAtRest is_passed (suc place) jobs
 
--- the rows that were passed stand for jobs at the new reading, those to come for jobs that still
--- lack their items, and what is still to do leads where the whole leads
-pub record IsOnWay (before at : Reading) (hears : Described → Option Item)
+-- the rows that were passed represent jobs at the new clock reading, those to come represent jobs that still lack their items.
+-- What is still to do leads where the whole leads
+pub record IsOnWay (before at : Reading) (receives : Described → Option Item)
     (item : Job → Option Item) (is_passed : ℕ → Bool) (place : ℕ) (done todo : List Row) (earlier all : List Order) (after : List Job) : Type 0 where
   pub past : List Job
   pub rest : List Job
   pub kept : KeepsJobs at done past
   pub waits : KeepsJobs before todo rest
-  pub for : AreFor hears item todo rest
-  pub rests : AreAtRest is_passed place (heard item rest)
-  pub leads : past ++ filter_map stays (heard item rest) ≡ after
-  pub gives : earlier ++ numbered_all todo (heard item rest) ≡ all
+  pub for : AreFor receives item todo rest
+  pub rests : AreAtRest is_passed place (received item rest)
+  pub leads : past ++ filter_map stays (received item rest) ≡ after
+  pub gives : earlier ++ numbered_all todo (received item rest) ≡ all
 
 -- each job that is not passed by was visited once more if it stays, and each other one is as it was
-abbrev pub AreVisitedOnce : (ℕ → Bool) → ℕ → List Seat → List Seat → Type 0
+abbrev pub AreVisitedOnce : (ℕ → Bool) → ℕ → List JobSlot → List JobSlot → Type 0
 AreVisitedOnce is_passed place [] [] = Unit {0}
 AreVisitedOnce is_passed place [] (new ∷ rest) = ⊥
 AreVisitedOnce is_passed place (e ∷ es) [] = ⊥
@@ -81,7 +81,7 @@ AreVisitedOnce is_passed place (e ∷ es) (new ∷ rest) =
     × (is_passed place ≡ true → new ≡ e) × AreVisitedOnce is_passed (suc place) es rest
 
 -- how many of them there are
-abbrev pub count_visited : (ℕ → Bool) → ℕ → List Seat → ℕ
+abbrev pub count_visited : (ℕ → Bool) → ℕ → List JobSlot → ℕ
 count_visited is_passed place [] = 0
 count_visited is_passed place (e ∷ es) =
     cond (e.has_gone || is_passed place) (count_visited is_passed (suc place) es)

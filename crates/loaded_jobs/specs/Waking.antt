@@ -9,8 +9,7 @@ use Rattle.history_model.specs.Reasons.{spawns_from, path_that_holds}
 use Rattle.job_core.specs.JobMoments.{AreMoments}
 use Rattle.job_core.specs.declared.job.moments.Moments.{Moments}
 
--- the moment from which a reading makes its spawn due, if nothing but readings happens and no
--- calendar entry fires
+-- the moment from which a clock reading makes its spawn due, if only the clock goes on and no calendar entry fires
 abbrev pub spawning : Option History → Option ℕ
 spawning None = None
 spawning (Some past) = spawns_from past

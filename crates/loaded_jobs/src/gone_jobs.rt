@@ -3,22 +3,22 @@
 ghost use Rattle.std.specs.Prelude.{◌≡◌, [], true, cond};
 ghost use Rattle.std.specs.List.{filter, list_any};
 ghost use Rattle.std.specs.Vec.{vec_capacity};
-ghost use Rattle.loaded_jobs.specs.Seats.{seat_stays};
+ghost use Rattle.loaded_jobs.specs.JobSlots.{job_slot_stays};
 ghost use Rattle.loaded_jobs.specs.Room.{HasSameRoom};
 ghost use Rattle.loaded_jobs.specs.Triggers.{triggers_of};
 ghost use Rattle.history_model.specs.News.{is_some_entry};
 ghost use Rattle.loaded_jobs.specs.Leaving.{AllStayBut, StayBut, IsWithout, one_more_gone, is_of_other};
 
-use crate::all_seats::{has_calendars, release, tidy};
+use crate::all_job_slots::{has_calendars, release, tidy};
 use crate::index::{close_up, place_all};
+use crate::job_slot::JobSlot;
 use crate::jobs::Jobs;
-use crate::seat::Seat;
 use crate::trigger::Listed;
 use crate::triggers::forget;
 use history_model::JobNo;
 use history_model::definition::Def;
 
-/// Which jobs may have gone at the last event.
+/// Which jobs the last event may have removed.
 #[derive(Clone, Copy)]
 pub enum Gone {
     Nobody,
@@ -49,8 +49,8 @@ impl Jobs {
         requires sound { IsSound self.old }
         requires indexed { IsIndexed self.old }
         requires empty { self.old.orders.items ≡ [] }
-        requires left { StayBut self.old.gone self.old.seats.items }
-        ensures seats { self.new.seats.items ≡ filter seat_stays self.old.seats.items }
+        requires left { StayBut self.old.gone self.old.job_slots.items }
+        ensures job_slots { self.new.job_slots.items ≡ filter job_slot_stays self.old.job_slots.items }
         ensures sound { IsSound self.new }
         ensures indexed { IsIndexed self.new }
         ensures orders { self.new.orders ≡ self.old.orders }
@@ -64,49 +64,49 @@ impl Jobs {
         }
     }
 
-    /// Drops the jobs that are gone, however many.
+    /// Drops the jobs that were removed, however many.
     fn drop_gone(&mut self)
         requires sound { IsSound self.old }
         requires indexed { IsIndexed self.old }
         requires empty { self.old.orders.items ≡ [] }
-        ensures seats { self.new.seats.items ≡ filter seat_stays self.old.seats.items }
+        ensures job_slots { self.new.job_slots.items ≡ filter job_slot_stays self.old.job_slots.items }
         ensures sound { IsSound self.new }
         ensures indexed { IsIndexed self.new }
         ensures orders { self.new.orders ≡ self.old.orders }
         ensures alike { IsAlike self.old self.new }
         ensures room { HasSameRoom (seen_table self.old) (seen_table self.new) }
     {
-        release(&self.seats, &mut self.numbers);
-        forget(&mut self.triggers, &self.index.places, &self.seats);
-        tidy(&mut self.seats);
-        place_all(&mut self.index.places, &self.seats);
-        self.has_calendars = has_calendars(&self.seats);
+        release(&self.job_slots, &mut self.numbers);
+        forget(&mut self.triggers, &self.index.places, &self.job_slots);
+        tidy(&mut self.job_slots);
+        place_all(&mut self.index.places, &self.job_slots);
+        self.has_calendars = has_calendars(&self.job_slots);
     }
 
-    /// Drops the job at this place, if it is gone: no other is. Only the places behind it are given anew.
+    /// Drops the job at this place, if it was removed: no other was. Only the places after it are changed.
     fn drop_one(&mut self, place: usize)
         requires sound { IsSound self.old }
         requires indexed { IsIndexed self.old }
         requires empty { self.old.orders.items ≡ [] }
-        requires others { AllStayBut place self.old.seats.items }
-        ensures seats { self.new.seats.items ≡ filter seat_stays self.old.seats.items }
+        requires others { AllStayBut place self.old.job_slots.items }
+        ensures job_slots { self.new.job_slots.items ≡ filter job_slot_stays self.old.job_slots.items }
         ensures sound { IsSound self.new }
         ensures indexed { IsIndexed self.new }
         ensures orders { self.new.orders ≡ self.old.orders }
         ensures alike { IsAlike self.old self.new }
         ensures room { HasSameRoom (seen_table self.old) (seen_table self.new) }
     {
-        if place >= self.seats.len() {
+        if place >= self.job_slots.len() {
             return;
         }
-        if !self.seats[place].has_gone {
+        if !self.job_slots[place].has_gone {
             return;
         }
-        let seat = self.seats.remove(place);
-        let _held = self.numbers.try_remove(seat.number as usize);
-        close_up(&mut self.index.places, &self.seats, place);
-        forget_one(&mut self.triggers, &seat);
-        self.has_calendars = has_some_calendar(self.has_calendars, &seat, &self.seats);
+        let job_slot = self.job_slots.remove(place);
+        let _held = self.numbers.try_remove(job_slot.number as usize);
+        close_up(&mut self.index.places, &self.job_slots, place);
+        forget_one(&mut self.triggers, &job_slot);
+        self.has_calendars = has_some_calendar(self.has_calendars, &job_slot, &self.job_slots);
     }
 }
 
@@ -124,7 +124,7 @@ fn is_untouched(def: &Def) -> bool
 }
 
 /// Drops the triggers of the job that left. If it has none, it looks at no trigger.
-fn forget_one(listed: &mut Vec<Listed>, left: &Seat)
+fn forget_one(listed: &mut Vec<Listed>, left: &JobSlot)
     ensures items { IsWithout left.now listed.old.items listed.new.items }
     ensures capacity { vec_capacity listed.new ≡ vec_capacity listed.old }
 {
@@ -143,12 +143,12 @@ fn drop_number(listed: &mut Vec<Listed>, number: JobNo)
 }
 
 /// Whether some job has calendar entries without the one that left. If that had none, it looks at no other.
-fn has_some_calendar(before: bool, left: &Seat, seats: &[Seat]) -> bool
+fn has_some_calendar(before: bool, left: &JobSlot, job_slots: &[JobSlot]) -> bool
     ensures { result ≡ cond (is_some_entry left.now.def.calendar)
-        (list_any (λ e. is_some_entry e.def.calendar) seats.now) before }
+        (list_any (λ e. is_some_entry e.def.calendar) job_slots.now) before }
 {
     if left.def.calendar().is_empty() {
         return before;
     }
-    has_calendars(seats)
+    has_calendars(job_slots)
 }

@@ -1,64 +1,64 @@
-//! The index beside the seats: the place of each job, and room for one more.
+//! The index of the slots: the place of each job, and room for one more.
 
 ghost use Rattle.std.specs.Prelude.{◌≡◌, ◌≤◌, ◌<◌, ◌+◌, ℕ, OnOk, Some, is_some, length, map, slice_get, true};
 ghost use Rattle.place_set.specs.Places.{place_room};
 ghost use Rattle.timer_heap.specs.Timers.{room};
 ghost use Rattle.history_model.specs.declared.TheConstants.{MAX_JOBS};
 ghost use Rattle.loaded_jobs.specs.Tables.{IsOnce, definition_of_number};
-ghost use Rattle.loaded_jobs.specs.Seats.{name};
+ghost use Rattle.loaded_jobs.specs.JobSlots.{name};
 ghost use Rattle.loaded_jobs.specs.Index.{ArePlaced, IsIndexOf, IsNamed, lowered, place_in, raised};
-ghost use Rattle.loaded_jobs.specs.declared.seat.Seat.{Seat};
+ghost use Rattle.loaded_jobs.specs.declared.job_slot.JobSlot.{JobSlot};
 
+use crate::job_slot::JobSlot;
 use crate::jobs::Index;
-use crate::seat::Seat;
 use history_model::{JobNo, MAX_JOBS};
 use std::alloc::{AllocError, Global};
 
-/// Gives each seat's number its place. It takes no memory.
-pub fn place_all(places: &mut [u32], seats: &[Seat])
-    requires once { IsOnce (map name seats.now) }
-    requires few { length seats.now ≤ MAX_JOBS }
+/// Gives each slot's number its place. It takes no memory.
+pub fn place_all(places: &mut [u32], job_slots: &[JobSlot])
+    requires once { IsOnce (map name job_slots.now) }
+    requires few { length job_slots.now ≤ MAX_JOBS }
     requires fits { (number : ℕ) →
-        is_some (definition_of_number (map name seats.now) number) ≡ true →
+        is_some (definition_of_number (map name job_slots.now) number) ≡ true →
         number < length places.old }
-    ensures placed { ArePlaced places.new seats.now }
+    ensures placed { ArePlaced places.new job_slots.now }
     ensures length { length places.new ≡ length places.old }
 {
-    place_from(places, seats, 0);
+    place_from(places, job_slots, 0);
 }
 
-/// Gives each seat's number its place, from a place on: those before it have theirs. It takes no memory.
-pub fn place_from(places: &mut [u32], seats: &[Seat], from: usize)
-    requires once { IsOnce (map name seats.now) }
-    requires few { length seats.now ≤ MAX_JOBS }
+/// Gives each slot's number its place, from a place on: those before it have theirs. It takes no memory.
+pub fn place_from(places: &mut [u32], job_slots: &[JobSlot], from: usize)
+    requires once { IsOnce (map name job_slots.now) }
+    requires few { length job_slots.now ≤ MAX_JOBS }
     requires fits { (number : ℕ) →
-        is_some (definition_of_number (map name seats.now) number) ≡ true →
+        is_some (definition_of_number (map name job_slots.now) number) ≡ true →
         number < length places.old }
-    requires inside { from ≤ length seats.now }
-    requires before { (k : ℕ) (e : Seat) → slice_get seats.now k ≡ Some e → k < from →
+    requires inside { from ≤ length job_slots.now }
+    requires before { (k : ℕ) (e : JobSlot) → slice_get job_slots.now k ≡ Some e → k < from →
         place_in places.old e.number ≡ k }
-    ensures placed { ArePlaced places.new seats.now }
+    ensures placed { ArePlaced places.new job_slots.now }
     ensures length { length places.new ≡ length places.old }
 {
     let mut place = from;
-    while place < seats.len() {
-        let seat = &seats[place];
-        places[seat.number as usize] = place as u32;
+    while place < job_slots.len() {
+        let job_slot = &job_slots[place];
+        places[job_slot.number as usize] = place as u32;
         place += 1;
     }
 }
 
-/// Moves the place of each seat behind the one that left one to the front. It looks at no seat, and takes no memory.
-pub fn close_up(places: &mut [u32], seats: &[Seat], place: usize)
-    requires few { length seats.now ≤ MAX_JOBS }
-    requires inside { place ≤ length seats.now }
-    requires fits { (k : ℕ) (e : Seat) → slice_get seats.now k ≡ Some e →
+/// Moves the place of each slot after the one that left one to the front. It looks at no slot, and takes no memory.
+pub fn close_up(places: &mut [u32], job_slots: &[JobSlot], place: usize)
+    requires few { length job_slots.now ≤ MAX_JOBS }
+    requires inside { place ≤ length job_slots.now }
+    requires fits { (k : ℕ) (e : JobSlot) → slice_get job_slots.now k ≡ Some e →
         e.number < length places.old }
-    requires before { (k : ℕ) (e : Seat) → slice_get seats.now k ≡ Some e → k < place →
+    requires before { (k : ℕ) (e : JobSlot) → slice_get job_slots.now k ≡ Some e → k < place →
         place_in places.old e.number ≡ k }
-    requires behind { (k : ℕ) (e : Seat) → slice_get seats.now k ≡ Some e → place ≤ k →
+    requires behind { (k : ℕ) (e : JobSlot) → slice_get job_slots.now k ≡ Some e → place ≤ k →
         place_in places.old e.number ≡ k + 1 }
-    ensures placed { ArePlaced places.new seats.now }
+    ensures placed { ArePlaced places.new job_slots.now }
     ensures length { length places.new ≡ length places.old }
 {
     lower_above(places, place as u32);
@@ -78,25 +78,25 @@ fn lower_above(places: &mut [u32], place: u32)
     }
 }
 
-/// Moves the place of each seat behind this one, which is new, one to the back, and gives the new one its place. It looks at no other
-/// seat, and takes no memory.
-pub fn make_way(places: &mut [u32], seats: &[Seat], place: usize)
-    requires once { IsOnce (map name seats.now) }
-    requires few { length seats.now ≤ MAX_JOBS }
-    requires inside { place < length seats.now }
+/// Moves the place of each slot after this one, which is new, one to the back, and gives the new one its place. It looks at no
+/// other slot, and takes no memory.
+pub fn make_way(places: &mut [u32], job_slots: &[JobSlot], place: usize)
+    requires once { IsOnce (map name job_slots.now) }
+    requires few { length job_slots.now ≤ MAX_JOBS }
+    requires inside { place < length job_slots.now }
     requires fits { (number : ℕ) →
-        is_some (definition_of_number (map name seats.now) number) ≡ true →
+        is_some (definition_of_number (map name job_slots.now) number) ≡ true →
         number < length places.old }
-    requires before { (k : ℕ) (e : Seat) → slice_get seats.now k ≡ Some e → k < place →
+    requires before { (k : ℕ) (e : JobSlot) → slice_get job_slots.now k ≡ Some e → k < place →
         place_in places.old e.number ≡ k }
-    requires behind { (k : ℕ) (e : Seat) → slice_get seats.now k ≡ Some e → place < k →
+    requires behind { (k : ℕ) (e : JobSlot) → slice_get job_slots.now k ≡ Some e → place < k →
         place_in places.old e.number + 1 ≡ k }
-    ensures placed { ArePlaced places.new seats.now }
+    ensures placed { ArePlaced places.new job_slots.now }
     ensures length { length places.new ≡ length places.old }
 {
     raise_from(places, place as u32);
-    let seat = &seats[place];
-    places[seat.number as usize] = place as u32;
+    let job_slot = &job_slots[place];
+    places[job_slot.number as usize] = place as u32;
 }
 
 /// Adds one to each place from this one on.
@@ -117,20 +117,20 @@ fn raise_from(places: &mut [u32], place: u32)
     }
 }
 
-/// Makes room for a job with this number beside the seats.
+/// Makes room in the index for a job with this number.
 pub fn grow(
     index: &mut Index,
     alloc: Global,
     number: JobNo,
-    seats: &[Seat],
+    job_slots: &[JobSlot],
 ) -> Result<(), AllocError>
-    requires once { IsOnce (map name seats.now) }
-    requires few { length seats.now ≤ MAX_JOBS }
-    requires named { IsNamed index.old (map name seats.now) }
+    requires once { IsOnce (map name job_slots.now) }
+    requires few { length job_slots.now ≤ MAX_JOBS }
+    requires named { IsNamed index.old (map name job_slots.now) }
     ensures indexed { (up : ℕ) →
-        IsIndexOf index.old up seats.now → IsIndexOf index.new up seats.now }
+        IsIndexOf index.old up job_slots.now → IsIndexOf index.new up job_slots.now }
     ensures moments { OnOk result (number < room index.new.timers) }
-    ensures marks { OnOk result (length seats.now + 1 ≤ place_room index.new.marked) }
+    ensures marks { OnOk result (length job_slots.now + 1 ≤ place_room index.new.marked) }
     ensures numbered { OnOk result (number < length index.new.places.items) }
 {
     let Some(above) = number.checked_add(1) else {
@@ -139,18 +139,19 @@ pub fn grow(
     let Ok(()) = index.timers.reserve(alloc, above) else {
         return Err(AllocError);
     };
-    let Ok(()) = index.marked.reserve(seats.len() as u32 + 1) else {
+    let Ok(()) = index.marked.reserve(job_slots.len() as u32 + 1) else {
         return Err(AllocError);
     };
     if index.places.len() > number as usize {
         return Ok(());
     }
     index.places = vec![in alloc; 0; widened(above as usize)]?;
-    place_all(&mut index.places, seats);
+    place_all(&mut index.places, job_slots);
     Ok(())
 }
 
-/// For how many places there is to be room if there have to be so many: for twice as many, but for no more than there are jobs at most.
+/// How many places to make room for if `count` are needed: twice that number, but not more than the greatest number of jobs. If
+/// `count` itself is more, then `count`.
 fn widened(count: usize) -> usize
     ensures { count ≤ result }
 {

@@ -6,12 +6,12 @@ ghost use Rattle.history_model.specs.Search.{first};
 ghost use Rattle.history_model.specs.Machine.{Job, is_of, past_in};
 ghost use Rattle.history_model.specs.Labels.{Label};
 ghost use Rattle.history_model.specs.Acceptance.{refusal_at};
-ghost use Rattle.history_model.specs.Step.{heard_one};
+ghost use Rattle.history_model.specs.Step.{received_one};
 ghost use Rattle.history_model.specs.JobItems.{item_of};
 ghost use Rattle.loaded_jobs.specs.StandsFor.{KeepsJobs};
 ghost use Rattle.loaded_jobs.specs.Numbers.{KeepsNames};
 ghost use Rattle.loaded_jobs.specs.Room.{HasSameRoom};
-ghost use Rattle.loaded_jobs.specs.Seats.{rows, name, has_label, AllStay};
+ghost use Rattle.loaded_jobs.specs.JobSlots.{rows, name, has_label, AllStay};
 ghost use Rattle.loaded_jobs.specs.Counts.{counts, Counts};
 ghost use Rattle.job_core.specs.Memory.{NeedsNoMemory};
 ghost use Rattle.loaded_jobs.specs.Loads.{refused_with};
@@ -19,13 +19,13 @@ ghost use Rattle.loaded_jobs.specs.Touched.{IsChangedAt, IsHandedAt};
 ghost use Rattle.loaded_jobs.specs.Telling.{IsTold};
 ghost use Rattle.loaded_jobs.specs.AskedJobs.{CanAsk, AsksReached};
 ghost use Rattle.loaded_jobs.specs.Begun.{IsBegun, HasBegun};
-ghost use Rattle.loaded_jobs.specs.Hearing.{Brings};
-ghost use Rattle.loaded_jobs.specs.Touch.{item_for, reaches, nothing_for, is_at};
+ghost use Rattle.loaded_jobs.specs.Receiving.{Brings};
+ghost use Rattle.loaded_jobs.specs.AffectedJobs.{item_for, reaches, nothing_for, is_at};
 ghost use Rattle.std.specs.Option.{ForSome};
 
 use crate::gone_jobs::Gone;
+use crate::job_slot::{AffectedJobs, JobSlot};
 use crate::marks::mark_touched;
-use crate::seat::{Seat, Touch};
 use crate::settings::Settings;
 use crate::trigger::Listed;
 use crate::visits::{visit_at, visit_ready};
@@ -42,12 +42,12 @@ pub struct Jobs {
     pub(crate) zone: Zone,
     pub(crate) settings: Settings,
     pub(crate) is_shutting_down: bool,
-    pub(crate) seats: Vec<Seat>,
+    pub(crate) job_slots: Vec<JobSlot>,
     pub(crate) numbers: Slab<()>,
     pub(crate) orders: Vec<Order>,
     pub(crate) visited: u32,
     pub(crate) index: Index,
-    /// Which jobs may have gone at the last event.
+    /// Which jobs the last event may have removed.
     pub(crate) gone: Gone,
     /// A job that is loaded, or that went at the last event, has calendar entries.
     pub(crate) has_calendars: bool,
@@ -55,7 +55,7 @@ pub struct Jobs {
     pub(crate) triggers: Vec<Listed>,
 }
 
-// for the proof: who lets it go calls this, in place of letting each part go
+// for the proof: the owner that drops it calls this, in place of a drop of each part
 impl Drop for Jobs {
     fn drop(self) {
         let Jobs {
@@ -63,7 +63,7 @@ impl Drop for Jobs {
             zone: _,
             settings: _,
             is_shutting_down: _,
-            seats: _,
+            job_slots: _,
             numbers: _,
             orders: _,
             visited: _,
@@ -78,7 +78,7 @@ impl Drop for Jobs {
 /// What finds the jobs that an event touches.
 #[derive(Drop)]
 pub struct Index {
-    /// The next moment of each job, by its number.
+    /// The next wake-up time of each job, by its number.
     pub(crate) timers: TimerHeap,
     /// The places that the present event marked; empty between events.
     pub(crate) marked: PlaceSet,
@@ -100,12 +100,12 @@ impl Jobs {
         self.gone = Gone::Nobody;
     }
 
-    /// Tells the job at this place what happened to it, and asks it alone. Refusals: NoSuchJob, if there is no place, and
+    /// Delivers to the job at this place what happened to it, and asks it alone. Refusals: NoSuchJob, if there is no place, and
     /// those of the job.
     pub fn tell(&mut self, found: Option<usize>, item: JobItem) -> Result<(), Refusal>
         requires begun { IsBegun self.old }
-        requires inside { ForSome found (λ place. place < length self.old.seats.items) }
-        ensures told { (label : Label) → found ≡ position (has_label label) self.old.seats.items →
+        requires inside { ForSome found (λ place. place < length self.old.job_slots.items) }
+        ensures told { (label : Label) → found ≡ position (has_label label) self.old.job_slots.items →
             IsTold label (item_of item) (seen_table self.old) result (seen_table self.new) }
         ensures counted { Counts result (seen_table self.old) (seen_table self.new) }
         ensures names { KeepsNames result (seen_table self.old) (seen_table self.new) }
@@ -122,60 +122,60 @@ impl Jobs {
         Ok(())
     }
 
-    /// Tells the job at this place what happened to it.
+    /// Delivers to the job at this place what happened to it.
     fn hand_at(&mut self, place: usize, item: JobItem) -> Result<(), Refusal>
         requires sound { IsSound self.old }
-        requires stay { AllStay self.old.seats.items }
-        requires inside { place < length self.old.seats.items }
+        requires stay { AllStay self.old.job_slots.items }
+        requires inside { place < length self.old.job_slots.items }
         ensures answer { (label : Label) (jobs : List Job) →
-            Some place ≡ position (has_label label) self.old.seats.items →
-            KeepsJobs self.old.reading (rows self.old.seats.items) jobs →
+            Some place ≡ position (has_label label) self.old.job_slots.items →
+            KeepsJobs self.old.reading (rows self.old.job_slots.items) jobs →
             refused_with result
             ≡ refusal_at (past_in (first (filter (is_of label) jobs))) (item_of item) }
         ensures place { (label : Label) →
-            Some place ≡ position (has_label label) self.old.seats.items →
-            IsHandedAt label place self.old.seats.items self.new.seats.items }
+            Some place ≡ position (has_label label) self.old.job_slots.items →
+            IsHandedAt label place self.old.job_slots.items self.new.job_slots.items }
         ensures kept { (label : Label) (jobs : List Job) →
-            Some place ≡ position (has_label label) self.old.seats.items →
-            KeepsJobs self.old.reading (rows self.old.seats.items) jobs →
+            Some place ≡ position (has_label label) self.old.job_slots.items →
+            KeepsJobs self.old.reading (rows self.old.job_slots.items) jobs →
             OnOk result
-            (KeepsJobs self.old.reading (rows self.new.seats.items)
-            (heard_one label (item_of item) jobs)) }
-        ensures rows { OnErr result (rows self.new.seats.items ≡ rows self.old.seats.items) }
-        ensures others { IsChangedAt place self.old.seats.items self.new.seats.items }
-        ensures names { map name self.new.seats.items ≡ map name self.old.seats.items }
-        ensures counts { counts (rows self.new.seats.items)
-            ≡ counts (rows self.old.seats.items) }
+            (KeepsJobs self.old.reading (rows self.new.job_slots.items)
+            (received_one label (item_of item) jobs)) }
+        ensures rows { OnErr result (rows self.new.job_slots.items ≡ rows self.old.job_slots.items) }
+        ensures others { IsChangedAt place self.old.job_slots.items self.new.job_slots.items }
+        ensures names { map name self.new.job_slots.items ≡ map name self.old.job_slots.items }
+        ensures counts { counts (rows self.new.job_slots.items)
+            ≡ counts (rows self.old.job_slots.items) }
         ensures memory { NeedsNoMemory result }
         ensures sound { IsSound self.new }
-        ensures stay { AllStay self.new.seats.items }
+        ensures stay { AllStay self.new.job_slots.items }
         ensures index { self.new.index ≡ self.old.index }
         ensures orders { self.new.orders ≡ self.old.orders }
         ensures alike { IsAlike self.old self.new }
         ensures room { HasSameRoom (seen_table self.old) (seen_table self.new) }
     {
-        let seat = &mut self.seats[place];
-        seat.core.event(JobEvent::Item(item), self.reading)
+        let job_slot = &mut self.job_slots[place];
+        job_slot.core.event(JobEvent::Item(item), self.reading)
     }
 
-    /// Tells the jobs that the touch reaches what it is for them, and asks them alone. The reading stays.
-    pub fn ask_touched(&mut self, touch: Touch<'_>)
-        requires can { CanAsk (reaches touch) self.old }
-        requires brings { Brings (item_for touch) self.old.reading self.old.reading }
-        ensures { AsksReached (item_for touch.entry) (reaches touch.entry) self.old self.new }
+    /// Delivers to the jobs that the touch reaches what it is for them, and asks them alone. The clock reading stays.
+    pub fn ask_touched(&mut self, affected: AffectedJobs<'_>)
+        requires can { CanAsk (reaches affected) self.old }
+        requires brings { Brings (item_for affected) self.old.reading self.old.reading }
+        ensures { AsksReached (item_for affected.entry) (reaches affected.entry) self.old self.new }
     {
         mark_touched(
-            &self.seats,
-            touch,
+            &self.job_slots,
+            affected,
             &self.triggers,
             &self.index.places,
             &mut self.index.marked,
         );
         let (visited, gone) = visit_ready(
-            &mut self.seats,
+            &mut self.job_slots,
             &mut self.index.marked,
             &mut self.index.timers,
-            touch,
+            affected,
             self.reading,
             self.reading,
             &mut self.orders,
@@ -184,14 +184,15 @@ impl Jobs {
         self.gone = gone;
     }
 
-    /// Asks the job at this place alone, which heard already what happened to it. No mark is set for it, and the reading stays.
+    /// Asks the job at this place alone, which received already what happened to it. No mark is set for it, and the clock reading
+    /// stays.
     pub fn ask_at(&mut self, place: usize)
         requires can { CanAsk (is_at place) self.old }
-        requires inside { place < length self.old.seats.items }
+        requires inside { place < length self.old.job_slots.items }
         ensures { AsksReached nothing_for (is_at place) self.old self.new }
     {
         let (asked, left) = visit_at(
-            &mut self.seats,
+            &mut self.job_slots,
             &mut self.index.timers,
             place,
             self.reading,

@@ -1,11 +1,12 @@
 //! The loaded jobs, with all that finds them and asks them: one step of all jobs for each event. The crate `job_table` has the calls.
 #![tactic(auto)]
 
-mod all_seats;
+mod all_job_slots;
 mod byte_order;
 mod events;
 mod gone_jobs;
 mod index;
+mod job_slot;
 mod jobs;
 mod loading;
 mod marks;
@@ -15,7 +16,6 @@ mod places;
 mod questions;
 mod reading;
 mod reasons;
-mod seat;
 mod setting_order;
 mod settings;
 mod settings_change;

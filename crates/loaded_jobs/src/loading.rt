@@ -4,7 +4,7 @@ ghost use Rattle.std.specs.Prelude.{◌≡◌, ◌≤◌, ◌<◌, ◌+◌, ◌*
 ghost use Rattle.history_model.specs.declared.TheConstants.{MAX_JOBS};
 ghost use Rattle.history_model.specs.Items.{Loaded};
 ghost use Rattle.history_model.specs.FactsOfPast.{Keeps};
-ghost use Rattle.loaded_jobs.specs.declared.seat.TheConstants.{ORDERS};
+ghost use Rattle.loaded_jobs.specs.declared.job_slot.TheConstants.{ORDERS};
 ghost use Rattle.std.specs.Vec.{vec_capacity, vec_len};
 ghost use Rattle.place_set.specs.Places.{place_room};
 ghost use Rattle.timer_heap.specs.Timers.{room};
@@ -25,12 +25,12 @@ ghost use Rattle.loaded_jobs.specs.declared.trigger.Listed.{Listed};
 ghost use Rattle.loaded_jobs.specs.declared.trigger.Trigger.{Trigger};
 ghost use Rattle.loaded_jobs.specs.Room.{HasSameRoom};
 ghost use Rattle.loaded_jobs.specs.Begun.{IsBegun};
-ghost use Rattle.loaded_jobs.specs.Seats.{name, place_for, seats_with};
+ghost use Rattle.loaded_jobs.specs.JobSlots.{name, place_for, job_slots_with};
 
 use crate::index::{grow, make_way};
+use crate::job_slot::{JobSlot, ORDERS};
 use crate::jobs::Jobs;
 use crate::places::{place_before, place_of};
-use crate::seat::{ORDERS, Seat};
 use crate::settings::{Settings, is_disabled, set_if};
 use crate::trigger::{Listed, Trigger, triggers_of};
 use crate::triggers::enlist;
@@ -43,7 +43,7 @@ use std::alloc::{AllocError, Global};
 /// A job that is about to be loaded, and its label's new setting.
 #[derive(Drop)]
 pub struct Ready {
-    pub seat: Seat,
+    pub job_slot: JobSlot,
     pub setting: Option<Setting>,
     /// What touches the job.
     pub triggers: Vec<Trigger>,
@@ -56,14 +56,14 @@ impl Ready {
     pub fn def(&self) -> &Def
         ensures { result.now ≡ described_in self.now }
     {
-        &self.seat.def
+        &self.job_slot.def
     }
 
     /// The number that the job is to have.
     pub fn job(&self) -> JobNo
         ensures { result ≡ number_in self.now }
     {
-        self.seat.number
+        self.job_slot.number
     }
 }
 
@@ -82,7 +82,7 @@ impl Jobs {
         requires sound { IsWhole self.old }
         ensures admitted { IfOk result (λ _.
             IsAdmitted (seen_table self.old) def writes_setting force) }
-        ensures def { IfOk result (λ ready. ready.seat.def ≡ def) }
+        ensures def { IfOk result (λ ready. ready.job_slot.def ≡ def) }
         ensures writes_setting { IfOk result (λ ready. is_some ready.setting ≡ writes_setting) }
         ensures ready { IfOk result (IsReady (seen_table self.new)) }
         ensures refused { IfErr result (λ refusal. Means refusal ((s : State) (bind store : Bool) →
@@ -109,8 +109,8 @@ impl Jobs {
         ensures answer { (s : State) (bind store : Bool) → KeepsState (seen_table self.now) s →
             refusal_in s (load_of def.now writes_setting force bind store)
             ≡ or_else (refused_with result) (refusal_outside def.now writes_setting bind store) }
-        ensures absent { OnOk result (IsAbsent def.now.label (map name self.now.seats.items)) }
-        ensures few { OnOk result (vec_len self.now.seats < MAX_JOBS) }
+        ensures absent { OnOk result (IsAbsent def.now.label (map name self.now.job_slots.items)) }
+        ensures few { OnOk result (vec_len self.now.job_slots < MAX_JOBS) }
     {
         if self.is_shutting_down {
             return Err(Refusal::ShuttingDown);
@@ -118,7 +118,7 @@ impl Jobs {
         if let Some(refusal) = self.refusal_there(def.label()) {
             return Err(refusal);
         }
-        if self.seats.len() >= MAX_JOBS {
+        if self.job_slots.len() >= MAX_JOBS {
             return Err(Refusal::TooManyJobs);
         }
         let disabled = is_disabled(&self.settings, def.label(), def.disabled());
@@ -133,32 +133,32 @@ impl Jobs {
         requires { IsBegun self.now }
         ensures answer { (s : State) → KeepsState (seen_table self.now) s →
             result ≡ refusal_there (past_of s label.now) }
-        ensures absent { result ≡ None → IsAbsent label.now (map name self.now.seats.items) }
+        ensures absent { result ≡ None → IsAbsent label.now (map name self.now.job_slots.items) }
     {
-        let Some(place) = place_of(&self.seats, label) else {
+        let Some(place) = place_of(&self.job_slots, label) else {
             return None;
         };
-        if self.seats[place].core.is_removing() {
+        if self.job_slots[place].core.is_removing() {
             return Some(Refusal::Removing);
         }
         Some(Refusal::AlreadyLoaded)
     }
 
-    /// Takes the memory that one more job with so many triggers needs in the table.
+    /// Takes the memory that one more job with this number of triggers needs in the table.
     fn reserve(&mut self, alloc: Global, triggers: usize) -> Result<(), Refusal>
         requires sound { IsWhole self.old }
-        requires few { vec_len self.old.seats < MAX_JOBS }
-        ensures seats { self.new.seats.items ≡ self.old.seats.items }
-        ensures count { vec_len self.new.seats ≡ vec_len self.old.seats }
+        requires few { vec_len self.old.job_slots < MAX_JOBS }
+        ensures job_slots { self.new.job_slots.items ≡ self.old.job_slots.items }
+        ensures count { vec_len self.new.job_slots ≡ vec_len self.old.job_slots }
         ensures orders { self.new.orders.items ≡ self.old.orders.items }
         ensures settings { self.new.settings.items ≡ self.old.settings.items }
-        ensures places { OnOk result (vec_len self.new.seats < vec_capacity self.new.seats) }
-        ensures room { OnOk result (ORDERS * (vec_len self.new.seats + 1)
+        ensures places { OnOk result (vec_len self.new.job_slots < vec_capacity self.new.job_slots) }
+        ensures room { OnOk result (ORDERS * (vec_len self.new.job_slots + 1)
             ≤ vec_capacity self.new.orders) }
         ensures numbers { OnOk result (HasRoomFor self.new.numbers 1) }
         ensures setting { OnOk result (vec_len self.new.settings < vec_capacity self.new.settings) }
         ensures moments { OnOk result (self.new.numbers.vacant_key < room self.new.index.timers) }
-        ensures marks { OnOk result (vec_len self.new.seats + 1 ≤ place_room self.new.index.marked) }
+        ensures marks { OnOk result (vec_len self.new.job_slots + 1 ≤ place_room self.new.index.marked) }
         ensures numbered { OnOk result (self.new.numbers.vacant_key
             < length self.new.index.places.items) }
         ensures triggers { OnOk result (vec_len self.new.triggers + triggers
@@ -170,7 +170,7 @@ impl Jobs {
         ensures shutdown { self.new.is_shutting_down ≡ self.old.is_shutting_down }
     {
         let Ok(()) = reserve_beside(
-            &mut self.seats,
+            &mut self.job_slots,
             &mut self.orders,
             &mut self.numbers,
             &mut self.settings,
@@ -182,7 +182,7 @@ impl Jobs {
         let Ok(number) = u32::try_from(self.numbers.vacant_key()) else {
             return Err(Refusal::NoMemory);
         };
-        match grow(&mut self.index, alloc, number, &self.seats) {
+        match grow(&mut self.index, alloc, number, &self.job_slots) {
             Ok(()) => Ok(()),
             Err(_) => Err(Refusal::NoMemory),
         }
@@ -202,9 +202,9 @@ impl Jobs {
         ensures refused { IfErr result (λ refusal. refusal ≡ NoMemory) }
     {
         let setting = enabled(alloc, def.label(), writes_setting)?;
-        match self.seat_of(alloc, def) {
-            Ok(seat) => Ok(Ready {
-                seat,
+        match self.job_slot_of(alloc, def) {
+            Ok(job_slot) => Ok(Ready {
+                job_slot,
                 setting,
                 triggers,
             }),
@@ -212,15 +212,15 @@ impl Jobs {
         }
     }
 
-    /// The seat of a job that is loaded at the last reading, under the next number.
-    fn seat_of(&self, alloc: Global, def: Def) -> Result<Seat, Refusal>
+    /// The slot of a job that is loaded at the last clock reading, under the next number.
+    fn job_slot_of(&self, alloc: Global, def: Def) -> Result<JobSlot, Refusal>
         requires sound { IsSound self.now }
-        ensures number { IfOk result (λ seat. seat.number ≡ self.now.numbers.vacant_key) }
-        ensures same { IfOk result (λ seat. seat.def ≡ def) }
-        ensures loaded { IfOk result (λ seat.
-            Keeps seat.core.facts (Loaded (definition def) self.now.reading ∷ [])) }
-        ensures stays { IfOk result (λ seat. seat.has_gone ≡ false) }
-        ensures fresh { IfOk result (λ seat. seat.core.decided ≡ 0) }
+        ensures number { IfOk result (λ job_slot. job_slot.number ≡ self.now.numbers.vacant_key) }
+        ensures same { IfOk result (λ job_slot. job_slot.def ≡ def) }
+        ensures loaded { IfOk result (λ job_slot.
+            Keeps job_slot.core.facts (Loaded (definition def) self.now.reading ∷ [])) }
+        ensures stays { IfOk result (λ job_slot. job_slot.has_gone ≡ false) }
+        ensures fresh { IfOk result (λ job_slot. job_slot.core.decided ≡ 0) }
         ensures refused { IfErr result (λ refusal. refusal ≡ NoMemory) }
     {
         let Ok(number) = u32::try_from(self.numbers.vacant_key()) else {
@@ -229,7 +229,7 @@ impl Jobs {
         let Ok(core) = JobCore::new(alloc, &def, self.reading) else {
             return Err(Refusal::NoMemory);
         };
-        Ok(Seat {
+        Ok(JobSlot {
             number,
             def,
             core,
@@ -245,27 +245,27 @@ impl Jobs {
         ensures whole { IsWhole self.new }
     {
         let Ready {
-            seat,
+            job_slot,
             setting,
             triggers,
         } = ready;
-        let place = place_before(&self.seats, seat.def.label());
+        let place = place_before(&self.job_slots, job_slot.def.label());
         set_if(&mut self.settings, setting);
-        self.enter(seat, triggers, place);
-        make_way(&mut self.index.places, &self.seats, place);
+        self.enter(job_slot, triggers, place);
+        make_way(&mut self.index.places, &self.job_slots, place);
         self.ask_at(place);
     }
 
-    /// Puts the seat before the first with a greater label, which is this place, and gives its number out.
-    fn enter(&mut self, seat: Seat, triggers: Vec<Trigger>, place: usize)
-        requires places { vec_len self.old.seats < vec_capacity self.old.seats }
+    /// Puts the slot before the first with a greater label, which is this place, and gives its number out.
+    fn enter(&mut self, job_slot: JobSlot, triggers: Vec<Trigger>, place: usize)
+        requires places { vec_len self.old.job_slots < vec_capacity self.old.job_slots }
         requires numbers { HasRoomFor self.old.numbers 1 }
-        requires place { place ≡ place_for seat.def.label self.old.seats.items }
+        requires place { place ≡ place_for job_slot.def.label self.old.job_slots.items }
         requires listed { AreOrdered self.old.triggers.items }
         requires room { vec_len self.old.triggers + vec_len triggers
             ≤ vec_capacity self.old.triggers }
-        ensures seats { self.new.seats.items ≡ seats_with seat self.old.seats.items }
-        ensures count { vec_len self.new.seats ≡ vec_len self.old.seats + 1 }
+        ensures job_slots { self.new.job_slots.items ≡ job_slots_with job_slot self.old.job_slots.items }
+        ensures count { vec_len self.new.job_slots ≡ vec_len self.old.job_slots + 1 }
         ensures orders { self.new.orders ≡ self.old.orders }
         ensures vacant { get self.old.numbers self.old.numbers.vacant_key ≡ None }
         ensures numbers { Updates self.old.numbers self.new.numbers self.old.numbers.vacant_key
@@ -273,44 +273,44 @@ impl Jobs {
         ensures alike { IsAlike self.old self.new }
         ensures room { HasSameRoom (seen_table self.old) (seen_table self.new) }
         ensures index { self.new.index ≡ self.old.index }
-        ensures period { HasPositivePeriod seat.def }
+        ensures period { HasPositivePeriod job_slot.def }
         ensures calendars { self.new.has_calendars
-            ≡ (self.old.has_calendars || is_some_entry seat.def.calendar) }
+            ≡ (self.old.has_calendars || is_some_entry job_slot.def.calendar) }
         ensures exact { (test : Listed → Bool) → count_by test self.new.triggers.items
             ≡ count_by test self.old.triggers.items
-            + count_by (λ trigger. test (under seat.number trigger)) triggers.items }
+            + count_by (λ trigger. test (under job_slot.number trigger)) triggers.items }
         ensures triggers { vec_len self.new.triggers
             ≡ vec_len self.old.triggers + vec_len triggers }
         ensures listed { AreOrdered self.new.triggers.items }
     {
-        has_period(&seat.def); // for the proof
+        has_period(&job_slot.def); // for the proof
         let _number = self.numbers.insert_reserved(());
-        let fires = !seat.def.calendar().is_empty();
+        let fires = !job_slot.def.calendar().is_empty();
         self.has_calendars = self.has_calendars || fires;
-        enlist(&mut self.triggers, triggers, seat.number);
-        match self.seats.insert(place, seat) {
+        enlist(&mut self.triggers, triggers, job_slot.number);
+        match self.job_slots.insert(place, job_slot) {
             Ok(()) => {}
             Err(_) => unreachable!(),
         }
     }
 }
 
-/// Takes the memory that one more job with so many triggers needs in the lists of the table: all but the index.
+/// Takes the memory that one more job with this number of triggers needs in the lists of the table: all but the index.
 fn reserve_beside(
-    seats: &mut Vec<Seat>,
+    job_slots: &mut Vec<JobSlot>,
     orders: &mut Vec<Order>,
     numbers: &mut Slab<()>,
     settings: &mut Settings,
     listed: &mut Vec<Listed>,
     triggers: usize,
 ) -> Result<(), AllocError>
-    requires { vec_len seats.old < MAX_JOBS }
-    ensures seats { seats.new.items ≡ seats.old.items }
-    ensures count { vec_len seats.new ≡ vec_len seats.old }
-    ensures places { OnOk result (vec_len seats.new < vec_capacity seats.new) }
+    requires { vec_len job_slots.old < MAX_JOBS }
+    ensures job_slots { job_slots.new.items ≡ job_slots.old.items }
+    ensures count { vec_len job_slots.new ≡ vec_len job_slots.old }
+    ensures places { OnOk result (vec_len job_slots.new < vec_capacity job_slots.new) }
     ensures orders { orders.new.items ≡ orders.old.items }
     ensures more_orders { vec_capacity orders.old ≤ vec_capacity orders.new }
-    ensures room { OnOk result (ORDERS * (vec_len seats.new + 1) ≤ vec_capacity orders.new) }
+    ensures room { OnOk result (ORDERS * (vec_len job_slots.new + 1) ≤ vec_capacity orders.new) }
     ensures slots { numbers.new.slots ≡ numbers.old.slots }
     ensures numbers { OnOk result (HasRoomFor numbers.new 1) }
     ensures settings { settings.new.items ≡ settings.old.items }
@@ -318,10 +318,10 @@ fn reserve_beside(
     ensures listed { listed.new.items ≡ listed.old.items }
     ensures triggers { OnOk result (vec_len listed.new + triggers ≤ vec_capacity listed.new) }
 {
-    let Ok(()) = seats.reserve(1) else {
+    let Ok(()) = job_slots.reserve(1) else {
         return Err(AllocError);
     };
-    let Ok(()) = orders.reserve(ORDERS * (seats.len() + 1)) else {
+    let Ok(()) = orders.reserve(ORDERS * (job_slots.len() + 1)) else {
         return Err(AllocError);
     };
     let Ok(()) = numbers.reserve(1) else {

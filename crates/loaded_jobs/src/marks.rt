@@ -7,20 +7,20 @@ ghost use Rattle.timer_heap.specs.Timers.{room};
 ghost use Rattle.std.specs.Prelude.{◌⊎◌, [], ◌∷◌, length, map, true, false, not, slice_get, slice_index_or, slice_set};
 ghost use Rattle.loaded_jobs.specs.Visiting.{is_spared};
 ghost use Rattle.loaded_jobs.specs.Index.{is_minute_among, ArePlaced};
-ghost use Rattle.loaded_jobs.specs.Seats.{name};
-ghost use Rattle.loaded_jobs.specs.declared.seat.Seat.{Seat};
+ghost use Rattle.loaded_jobs.specs.JobSlots.{name};
+ghost use Rattle.loaded_jobs.specs.declared.job_slot.JobSlot.{JobSlot};
 ghost use Rattle.loaded_jobs.specs.Triggers.{rank_of, AreOrdered, AreListed};
 ghost use Rattle.loaded_jobs.specs.Marking.{HavePlaces, IsMarked, IsReachedAt, IsMinuteAt, HaveMarks, Marks, stands_at};
-ghost use Rattle.loaded_jobs.specs.Touch.{is_touched};
+ghost use Rattle.loaded_jobs.specs.AffectedJobs.{is_touched};
 
-use crate::seat::{Seat, Touch};
-use crate::trigger::{Listed, Sought};
+use crate::job_slot::{AffectedJobs, JobSlot};
+use crate::trigger::{Listed, Query};
 use crate::triggers::run_of;
 use history_model::CivilMinute;
 use place_set::PlaceSet;
 use timer_heap::TimerHeap;
 
-/// Takes the moments that the reading reaches out, and marks the places of their jobs.
+/// Takes out the timers that are due at the clock reading, and marks the places of their jobs.
 pub fn mark_due(timers: &mut TimerHeap, places: &[u32], ready: &mut PlaceSet, up: u64)
     requires places { HavePlaces timers.old places.now ready.old }
     requires empty { (place : ℕ) → has_place ready.old place ≡ false }
@@ -45,13 +45,13 @@ pub fn mark_minutes(
 )
     requires order { AreOrdered listed.now }
     requires places { HaveMarks listed.now places.now ready.old }
-    ensures spared { (es : List Seat) → AreListed listed.now (map name es) →
+    ensures spared { (es : List JobSlot) → AreListed listed.now (map name es) →
         ArePlaced places.now es →
-        (place : ℕ) (seat : Seat) → slice_get es place ≡ Some seat →
+        (place : ℕ) (job_slot : JobSlot) → slice_get es place ≡ Some job_slot →
         is_spared ready.new place ≡ true →
         (is_spared ready.old place ≡ true)
-        × (is_minute_among seat.def.calendar minutes.now ≡ false) }
-    ensures marks { (es : List Seat) → AreListed listed.now (map name es) →
+        × (is_minute_among job_slot.def.calendar minutes.now ≡ false) }
+    ensures marks { (es : List JobSlot) → AreListed listed.now (map name es) →
         ArePlaced places.now es →
         (place : ℕ) → has_place ready.new place ≡ true →
         (has_place ready.old place ≡ true) ⊎ IsMinuteAt es minutes.now place }
@@ -60,7 +60,7 @@ pub fn mark_minutes(
     if minutes.is_empty() {
         return;
     }
-    mark_of(listed, Sought::Minute(None), places, ready);
+    mark_of(listed, Query::Minute(None), places, ready);
     let mut seen = [false; 256];
     for minute in minutes {
         mark_once(listed, minute.minute, places, ready, &mut seen);
@@ -88,16 +88,16 @@ fn mark_once(
         return;
     }
     seen[minute as usize] = true;
-    mark_of(listed, Sought::Minute(Some(minute)), places, ready);
+    mark_of(listed, Query::Minute(Some(minute)), places, ready);
 }
 
 /// Marks the places of the jobs that have this trigger.
-fn mark_of(listed: &[Listed], sought: Sought<'_>, places: &[u32], ready: &mut PlaceSet)
+fn mark_of(listed: &[Listed], query: Query<'_>, places: &[u32], ready: &mut PlaceSet)
     requires order { AreOrdered listed.now }
     requires places { HaveMarks listed.now places.now ready.old }
-    ensures { Marks ready.old ready.new (stands_at listed.now places.now (rank_of sought.entry)) }
+    ensures { Marks ready.old ready.new (stands_at listed.now places.now (rank_of query.entry)) }
 {
-    let run = run_of(listed, sought);
+    let run = run_of(listed, query);
     for one in run {
         ready.insert(places[one.number as usize]);
     }
@@ -105,25 +105,28 @@ fn mark_of(listed: &[Listed], sought: Sought<'_>, places: &[u32], ready: &mut Pl
 
 /// Marks the places of the jobs that hear something of the touch.
 pub fn mark_touched(
-    seats: &[Seat],
-    touch: Touch<'_>,
+    job_slots: &[JobSlot],
+    affected: AffectedJobs<'_>,
     listed: &[Listed],
     places: &[u32],
     ready: &mut PlaceSet,
 )
-    requires room { length seats.now ≤ place_room ready.old }
-    requires few { length seats.now ≤ MAX_JOBS }
+    requires room { length job_slots.now ≤ place_room ready.old }
+    requires few { length job_slots.now ≤ MAX_JOBS }
     requires empty { (place : ℕ) → has_place ready.old place ≡ false }
-    requires listed { AreListed listed.now (map name seats.now) }
-    requires placed { ArePlaced places.now seats.now }
-    ensures touched { (place : ℕ) (seat : Seat) → slice_get seats.now place ≡ Some seat →
-        is_spared ready.new place ≡ not (is_touched touch.entry seat.def) }
-    ensures marks { (place : ℕ) → has_place ready.new place ≡ true → place < length seats.now }
+    requires listed { AreListed listed.now (map name job_slots.now) }
+    requires placed { ArePlaced places.now job_slots.now }
+    ensures touched { (place : ℕ) (job_slot : JobSlot) → slice_get job_slots.now place ≡ Some job_slot →
+        is_spared ready.new place ≡ not (is_touched affected.entry job_slot.def) }
+    ensures marks { (place : ℕ) → has_place ready.new place ≡ true → place < length job_slots.now }
     ensures room { place_room ready.new ≡ place_room ready.old }
 {
-    match touch {
-        Touch::Sight(path, _) => mark_of(listed, Sought::Path(path), places, ready),
-        Touch::Shutdown | Touch::Reading(_, _) => mark_each(seats.len() as u32, ready),
+    match affected {
+        AffectedJobs::Observation(path, _) => mark_of(listed, Query::Path(path), places, ready),
+        AffectedJobs::Shutdown | AffectedJobs::Reading(_, _) => mark_each(
+            job_slots.len() as u32,
+            ready,
+        ),
     }
 }
 

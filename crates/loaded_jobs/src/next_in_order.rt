@@ -9,13 +9,13 @@ ghost use Rattle.history_model.specs.FactsOfPast.{Keeps};
 ghost use Rattle.history_model.specs.Machine.{Job, State};
 ghost use Rattle.history_model.specs.MachineLaws.{AreInOrder};
 ghost use Rattle.loaded_jobs.specs.StandsFor.{KeepsJobs, KeepsState};
-ghost use Rattle.loaded_jobs.specs.Seats.{name, rows};
+ghost use Rattle.loaded_jobs.specs.JobSlots.{name, rows};
 ghost use Rattle.loaded_jobs.specs.Nearest.{IsNearestOf, IsNextChild, listed_paths, with_child};
 ghost use Rattle.loaded_jobs.specs.Tables.{labels_in};
 
+use crate::job_slot::JobSlot;
 use crate::jobs::Jobs;
 use crate::places::{place_before, place_here};
-use crate::seat::Seat;
 use crate::triggers::path_after;
 use history_model::JobNo;
 
@@ -28,10 +28,10 @@ impl Jobs {
         ensures { (s : State) → KeepsState (seen_table self.now) s →
             IsNextChild (seen_table self.now) text.now s result }
     {
-        let label = label_after(&self.seats, text)?;
-        let place = place_here(&self.seats, label)?;
-        let seat = &self.seats[place];
-        Some((label, seat.number, seat.core.shown().runs))
+        let label = label_after(&self.job_slots, text)?;
+        let place = place_here(&self.job_slots, label)?;
+        let job_slot = &self.job_slots[place];
+        Some((label, job_slot.number, job_slot.core.shown().runs))
     }
 
     /// The next path of all that the loaded definitions list.
@@ -40,21 +40,21 @@ impl Jobs {
         ensures { (s : State) → KeepsState (seen_table self.now) s →
             IsNearestOf text.now (listed_paths s.jobs) (option_map (λ path. path.now) result) }
     {
-        path_after(&self.triggers, &self.index.places, &self.seats, text)
+        path_after(&self.triggers, &self.index.places, &self.job_slots, text)
     }
 }
 
-/// The label of the next job with a child: the first that has one of those behind the text.
-fn label_after<'x>(seats: &'x [Seat], text: &str) -> Option<&'x str>
-    requires { AreInOrder (labels_in (map name seats.now)) }
-    ensures { (at : Reading) (jobs : List Job) → KeepsJobs at (rows seats.now) jobs →
+/// The label of the next job with a child: the first label after the text whose job has one.
+fn label_after<'x>(job_slots: &'x [JobSlot], text: &str) -> Option<&'x str>
+    requires { AreInOrder (labels_in (map name job_slots.now)) }
+    ensures { (at : Reading) (jobs : List Job) → KeepsJobs at (rows job_slots.now) jobs →
         IsNearestOf text.now (with_child jobs) (option_map (λ label. label.now) result) }
 {
-    let mut place = place_before(seats, text);
-    while place < seats.len() {
-        let seat = &seats[place];
-        if has_child(seat) {
-            return Some(seat.def.label());
+    let mut place = place_before(job_slots, text);
+    while place < job_slots.len() {
+        let job_slot = &job_slots[place];
+        if has_child(job_slot) {
+            return Some(job_slot.def.label());
         }
         place += 1;
     }
@@ -62,10 +62,10 @@ fn label_after<'x>(seats: &'x [Seat], text: &str) -> Option<&'x str>
 }
 
 /// Whether the job is not gone and has a child.
-fn has_child(seat: &Seat) -> bool
-    ensures going { seat.now.has_gone ≡ true → result ≡ false }
-    ensures child { (past : History) → seat.now.has_gone ≡ false →
-        Keeps seat.now.core.facts past → result ≡ is_some (child past) }
+fn has_child(job_slot: &JobSlot) -> bool
+    ensures going { job_slot.now.has_gone ≡ true → result ≡ false }
+    ensures child { (past : History) → job_slot.now.has_gone ≡ false →
+        Keeps job_slot.now.core.facts past → result ≡ is_some (child past) }
 {
-    !seat.has_gone && seat.core.shown().pid.is_some()
+    !job_slot.has_gone && job_slot.core.shown().pid.is_some()
 }

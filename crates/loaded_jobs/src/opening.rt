@@ -22,7 +22,7 @@ use timer_heap::TimerHeap;
 impl Jobs {
     ghost use Rattle.loaded_jobs.specs.Sound.{seen_table, IsWhole};
 
-    /// No job yet; the overrides are oldest first.
+    /// No job yet; the settings are oldest first.
     pub fn new(
         alloc: Global,
         reading: Reading,
@@ -48,7 +48,7 @@ impl Jobs {
             zone,
             settings: Settings::new(overrides),
             is_shutting_down: false,
-            seats: Vec::new(alloc),
+            job_slots: Vec::new(alloc),
             numbers: Slab::new(alloc),
             orders: Vec::new(alloc),
             visited: 0,

@@ -16,12 +16,12 @@ ghost use Rattle.history_model.specs.News.{have_calendars};
 ghost use Rattle.loaded_jobs.specs.StandsFor.{KeepsJobs, KeepsState, is_none};
 ghost use Rattle.loaded_jobs.specs.Minutes.{has_calendars};
 ghost use Rattle.loaded_jobs.specs.NextMoments.{IsNextUp};
-ghost use Rattle.loaded_jobs.specs.Seats.{rows};
+ghost use Rattle.loaded_jobs.specs.JobSlots.{rows};
 
-use crate::all_seats::{all_gone, is_some_with_calendar};
+use crate::all_job_slots::{all_gone, is_some_with_calendar};
 use crate::gone_jobs::Gone;
+use crate::job_slot::JobSlot;
 use crate::jobs::Jobs;
-use crate::seat::Seat;
 use crate::settings::is_disabled;
 use crate::texts::{job, line};
 use history_model::{Order, Reading, Refusal, is_label};
@@ -30,7 +30,7 @@ use std::alloc::{AllocError, Global};
 impl Jobs {
     ghost use Rattle.loaded_jobs.specs.Sound.{seen_table, IsSound, IsWhole};
 
-    /// The last reading.
+    /// The last clock reading.
     pub fn reading(&self) -> Reading
         ensures { result ≡ (seen_table self.now).reading }
     {
@@ -62,7 +62,7 @@ impl Jobs {
     pub fn is_empty(&self) -> bool
         ensures { (s : State) → KeepsState (seen_table self.now) s → result ≡ is_none s.jobs }
     {
-        all_gone(&self.seats)
+        all_gone(&self.job_slots)
     }
 
     /// Whether a loaded job has calendar entries. Unless a job went at the last event, no job is looked at.
@@ -73,11 +73,11 @@ impl Jobs {
     {
         match self.gone {
             Gone::Nobody => self.has_calendars,
-            _ => is_some_with_calendar(&self.seats),
+            _ => is_some_with_calendar(&self.job_slots),
         }
     }
 
-    /// The least of the loaded jobs' next moments; none, if no job has one.
+    /// The least of the loaded jobs' next wake-up times; none, if no job has one.
     pub fn next_up(&self) -> Option<u64>
         requires { IsWhole self.now }
         ensures { (s : State) → KeepsState (seen_table self.now) s → IsNextUp s.jobs result }
@@ -92,7 +92,7 @@ impl Jobs {
         ensures text { IfOk result (λ text. IsReplyText ListJobs (seen_table self.now) (string_bytes text)) }
         ensures memory { IfErr result (λ refusal. refusal ≡ NoMemory) }
     {
-        match list(alloc, &self.seats) { // for the proof
+        match list(alloc, &self.job_slots) { // for the proof
             Ok(text) => Ok(text),
             Err(_) => Err(Refusal::NoMemory),
         }
@@ -110,11 +110,11 @@ impl Jobs {
         if !is_label(label) {
             return Err(Refusal::BadRequest);
         }
-        let Some(seat) = self.here(label) else {
+        let Some(job_slot) = self.here(label) else {
             return Err(Refusal::NoSuchJob);
         };
-        let disabled = is_disabled(&self.settings, label, seat.def.disabled());
-        match job(alloc, seat.core.shown(), label, disabled) { // for the proof
+        let disabled = is_disabled(&self.settings, label, job_slot.def.disabled());
+        match job(alloc, job_slot.core.shown(), label, disabled) { // for the proof
             Ok(text) => Ok(text),
             Err(_) => Err(Refusal::NoMemory),
         }
@@ -122,31 +122,31 @@ impl Jobs {
 }
 
 /// A line of heads, then a line for each job that is not gone.
-fn list(alloc: Global, seats: &[Seat]) -> Result<String, AllocError>
+fn list(alloc: Global, job_slots: &[JobSlot]) -> Result<String, AllocError>
     ensures { IfOk result (λ text. (at : Reading) (jobs : List Job) →
-        KeepsJobs at (rows seats.now) jobs →
+        KeepsJobs at (rows job_slots.now) jobs →
         string_bytes text ≡ codes "PID\tStatus\tLabel\n" ++ flat_map shown_text jobs) }
 {
     let mut text = String::new(alloc);
     text.push_str("PID\tStatus\tLabel\n")?;
-    for seat in seats {
-        add_line(alloc, &mut text, seat)?;
+    for job_slot in job_slots {
+        add_line(alloc, &mut text, job_slot)?;
     }
     Ok(text)
 }
 
-/// Adds the line of a job, unless it is gone.
-fn add_line(alloc: Global, text: &mut String, seat: &Seat) -> Result<(), AllocError>
-    ensures going { seat.now.has_gone ≡ true →
+/// Adds the line of a job, unless it was removed.
+fn add_line(alloc: Global, text: &mut String, job_slot: &JobSlot) -> Result<(), AllocError>
+    ensures going { job_slot.now.has_gone ≡ true →
         OnOk result (string_bytes text.new ≡ string_bytes text.old) }
-    ensures shown { (past : History) → seat.now.has_gone ≡ false →
-        Keeps seat.now.core.facts past →
+    ensures shown { (past : History) → job_slot.now.has_gone ≡ false →
+        Keeps job_slot.now.core.facts past →
         OnOk result (string_bytes text.new
-        ≡ string_bytes text.old ++ line_text (shown_of past) seat.now.def.label) }
+        ≡ string_bytes text.old ++ line_text (shown_of past) job_slot.now.def.label) }
 {
-    if seat.has_gone {
+    if job_slot.has_gone {
         return Ok(());
     }
-    let shown = line(alloc, seat.core.shown(), seat.def.label())?;
+    let shown = line(alloc, job_slot.core.shown(), job_slot.def.label())?;
     text.push_str(shown.as_str())
 }

@@ -1,4 +1,4 @@
-//! A reading of the clocks, which touches few jobs.
+//! A clock reading, which touches few jobs.
 
 ghost use Rattle.std.specs.Prelude.{◌≡◌, Ok, false};
 ghost use Rattle.history_model.specs.Machine.{Tick};
@@ -13,9 +13,9 @@ ghost use Rattle.loaded_jobs.specs.Room.{HasSameRoom};
 ghost use Rattle.loaded_jobs.specs.Leaving.{StayBut};
 
 use crate::gone_jobs::Gone;
+use crate::job_slot::AffectedJobs;
 use crate::jobs::Jobs;
 use crate::marks::{mark_due, mark_minutes};
-use crate::seat::Touch;
 use crate::visits::visit_ready;
 use history_model::{CivilMinute, Reading};
 
@@ -23,8 +23,8 @@ impl Jobs {
     ghost use Rattle.loaded_jobs.specs.Sound.{seen_table, IsSound};
     ghost use Rattle.loaded_jobs.specs.Index.{IsIndexed};
 
-    /// Takes in a reading that is not refused, and the civil minutes that it crosses: the jobs that it touches hear it and give their orders,
-    /// and nothing is done for any other. It tells which jobs may have gone.
+    /// Takes in a clock reading that is not refused, and the civil minutes that it crosses. The jobs that it touches receive it
+    /// and give their orders, and nothing is done for any other. It returns which jobs it may have removed.
     pub fn advance(&mut self, at: Reading, minutes: &[CivilMinute]) -> Gone
         requires begun { IsBegun self.old }
         requires accepted { is_clock_refused self.old.reading at ≡ false }
@@ -37,7 +37,7 @@ impl Jobs {
         ensures room { HasSameRoom (seen_table self.old) (seen_table self.new) }
         ensures spared { SparesUntouched at (seen_table self.old) (seen_table self.new) }
         ensures sound { IsSound self.new }
-        ensures stay { StayBut result self.new.seats.items }
+        ensures stay { StayBut result self.new.job_slots.items }
         ensures indexed { IsIndexed self.new }
     {
         mark_due(
@@ -53,10 +53,10 @@ impl Jobs {
             &mut self.index.marked,
         );
         let (visited, gone) = visit_ready(
-            &mut self.seats,
+            &mut self.job_slots,
             &mut self.index.marked,
             &mut self.index.timers,
-            Touch::Reading(at, minutes),
+            AffectedJobs::Reading(at, minutes),
             self.reading,
             at,
             &mut self.orders,

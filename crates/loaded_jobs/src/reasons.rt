@@ -16,7 +16,7 @@ use job_core::Moments;
 impl Jobs {
     ghost use Rattle.loaded_jobs.specs.Sound.{seen_table, IsSound};
 
-    /// What keeps the spawn of the job with this label from being due, at the last reading; none if no such job is loaded.
+    /// What keeps the spawn of the job with this label from being due, at the last clock reading; none if no such job is loaded.
     pub fn reasons(&self, label: &str) -> Option<Reasons>
         requires { IsSound self.now }
         ensures { (s : State) → KeepsState (seen_table self.now) s →
@@ -24,7 +24,7 @@ impl Jobs {
     {
         match self.here(label) { // for the proof
             None => None,
-            Some(seat) => Some(seat.core.reasons(self.reading)),
+            Some(job_slot) => Some(job_slot.core.reasons(self.reading)),
         }
     }
 
@@ -36,11 +36,11 @@ impl Jobs {
     {
         match self.here(label) { // for the proof
             None => None,
-            Some(seat) => Some(seat.core.moments(self.reading)),
+            Some(job_slot) => Some(job_slot.core.moments(self.reading)),
         }
     }
 
-    /// The moment from which a reading makes the job's spawn due, if nothing but readings happens and no calendar entry fires.
+    /// The time from which a clock reading makes the job's spawn due, if only the clock goes on and no calendar entry fires.
     pub fn spawns_from(&self, label: &str) -> Option<u64>
         requires { IsSound self.now }
         ensures { (s : State) → KeepsState (seen_table self.now) s →
@@ -48,11 +48,11 @@ impl Jobs {
     {
         match self.here(label) { // for the proof
             None => None,
-            Some(seat) => seat.core.spawns_from(self.reading),
+            Some(job_slot) => job_slot.core.spawns_from(self.reading),
         }
     }
 
-    /// What made the job's pending demand.
+    /// What made the job's pending start request.
     pub fn latest_demand(&self, label: &str) -> Option<DemandKind>
         requires { IsSound self.now }
         ensures { (s : State) → KeepsState (seen_table self.now) s →
@@ -60,7 +60,7 @@ impl Jobs {
     {
         match self.here(label) { // for the proof
             None => None,
-            Some(seat) => seat.core.latest_demand(),
+            Some(job_slot) => job_slot.core.latest_demand(),
         }
     }
 
@@ -72,7 +72,7 @@ impl Jobs {
     {
         match self.here(label) { // for the proof
             None => None,
-            Some(seat) => seat.core.path_that_holds(),
+            Some(job_slot) => job_slot.core.path_that_holds(),
         }
     }
 
@@ -84,7 +84,11 @@ impl Jobs {
     {
         match self.here(label) { // for the proof
             None => None,
-            Some(seat) => Some(settings::is_disabled(&self.settings, label, seat.def.disabled())),
+            Some(job_slot) => Some(settings::is_disabled(
+                &self.settings,
+                label,
+                job_slot.def.disabled(),
+            )),
         }
     }
 }

@@ -13,7 +13,7 @@ use crate::byte_order::is_before;
 use history_model::Setting;
 
 /// The place of the label's setting, or else the place that a new one takes.
-pub fn place_of(settings: &[Setting], label: &str) -> Result<usize, usize>
+pub fn setting_place(settings: &[Setting], label: &str) -> Result<usize, usize>
     requires { AreSet settings.now }
     ensures found { IfOk result (λ place. Some place ≡ position (sets label.now) settings.now) }
     ensures absent { IfErr result (IsPlaceFor label.now settings.now) }
@@ -51,7 +51,7 @@ pub fn put(settings: &mut Vec<Setting>, setting: Setting)
     ensures order { AreSet settings.new.items }
     ensures room { vec_capacity settings.new ≡ vec_capacity settings.old }
 {
-    match place_of(settings, setting.label.as_str()) {
+    match setting_place(settings, setting.label.as_str()) {
         Ok(place) => settings[place] = setting,
         Err(place) => match settings.insert(place, setting) {
             Ok(()) => {}
@@ -74,7 +74,7 @@ pub fn in_order(overrides: Vec<Setting>) -> Vec<Setting>
     settings
 }
 
-/// Puts the setting at this place among those behind it, which are newer and in order; if one of them has its label, it is
+/// Puts the setting at this place among those after it, which are newer and in order; if one of them has its label, it is
 /// dropped.
 fn settle(settings: &mut Vec<Setting>, left: usize)
     requires inside { left < length settings.old.items }
@@ -84,7 +84,7 @@ fn settle(settings: &mut Vec<Setting>, left: usize)
         (drop (left + 1) settings.old.items ++ take 1 (drop left settings.old.items)) }
     ensures order { AreSet (drop left settings.new.items) }
 {
-    match place_of(&settings[left + 1..], settings[left].label.as_str()) {
+    match setting_place(&settings[left + 1..], settings[left].label.as_str()) {
         Ok(_) => {
             let _older = settings.remove(left);
         }
@@ -92,7 +92,7 @@ fn settle(settings: &mut Vec<Setting>, left: usize)
     }
 }
 
-/// Moves the setting at this place behind so many of those that follow it.
+/// Moves the setting at this place after the first `count` of those that follow it.
 fn move_back(settings: &mut Vec<Setting>, left: usize, count: usize)
     requires { left + count < length settings.old.items }
     ensures rest { take left settings.new.items ≡ take left settings.old.items }

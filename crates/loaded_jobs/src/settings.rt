@@ -8,7 +8,7 @@ ghost use Rattle.history_model.specs.Machine.{sets, flag_in};
 ghost use Rattle.loaded_jobs.specs.StandsFor.{KeepsSettings, with_setting};
 ghost use Rattle.loaded_jobs.specs.Room.{held_with, held_after};
 
-use crate::setting_order::{in_order, place_of, put};
+use crate::setting_order::{in_order, put, setting_place};
 use history_model::Setting;
 use std::alloc::AllocError;
 use std::marker::Model;
@@ -32,7 +32,7 @@ impl Model for Settings {
 }
 
 impl Settings {
-    /// Each label's newest setting. The overrides are oldest first. It takes no memory.
+    /// Each label's newest setting. The settings that the caller gives are oldest first. It takes no memory.
     pub fn new(overrides: Vec<Setting>) -> Settings
         ensures { KeepsSettings result.items (reverse overrides.items) }
     {
@@ -41,7 +41,7 @@ impl Settings {
         }
     }
 
-    /// Makes room for so many more.
+    /// Makes room for `more` further settings.
     pub fn reserve(&mut self, more: usize) -> Result<(), AllocError>
         ensures items { self.new.items ≡ self.old.items }
         ensures len { vec_len self.new ≡ vec_len self.old }
@@ -56,7 +56,7 @@ impl Settings {
 pub fn is_disabled(settings: &Settings, label: &str, otherwise: bool) -> bool
     ensures { result ≡ flag_in (first (filter (sets label.now) settings.now.items)) otherwise }
 {
-    match place_of(&settings.sorted, label) {
+    match setting_place(&settings.sorted, label) {
         Ok(place) => settings.sorted[place].disabled,
         Err(_) => otherwise,
     }

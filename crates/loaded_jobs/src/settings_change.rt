@@ -13,7 +13,7 @@ ghost use Rattle.loaded_jobs.specs.TableOutcomes.{IsSameFor, Means};
 ghost use Rattle.loaded_jobs.specs.Goes.{GoesWithSetting};
 ghost use Rattle.loaded_jobs.specs.SettingChanges.{set_of, IsReadySet, withdrawn};
 ghost use Rattle.loaded_jobs.specs.Begun.{IsBegun};
-ghost use Rattle.loaded_jobs.specs.Seats.{rows, gone, name};
+ghost use Rattle.loaded_jobs.specs.JobSlots.{rows, gone, name};
 ghost use Rattle.loaded_jobs.specs.Counts.{counts, IsCounted};
 ghost use Rattle.loaded_jobs.specs.Numbers.{row_names};
 ghost use Rattle.loaded_jobs.specs.Room.{HasSameRoom};
@@ -138,11 +138,11 @@ impl Jobs {
     /// An event that is for no job: it drops the jobs that went at the last one, and asks none.
     fn ask_none(&mut self)
         requires { IsWhole self.old }
-        ensures rows { rows self.new.seats.items ≡ rows self.old.seats.items }
-        ensures names { map name self.new.seats.items ≡ row_names (rows self.old.seats.items) }
+        ensures rows { rows self.new.job_slots.items ≡ rows self.old.job_slots.items }
+        ensures names { map name self.new.job_slots.items ≡ row_names (rows self.old.job_slots.items) }
         ensures orders { self.new.orders.items ≡ [] }
-        ensures counted { IsCounted (counts (rows self.old.seats.items))
-            (rows self.new.seats.items) (gone self.new.seats.items) self.new.visited }
+        ensures counted { IsCounted (counts (rows self.old.job_slots.items))
+            (rows self.new.job_slots.items) (gone self.new.job_slots.items) self.new.visited }
         ensures whole { IsWhole self.new }
         ensures alike { IsAlike self.old self.new }
         ensures room { HasSameRoom (seen_table self.old) (seen_table self.new) }

@@ -22,7 +22,7 @@ pub enum Trigger {
 
 /// A trigger that is looked for.
 #[derive(Clone, Copy)]
-pub enum Sought<'a> {
+pub enum Query<'a> {
     Minute(Option<u8>),
     Path(&'a str),
 }
@@ -36,12 +36,12 @@ pub struct Listed {
 
 impl Trigger {
     /// The trigger, lent.
-    pub fn lent(&self) -> Sought<'_>
+    pub fn lent(&self) -> Query<'_>
         ensures { rank_of result ≡ rank self.now }
     {
         match self {
-            Trigger::Minute(minute) => Sought::Minute(*minute),
-            Trigger::Path(path) => Sought::Path(path.as_str()),
+            Trigger::Minute(minute) => Query::Minute(*minute),
+            Trigger::Path(path) => Query::Path(path.as_str()),
         }
     }
 
@@ -56,15 +56,15 @@ impl Trigger {
     }
 }
 
-/// Whether a trigger stands before another: minutes before paths, both in rising order.
-pub fn is_earlier(one: Sought<'_>, other: Sought<'_>) -> bool
+/// Whether a trigger comes before another: minutes before paths, both in rising order.
+pub fn is_earlier(one: Query<'_>, other: Query<'_>) -> bool
     ensures { result ≡ is_before (rank_of one.entry) (rank_of other.entry) }
 {
     match (one, other) {
-        (Sought::Minute(minute), Sought::Minute(other)) => is_minute_before(minute, other),
-        (Sought::Minute(_), Sought::Path(_)) => true,
-        (Sought::Path(_), Sought::Minute(_)) => false,
-        (Sought::Path(path), Sought::Path(other)) => is_before(path, other),
+        (Query::Minute(minute), Query::Minute(other)) => is_minute_before(minute, other),
+        (Query::Minute(_), Query::Path(_)) => true,
+        (Query::Path(_), Query::Minute(_)) => false,
+        (Query::Path(path), Query::Path(other)) => is_before(path, other),
     }
 }
 

@@ -4,68 +4,68 @@ ghost use Rattle.std.specs.Prelude.{◌≡◌, ◌≤◌, ◌<◌, ◌+◌, ℕ,
 ghost use Rattle.std.specs.List.{filter};
 ghost use Rattle.std.specs.Option.{option_map};
 ghost use Rattle.std.specs.Vec.{vec_capacity, vec_len};
-ghost use Rattle.loaded_jobs.specs.Seats.{name, rows};
+ghost use Rattle.loaded_jobs.specs.JobSlots.{name, rows};
 ghost use Rattle.loaded_jobs.specs.Index.{ArePlaced};
 ghost use Rattle.loaded_jobs.specs.Nearest.{IsNearestOf, paths_in};
 ghost use Rattle.loaded_jobs.specs.Triggers.{rank_of, has_rank, is_below, is_behind, under, AreOrdered, AreListed, stays_under};
 
-use crate::seat::Seat;
-use crate::trigger::{Listed, Sought, Trigger, is_earlier};
+use crate::job_slot::JobSlot;
+use crate::trigger::{Listed, Query, Trigger, is_earlier};
 use history_model::JobNo;
 
-/// Those of this trigger, which stand side by side.
-pub fn run_of<'x>(listed: &'x [Listed], sought: Sought<'_>) -> &'x [Listed]
+/// Those of this trigger, which are next to each other.
+pub fn run_of<'x>(listed: &'x [Listed], query: Query<'_>) -> &'x [Listed]
     requires { AreOrdered listed.now }
-    ensures { result.now ≡ filter (has_rank (rank_of sought.entry)) listed.now }
+    ensures { result.now ≡ filter (has_rank (rank_of query.entry)) listed.now }
 {
-    let from = listed.partition_point(|one| is_below(one, sought));
-    let to = end_of_run(listed, from, sought);
+    let from = listed.partition_point(|one| is_below(one, query));
+    let to = end_of_run(listed, from, query);
     &listed[from..to]
 }
 
-/// The place behind those of this trigger, which begin here, if there are any. If there are none, it looks no further.
-fn end_of_run(listed: &[Listed], from: usize, sought: Sought<'_>) -> usize
+/// The place after those of this trigger, which begin here, if there are any. If there are none, it looks no further.
+fn end_of_run(listed: &[Listed], from: usize, query: Query<'_>) -> usize
     requires order { AreOrdered listed.now }
     requires inside { from ≤ length listed.now }
     requires low { (k : ℕ) (one : Listed) → slice_get listed.now k ≡ Some one → k < from →
-        is_behind (rank_of sought) one ≡ false }
+        is_behind (rank_of query) one ≡ false }
     ensures bound { result ≤ length listed.now }
     ensures before { (k : ℕ) (one : Listed) → slice_get listed.now k ≡ Some one → k < result →
-        is_behind (rank_of sought.entry) one ≡ false }
+        is_behind (rank_of query.entry) one ≡ false }
     ensures behind { (k : ℕ) (one : Listed) → slice_get listed.now k ≡ Some one → result ≤ k →
-        is_behind (rank_of sought.entry) one ≡ true }
+        is_behind (rank_of query.entry) one ≡ true }
 {
     if from >= listed.len() {
         return from;
     }
-    if is_behind(&listed[from], sought) {
+    if is_behind(&listed[from], query) {
         return from;
     }
-    place_behind(listed, sought)
+    place_behind(listed, query)
 }
 
-/// The place before the first that comes behind the trigger, or the last.
-fn place_behind(listed: &[Listed], sought: Sought<'_>) -> usize
+/// The place of the first that comes after the trigger. If there is none, the end of the list.
+fn place_behind(listed: &[Listed], query: Query<'_>) -> usize
     requires { AreOrdered listed.now }
     ensures bound { result ≤ length listed.now }
     ensures before { (k : ℕ) (one : Listed) → slice_get listed.now k ≡ Some one → k < result →
-        is_behind (rank_of sought.entry) one ≡ false }
+        is_behind (rank_of query.entry) one ≡ false }
     ensures behind { (k : ℕ) (one : Listed) → slice_get listed.now k ≡ Some one → result ≤ k →
-        is_behind (rank_of sought.entry) one ≡ true }
+        is_behind (rank_of query.entry) one ≡ true }
 {
-    listed.partition_point(|one| !is_behind(one, sought))
+    listed.partition_point(|one| !is_behind(one, query))
 }
 
-fn is_below(one: &Listed, sought: Sought<'_>) -> bool
-    ensures { result ≡ is_below (rank_of sought.entry) one.now }
+fn is_below(one: &Listed, query: Query<'_>) -> bool
+    ensures { result ≡ is_below (rank_of query.entry) one.now }
 {
-    is_earlier(one.trigger.lent(), sought)
+    is_earlier(one.trigger.lent(), query)
 }
 
-fn is_behind(one: &Listed, sought: Sought<'_>) -> bool
-    ensures { result ≡ is_behind (rank_of sought.entry) one.now }
+fn is_behind(one: &Listed, query: Query<'_>) -> bool
+    ensures { result ≡ is_behind (rank_of query.entry) one.now }
 {
-    is_earlier(sought, one.trigger.lent())
+    is_earlier(query, one.trigger.lent())
 }
 
 /// Puts each of a job's triggers at its place. There is room.
@@ -90,25 +90,25 @@ pub fn enlist(listed: &mut Vec<Listed>, triggers: Vec<Trigger>, number: JobNo)
     }
 }
 
-/// Drops the triggers of the jobs that are gone.
-pub fn forget(listed: &mut Vec<Listed>, places: &[u32], seats: &[Seat])
+/// Drops the triggers of the jobs that were removed.
+pub fn forget(listed: &mut Vec<Listed>, places: &[u32], job_slots: &[JobSlot])
     ensures items { listed.new.items
-        ≡ filter (stays_under places.now seats.now) listed.old.items }
+        ≡ filter (stays_under places.now job_slots.now) listed.old.items }
     ensures capacity { vec_capacity listed.new ≡ vec_capacity listed.old }
 {
-    listed.retain(|one| stays(one, places, seats));
+    listed.retain(|one| stays(one, places, job_slots));
 }
 
 /// Whether the job of this trigger is not gone.
-fn stays(one: &Listed, places: &[u32], seats: &[Seat]) -> bool
-    ensures { result ≡ stays_under places.now seats.now one.now }
+fn stays(one: &Listed, places: &[u32], job_slots: &[JobSlot]) -> bool
+    ensures { result ≡ stays_under places.now job_slots.now one.now }
 {
     let Some(place) = places.get(one.number as usize) else {
         return false;
     };
-    match seats.get(*place as usize) {
+    match job_slots.get(*place as usize) {
         None => false,
-        Some(seat) => !seat.has_gone,
+        Some(job_slot) => !job_slot.has_gone,
     }
 }
 
@@ -116,18 +116,18 @@ fn stays(one: &Listed, places: &[u32], seats: &[Seat]) -> bool
 pub fn path_after<'x>(
     listed: &'x [Listed],
     places: &[u32],
-    seats: &[Seat],
+    job_slots: &[JobSlot],
     text: &str,
 ) -> Option<&'x str>
-    requires listed { AreListed listed.now (map name seats.now) }
-    requires placed { ArePlaced places.now seats.now }
-    ensures { IsNearestOf text.now (paths_in (rows seats.now))
+    requires listed { AreListed listed.now (map name job_slots.now) }
+    requires placed { ArePlaced places.now job_slots.now }
+    ensures { IsNearestOf text.now (paths_in (rows job_slots.now))
         (option_map (λ path. path.now) result) }
 {
-    let mut place = place_behind(listed, Sought::Path(text));
+    let mut place = place_behind(listed, Query::Path(text));
     while place < listed.len() {
         let one = &listed[place];
-        if stays(one, places, seats) {
+        if stays(one, places, job_slots) {
             return one.trigger.path();
         }
         place += 1;

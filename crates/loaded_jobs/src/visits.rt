@@ -4,33 +4,33 @@ ghost use Rattle.std.specs.Prelude.{◌≡◌, ◌≤◌, ◌<◌, ◌*◌, ◌+
 ghost use Rattle.std.specs.Vec.{vec_capacity, vec_len};
 ghost use Rattle.timer_heap.specs.Timers.{room, Updates};
 ghost use Rattle.history_model.specs.declared.TheConstants.{MAX_UP};
-ghost use Rattle.loaded_jobs.specs.declared.seat.TheConstants.{ORDERS};
+ghost use Rattle.loaded_jobs.specs.declared.job_slot.TheConstants.{ORDERS};
 ghost use Rattle.loaded_jobs.specs.Index.{moment_for};
 ghost use Rattle.loaded_jobs.specs.Visiting.{is_spared, is_other};
 ghost use Rattle.loaded_jobs.specs.Visits.{CanVisit, VisitsTouched, IsUnmarked};
-ghost use Rattle.loaded_jobs.specs.Touch.{item_for, nothing_for};
+ghost use Rattle.loaded_jobs.specs.AffectedJobs.{item_for, nothing_for};
 
 use crate::gone_jobs::Gone;
-use crate::seat::{Seat, Touch};
+use crate::job_slot::{AffectedJobs, JobSlot};
 use history_model::{Order, Reading};
 use place_set::PlaceSet;
 use timer_heap::TimerHeap;
 
-/// Tells the touch to the jobs at the places with a mark and asks them, in rising order of places, and takes the marks away. It counts
-/// the jobs that it visits, and says which may have gone.
+/// Delivers the touch to the jobs at the places with a mark and asks them, in rising order of places, and takes the marks away.
+/// It counts the jobs that it visits, and says which it may have removed.
 pub fn visit_ready(
-    seats: &mut [Seat],
+    job_slots: &mut [JobSlot],
     ready: &mut PlaceSet,
     timers: &mut TimerHeap,
-    touch: Touch<'_>,
+    affected: AffectedJobs<'_>,
     before: Reading,
     now: Reading,
     orders: &mut Vec<Order>,
 ) -> (u32, Gone)
-    requires can { CanVisit (item_for touch) before now (is_spared ready.old) seats.old timers.old }
-    requires room { vec_len orders.old + ORDERS * length seats.old ≤ vec_capacity orders.old }
-    ensures visits { VisitsTouched (item_for touch.entry) before now (is_spared ready.old)
-        seats.old seats.new orders.old.items orders.new.items timers.new result.0 result.1 }
+    requires can { CanVisit (item_for affected) before now (is_spared ready.old) job_slots.old timers.old }
+    requires room { vec_len orders.old + ORDERS * length job_slots.old ≤ vec_capacity orders.old }
+    ensures visits { VisitsTouched (item_for affected.entry) before now (is_spared ready.old)
+        job_slots.old job_slots.new orders.old.items orders.new.items timers.new result.0 result.1 }
     ensures unmarked { IsUnmarked ready.old ready.new timers.old timers.new }
     ensures capacity { vec_capacity orders.new ≡ vec_capacity orders.old }
 {
@@ -39,10 +39,10 @@ pub fn visit_ready(
     let mut front = 0; // for the proof
     while let Some(number) = ready.pop_least() {
         let place = number as usize;
-        let seat = &mut seats[place];
-        seat.visit(touch, before, now, orders);
-        retime(timers, seat, now);
-        if !seat.has_gone {
+        let job_slot = &mut job_slots[place];
+        job_slot.visit(affected, before, now, orders);
+        retime(timers, job_slot, now);
+        if !job_slot.has_gone {
             visited += 1;
         } else {
             gone = gone.and(place);
@@ -52,40 +52,40 @@ pub fn visit_ready(
     (visited, gone)
 }
 
-/// Asks the job at this place, which heard already what happened to it, and no other. It counts it, unless it has gone.
+/// Asks the job at this place, which received already what happened to it, and no other. It counts it, unless it was removed.
 pub fn visit_at(
-    seats: &mut [Seat],
+    job_slots: &mut [JobSlot],
     timers: &mut TimerHeap,
     place: usize,
     now: Reading,
     orders: &mut Vec<Order>,
 ) -> (u32, Gone)
-    requires inside { place < length seats.old }
-    requires can { CanVisit nothing_for now now (is_other place) seats.old timers.old }
+    requires inside { place < length job_slots.old }
+    requires can { CanVisit nothing_for now now (is_other place) job_slots.old timers.old }
     requires room { vec_len orders.old + ORDERS ≤ vec_capacity orders.old }
-    ensures visits { VisitsTouched nothing_for now now (is_other place) seats.old seats.new
+    ensures visits { VisitsTouched nothing_for now now (is_other place) job_slots.old job_slots.new
         orders.old.items orders.new.items timers.new result.0 result.1 }
     ensures space { room timers.new ≡ room timers.old }
     ensures capacity { vec_capacity orders.new ≡ vec_capacity orders.old }
 {
-    let seat = &mut seats[place];
-    seat.ask(now, orders);
-    retime(timers, seat, now);
-    if !seat.has_gone {
+    let job_slot = &mut job_slots[place];
+    job_slot.ask(now, orders);
+    retime(timers, job_slot, now);
+    if !job_slot.has_gone {
         return (1, Gone::Nobody);
     }
     (0, Gone::One(place))
 }
 
-/// Gives the job's number its next moment; none, if the job is gone or has none. One that stays costs nothing.
-fn retime(timers: &mut TimerHeap, seat: &Seat, now: Reading)
+/// Gives the job's number its next wake-up time; none, if the job was removed or has none. A time that stays costs nothing.
+fn retime(timers: &mut TimerHeap, job_slot: &JobSlot, now: Reading)
     requires in_range { now.up ≤ MAX_UP }
-    requires room { seat.now.number < room timers.old }
-    ensures { Updates timers.old timers.new seat.now.number (moment_for seat.now now.up) }
+    requires room { job_slot.now.number < room timers.old }
+    ensures { Updates timers.old timers.new job_slot.now.number (moment_for job_slot.now now.up) }
 {
-    if seat.has_gone {
-        timers.renew(seat.number, None);
+    if job_slot.has_gone {
+        timers.renew(job_slot.number, None);
         return;
     }
-    timers.renew(seat.number, seat.core.next_moment(now));
+    timers.renew(job_slot.number, job_slot.core.next_moment(now));
 }

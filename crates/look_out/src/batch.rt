@@ -86,7 +86,7 @@ impl Batch {
     }
 
     /// The next answer: it is that of the first question which waits. False: none waits.
-    pub(crate) fn take_in(&mut self, answer: Answer) -> bool
+    pub(crate) fn apply(&mut self, answer: Answer) -> bool
         ensures { result ≡ true → IsDecidedAt self.old.next (Seen.Answered answer) self.old.entries.items self.new.entries.items }
     {
         let is_asked = self.decide(Seen::Answered(answer));

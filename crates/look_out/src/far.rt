@@ -7,19 +7,22 @@ ghost use Rattle.look_out.specs.Answers.{asked_in};
 use crate::answer::Answer;
 use crate::looking::{INVALID, look, refused};
 use crate::opening::{enter, open, program, search};
-use crate::question::LONGEST;
+use crate::question::{LONGEST, NEXT_START};
 use crate::told::Told;
 use crate::walking::may_go;
 use std::alloc::{AllocError, Global};
 use std::fs::{File, Files};
-use std::io;
 use std::io::{Read, Write};
 use std::os::fd::AsFd;
 use std::os::unix::net::UnixStream;
 use std::rt::Env;
+use std::{io, mem};
 
 /// How many bytes of questions are read at a time.
 const ROOM: usize = 4_096;
+
+/// How long a question may be. The first of a start has one byte more than the others.
+const MOST: usize = LONGEST + 1;
 
 /// What a helper has: what it holds open, the folder of the start that it was asked about, where nothing is asked now,
 /// and the question that still comes.
@@ -27,6 +30,8 @@ const ROOM: usize = 4_096;
 struct Far {
     alloc: Global,
     held: Vec<File>,
+    // What was opened for the start before.
+    older: Vec<File>,
     folder: String,
     told: Told,
     question: Vec<u8>,
@@ -43,6 +48,7 @@ pub fn serve<R: AllocGlobal + Clone + Drop + Env + Files<File = File>, S: Read +
     let mut far = Far {
         alloc,
         held: Vec::new(alloc),
+        older: Vec::new(alloc),
         folder: String::new(alloc),
         told: Told::new(alloc),
         question: Vec::new(alloc),
@@ -56,7 +62,7 @@ pub fn serve<R: AllocGlobal + Clone + Drop + Env + Files<File = File>, S: Read +
         }
         for byte in &room[..count] {
             answers.clear();
-            take_in(rt, &mut far, socket, &[*byte], &mut answers)?;
+            receive(rt, &mut far, socket, &[*byte], &mut answers)?;
             if !answers.is_empty() {
                 socket.write_all(answers.as_slice())?;
             }
@@ -66,7 +72,7 @@ pub fn serve<R: AllocGlobal + Clone + Drop + Env + Files<File = File>, S: Read +
 }
 
 // Answers each question that ends within the bytes.
-fn take_in<R: AllocGlobal + Clone + Drop + Env + Files<File = File>, S: Write>(
+fn receive<R: AllocGlobal + Clone + Drop + Env + Files<File = File>, S: Write>(
     rt: &R,
     far: &mut Far,
     socket: &mut S,
@@ -96,7 +102,7 @@ fn take_byte<R: AllocGlobal + Clone + Drop + Env + Files<File = File>, S: Write>
         let answer = answer_to(rt, far, socket);
         far.question.clear();
         answers.extend_from_slice(&answer.to_bytes())
-    } else if far.question.len() <= LONGEST {
+    } else if far.question.len() <= MOST {
         far.question.push(byte).map_err(AllocError::from)
     } else {
         Ok(())
@@ -109,11 +115,19 @@ fn answer_to<R: AllocGlobal + Clone + Drop + Env + Files<File = File>, S: Write>
     socket: &mut S,
 ) -> Answer {
     let none = Answer::Refused { error: INVALID };
-    if far.question.len() > LONGEST {
+    if far.question.len() > MOST {
         return none;
     }
     let Ok(text) = std::str::from_utf8(far.question.as_slice()) else {
         return none;
+    };
+    let text = match text.strip_prefix(NEXT_START) {
+        Some(first) => {
+            far.older = mem::replace(&mut far.held, Vec::new(far.alloc));
+            far.folder.clear();
+            first
+        }
+        None => text,
     };
     let Some((letter, path)) = text.split_once(' ') else {
         return none;
@@ -142,6 +156,7 @@ fn answer_to<R: AllocGlobal + Clone + Drop + Env + Files<File = File>, S: Write>
         }
         "f" => {
             far.held.clear();
+            far.older.clear();
             far.folder.clear();
             Answer::Absent
         }

@@ -201,6 +201,11 @@ impl<P: OpenProcess + Drop> Hung<P> {
         self.places.is_empty()
     }
 
+    /// Whether nothing hung, and something may be asked on each file system.
+    pub(crate) fn is_calm(&self) -> bool {
+        self.is_quiet() && !self.is_closed()
+    }
+
     /// The text that says to a helper where nothing is asked at this time, and how many questions it is.
     pub(crate) fn put_told(
         &self,

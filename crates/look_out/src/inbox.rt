@@ -101,11 +101,15 @@ fn step_in(bytes: [u8; LENGTH]) -> Option<usize> {
 }
 
 /// Names the step to who asked.
-pub(crate) fn name<S: Write>(socket: &mut S, text: &str) -> io::Result<()> {
+pub(crate) fn name<S: Write>(alloc: Global, socket: &mut S, text: &str) -> io::Result<()> {
     let Ok(length) = u64::try_from(text.len()) else {
         return Ok(());
     };
     let [a, b, c, d, e, f, g, h] = length.to_le_bytes();
-    socket.write_all(&[STEP, a, b, c, d, e, f, g, h])?;
-    socket.write_all(text.as_bytes())
+    let mut step = Vec::new(alloc);
+    step.extend_from_slice(&[STEP, a, b, c, d, e, f, g, h])?;
+    step.extend_from_slice(text.as_bytes())?;
+    let answer = socket.write_all(step.as_slice());
+    drop(step);
+    answer
 }

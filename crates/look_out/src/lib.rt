@@ -3,6 +3,7 @@
 //! waits half a second at most. Both remember what hung in a [`Hung`].
 #![tactic(auto)]
 
+mod ahead;
 mod answer;
 mod batch;
 mod far;
@@ -33,7 +34,7 @@ pub use helper::{NAME, no_answer};
 pub use hung::Hung;
 pub use left::MOST;
 pub use looks::Looks;
-pub use openings::{Asked, Openings};
+pub use openings::{Openings, QuestionOutcome};
 pub use question::{Asks, LONGEST, Question, stream_asked};
 
 /// What crosses the socket is the answer that was given.

@@ -27,7 +27,7 @@ pub(crate) fn refused(error: &io::Error) -> Answer {
 /// Checks the path. That nothing is there is an answer too, also if a folder above it is a file.
 pub(crate) fn look<R: AllocGlobal + Clone + Drop + Files>(rt: &R, path: &str) -> Answer {
     match fs::metadata(rt, path) {
-        Ok(data) => sight_of(rt, path, &data),
+        Ok(data) => observation_of(rt, path, &data),
         Err(error) => match error.kind() {
             ErrorKind::NotFound | ErrorKind::NotADirectory => Answer::Absent,
             _ => refused(&error),
@@ -35,7 +35,11 @@ pub(crate) fn look<R: AllocGlobal + Clone + Drop + Files>(rt: &R, path: &str) ->
     }
 }
 
-fn sight_of<R: AllocGlobal + Clone + Drop + Files>(rt: &R, path: &str, data: &Metadata) -> Answer {
+fn observation_of<R: AllocGlobal + Clone + Drop + Files>(
+    rt: &R,
+    path: &str,
+    data: &Metadata,
+) -> Answer {
     let stamp = match u64::try_from(data.mtime()) {
         Ok(seconds) => stamp_of(seconds, data.mtime_nsec().unsigned_abs()),
         Err(_) => 0,

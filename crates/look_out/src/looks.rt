@@ -139,7 +139,7 @@ impl Looks {
     fn ask_anew<P: OpenProcess + Drop>(&mut self, hung: &mut Hung<P>, up: u64) {
         self.text.clear();
         self.sent = 0;
-        self.let_go(hung, up);
+        self.release(hung, up);
     }
 
     // What is new of where nothing is asked goes before the next question, once none waits.
@@ -308,13 +308,13 @@ impl Looks {
             Err(error) => return Err(error),
         };
         match self.inbox.put(&room[..count]) {
-            Ok(()) => self.take_in(hung),
+            Ok(()) => self.receive(hung),
             Err(error) => Err(io::Error::from(error)),
         }
     }
 
     // Each answer is that to the first question that waits, after those that are owed.
-    fn take_in<P: OpenProcess + Drop>(&mut self, hung: &mut Hung<P>) -> io::Result<bool> {
+    fn receive<P: OpenProcess + Drop>(&mut self, hung: &mut Hung<P>) -> io::Result<bool> {
         let mut has_come = false;
         for _ in 0..u64::MAX {
             let answer = match self.inbox.next() {
@@ -342,7 +342,7 @@ impl Looks {
         if let Some(path) = self.batch.waiting() {
             hung.answered(path);
         }
-        self.batch.take_in(answer)
+        self.batch.apply(answer)
     }
 
     // The first question that waits hangs. The others are asked of another helper, but for those at the same place.
@@ -390,7 +390,7 @@ impl Looks {
     // The helper exited. What waits is asked once more, and the first question then no more; nothing, if none has ever
     // answered.
     fn lose<P: OpenProcess + Drop>(&mut self, hung: &mut Hung<P>, error: io::Error, up: u64) {
-        self.let_go(hung, up);
+        self.release(hung, up);
         self.losses = self.losses.saturating_add(1);
         if self.losses >= LOSSES {
             self.losses = 0;
@@ -404,7 +404,7 @@ impl Looks {
     }
 
     /// Kills the helper, if there is one: also one that was stopped. It is waited for later.
-    pub fn let_go<P: OpenProcess + Drop>(&mut self, hung: &mut Hung<P>, up: u64) {
+    pub fn release<P: OpenProcess + Drop>(&mut self, hung: &mut Hung<P>, up: u64) {
         if let Some(helper) = self.helper.take() {
             hung.end(helper, up);
         }

@@ -2,11 +2,12 @@
 
 ghost use Rattle.std.specs.Prelude.{◌≡◌, ℕ, None, Err, true, false, [], length, OnOk, OnErr};
 
+use crate::ahead::Ahead;
 use crate::answer::Answer;
 use crate::helper::{Helper, is_end, is_missing};
 use crate::hung::Hung;
 use crate::inbox::Inbox;
-use crate::question::{Asks, Question, can_be_asked};
+use crate::question::{Asks, NEXT_START, Question, can_be_asked};
 use crate::spare::{PATIENCE, Spare};
 use crate::telling::Telling;
 use std::alloc::Global;
@@ -25,7 +26,7 @@ const ROOM: usize = 512;
 
 /// What became of questions.
 #[derive(Clone, Copy)]
-pub enum Asked {
+pub enum QuestionOutcome {
     /// Each was answered, in their order.
     Answered,
     /// The question at this place got no answer in time: its path hangs.
@@ -41,11 +42,11 @@ pub enum Asked {
     Unstarted,
 }
 
-impl Asked {
+impl QuestionOutcome {
     /// The place of the question whose path hangs.
     pub fn silent_at(self) -> Option<usize> {
         match self {
-            Asked::Hangs(at) | Asked::StillHangs(at) => Some(at),
+            QuestionOutcome::Hangs(at) | QuestionOutcome::StillHangs(at) => Some(at),
             _ => None,
         }
     }
@@ -69,6 +70,7 @@ pub struct Openings {
     helper: Option<Helper>,
     telling: Telling,
     inbox: Inbox,
+    ahead: Ahead,
     // How many answers are still to come that nobody waits for.
     owed: usize,
     // What may be waited altogether for answers that don't come.
@@ -97,6 +99,7 @@ impl Openings {
             helper: None,
             telling: Telling::new(alloc),
             inbox: Inbox::new(alloc),
+            ahead: Ahead::new(alloc),
             owed: 0,
             spare: Spare::new(),
             is_open: false,
@@ -108,6 +111,9 @@ impl Openings {
     /// end without an answer take two seconds at most, one of them at paths that hung before, and half of the time
     /// after that. Then none is asked. The answers replace the contents of `answers`. A helper that gave no answer in
     /// time is kept no longer: what it says late is nobody's answer, and what it held is held no longer.
+    ///
+    /// What was opened for the questions before the last ones is closed. If all are answered and nothing hangs, those that are
+    /// [expected](Openings::expect) are sent. Asked next, they are not sent again.
     pub fn ask<
         P: OpenProcess + Drop,
         R: AllocGlobal + Clock + Files + Net + Processes<Started = P>,
@@ -118,21 +124,44 @@ impl Openings {
         questions: &[Question<'_>],
         answers: &mut Vec<Answer>,
         up: u64,
-    ) -> Asked
-        ensures late { (at : ℕ) → result ≡ Asked.Hangs at → self.new ≡ false }
-        ensures still { (at : ℕ) → result ≡ Asked.StillHangs at → (self.new ≡ self.old) × (answers.new.items ≡ []) }
-        ensures held { result ≡ Asked.Answered → (self.new ≡ true) × (length answers.new.items ≡ length questions.now) }
+    ) -> QuestionOutcome
+        ensures late { (at : ℕ) → result ≡ QuestionOutcome.Hangs at → self.new ≡ false }
+        ensures still { (at : ℕ) → result ≡ QuestionOutcome.StillHangs at → (self.new ≡ self.old) × (answers.new.items ≡ []) }
+        ensures held { result ≡ QuestionOutcome.Answered → (self.new ≡ true) × (length answers.new.items ≡ length questions.now) }
+    {
+        let asked = self.ask_now(rt, hung, questions, answers, up);
+        if matches!(asked, QuestionOutcome::Answered) {
+            self.send_ahead(hung, up);
+        }
+        self.ahead.forget_next();
+        asked
+    }
+
+    fn ask_now<
+        P: OpenProcess + Drop,
+        R: AllocGlobal + Clock + Files + Net + Processes<Started = P>,
+    >(
+        &mut self,
+        rt: &R,
+        hung: &mut Hung<P>,
+        questions: &[Question<'_>],
+        answers: &mut Vec<Answer>,
+        up: u64,
+    ) -> QuestionOutcome
+        ensures late { (at : ℕ) → result ≡ QuestionOutcome.Hangs at → self.new ≡ false }
+        ensures still { (at : ℕ) → result ≡ QuestionOutcome.StillHangs at → (self.new ≡ self.old) × (answers.new.items ≡ []) }
+        ensures held { result ≡ QuestionOutcome.Answered → (self.new ≡ true) × (length answers.new.items ≡ length questions.now) }
     {
         answers.clear();
         hung.reap();
         self.spare.go_on(up);
         let spare = self.spare;
         if let Some(at) = first_shut(rt, hung, spare, questions, up) {
-            return Asked::StillHangs(at);
+            return QuestionOutcome::StillHangs(at);
         }
         let text = match text_of(self.alloc, questions) {
             Ok(text) => text,
-            Err(error) => return Asked::Unasked(error),
+            Err(error) => return QuestionOutcome::Unasked(error),
         };
         let asking = Asking {
             text: text.as_slice(),
@@ -152,18 +181,19 @@ impl Openings {
             Ok(()) => {
                 self.is_known = true;
                 open_all(hung, questions, answers.as_slice());
-                Asked::Answered
+                QuestionOutcome::Answered
             }
             Err(Lack::Late) => {
                 let at = answers.len();
                 self.spare.spend(spent_since(rt, begun).max(patience));
                 self.give_up(rt, hung, path_at(questions, at), up, patience);
-                Asked::Hangs(at)
+                QuestionOutcome::Hangs(at)
             }
-            Err(Lack::Refused(_)) if is_missing(rt) => Asked::Unstarted,
-            Err(Lack::Refused(error)) => Asked::Refused(error),
-            Err(Lack::Lost(error)) if !self.is_known && is_end(&error) => Asked::Unstarted,
-            Err(Lack::Lost(error)) => Asked::Unasked(error),
+            Err(Lack::Refused(_)) if is_missing(rt) => QuestionOutcome::Unstarted,
+            Err(Lack::Refused(error)) => QuestionOutcome::Refused(error),
+            Err(Lack::Lost(error)) if !self.is_known && is_end(&error) =>
+                QuestionOutcome::Unstarted,
+            Err(Lack::Lost(error)) => QuestionOutcome::Unasked(error),
         }
     }
 
@@ -179,6 +209,10 @@ impl Openings {
         ensures late { result ≡ Err Lack.Late → self.new ≡ true }
     {
         answers.clear();
+        let is_sent = self.is_sent_ahead(hung, asking);
+        if !is_sent && self.ahead.is_sent() {
+            self.release(hung, asking.up);
+        }
         match self.begin(rt, hung) {
             Ok(()) => {}
             Err(error) => return Err(Lack::Refused(error)),
@@ -189,20 +223,43 @@ impl Openings {
         };
         self.owed = self.owed.saturating_add(told);
         let owed = self.owed;
+        let text = if is_sent { b"".as_slice() } else { asking.text };
         let answer = match &mut self.helper {
             Some(helper) => {
                 let news = self.telling.news();
                 let inbox = &mut self.inbox;
-                exchange(rt, helper, inbox, news, asking, owed, answers)
+                exchange(rt, helper, inbox, news, text, asking, owed, answers)
             }
             None => Err(Lack::Lost(io::Error::from(ErrorKind::NotFound))),
         };
         match answer {
-            Ok(()) => self.owed = 0,
+            Ok(()) => {
+                self.owed = 0;
+                self.ahead.begin();
+            }
             Err(Lack::Late) => {}
-            Err(_) => self.let_go(hung, asking.up),
+            Err(_) => self.release(hung, asking.up),
         }
         answer
+    }
+
+    // Whether the questions were sent ahead to the helper that is kept, and nothing hung since.
+    fn is_sent_ahead<P: OpenProcess + Drop>(&self, hung: &Hung<P>, asking: &Asking<'_>) -> bool
+        ensures { result ≡ true → self.now ≡ true }
+    {
+        self.helper.is_some() && hung.is_quiet() && self.ahead.has(asking.text, asking.up)
+    }
+
+    // Sends what is expected, unless something hangs or hung.
+    fn send_ahead<P: OpenProcess + Drop>(&mut self, hung: &Hung<P>, up: u64)
+        ensures { self.new ≡ self.old }
+    {
+        if !hung.is_calm() || !self.telling.is_empty() || self.spare.is_spent(false) {
+            return;
+        }
+        if let Some(helper) = &mut self.helper {
+            self.ahead.send(&mut helper.socket, up);
+        }
     }
 
     // Starts a helper, if there is none.
@@ -222,6 +279,7 @@ impl Openings {
                 self.owed = 0;
                 self.telling.begin();
                 self.inbox.clear();
+                self.ahead.begin();
                 self.is_open = reaches(rt, self.alloc, helper.id);
                 self.helper = Some(helper);
                 Ok(())
@@ -241,8 +299,23 @@ impl Openings {
         }
     }
 
-    /// What was opened is held no longer. It does not wait for that.
+    /// These questions are expected after the next ones: so their answers may be there once they are asked. If others are asked
+    /// then, or more than half a second later, the helper is replaced.
+    pub fn expect(&mut self, questions: &[Question<'_>])
+        ensures { self.new ≡ self.old }
+    {
+        match text_of(self.alloc, questions) {
+            Ok(text) => self.ahead.expect(text),
+            Err(_) => self.ahead.forget_next(),
+        }
+    }
+
+    /// What was opened is held no longer, or no longer than up to the next questions, if these were sent ahead. It does not wait
+    /// for that.
     pub fn forget<P: OpenProcess + Drop>(&mut self, hung: &mut Hung<P>, up: u64) {
+        if !self.ahead.may_close() {
+            return;
+        }
         let is_asked = match &mut self.helper {
             Some(helper) => helper.socket.write_all(b"f \0".as_slice()).is_ok(),
             None => return,
@@ -250,7 +323,7 @@ impl Openings {
         if is_asked {
             self.owed = self.owed.saturating_add(1);
         } else {
-            self.let_go(hung, up);
+            self.release(hung, up);
         }
     }
 
@@ -273,7 +346,7 @@ impl Openings {
     }
 
     /// Kills the helper that is kept, if there is one: also one that was stopped. It is waited for later.
-    pub fn let_go<P: OpenProcess + Drop>(&mut self, hung: &mut Hung<P>, up: u64)
+    pub fn release<P: OpenProcess + Drop>(&mut self, hung: &mut Hung<P>, up: u64)
         ensures { self.new ≡ false }
     {
         if let Some(helper) = self.helper.take() {
@@ -324,12 +397,13 @@ fn spent_since<R: Clock>(rt: &R, begun: io::Result<Instant>) -> u64 {
     }
 }
 
-// Sends the news and the questions, and takes in all answers that are owed and that were asked for.
+// Sends the news and the text, and takes in all answers that are owed and that were asked for.
 fn exchange<R: Clock>(
     rt: &R,
     helper: &mut Helper,
     inbox: &mut Inbox,
     news: &[u8],
+    text: &[u8],
     asking: &Asking<'_>,
     owed: usize,
     answers: &mut Vec<Answer>,
@@ -341,7 +415,7 @@ fn exchange<R: Clock>(
         Ok(since) => since,
         Err(error) => return Err(Lack::Lost(error)),
     };
-    match send(&mut helper.socket, news, asking.text) {
+    match send(&mut helper.socket, news, text) {
         Ok(()) => {}
         Err(error) => return Err(lack_of(error)),
     }
@@ -509,15 +583,15 @@ fn path_at<'a>(questions: &[Question<'a>], at: usize) -> &'a str {
     }
 }
 
-// `InvalidInput`: a path can't be asked about.
+// They belong to another start than those before. `InvalidInput`: a path can't be asked about.
 fn text_of(alloc: Global, questions: &[Question<'_>]) -> io::Result<Vec<u8>> {
     let mut text = Vec::new(alloc);
-    let mut answer = Ok(());
+    let mut answer = begin_start(&mut text, questions);
     for question in questions {
-        answer = put_question(&mut text, question);
         if answer.is_err() {
             break;
         }
+        answer = put_question(&mut text, question);
     }
     match answer {
         Ok(()) => Ok(text),
@@ -526,6 +600,15 @@ fn text_of(alloc: Global, questions: &[Question<'_>]) -> io::Result<Vec<u8>> {
             Err(error)
         }
     }
+}
+
+// No questions have no text.
+fn begin_start(text: &mut Vec<u8>, questions: &[Question<'_>]) -> io::Result<()> {
+    if questions.is_empty() {
+        return Ok(());
+    }
+    text.extend_from_slice(NEXT_START.as_bytes())?;
+    Ok(())
 }
 
 fn put_question(text: &mut Vec<u8>, question: &Question<'_>) -> io::Result<()> {

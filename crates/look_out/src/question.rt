@@ -32,6 +32,9 @@ pub enum Asks {
     ShutPath,
 }
 
+/// What is before the letter of a start's first question. What was opened for the start before the last one is closed.
+pub(crate) const NEXT_START: &str = "g";
+
 #[derive(Clone, Copy)]
 pub struct Question<'a> {
     pub asks: Asks,

@@ -45,6 +45,11 @@ impl Telling {
         Ok(count)
     }
 
+    /// Whether the helper has learned nothing.
+    pub(crate) fn is_empty(&self) -> bool {
+        self.told.is_empty()
+    }
+
     /// The text of the news.
     pub(crate) fn news(&self) -> &[u8] {
         self.news.as_slice()

@@ -26,7 +26,7 @@ struct Way {
 
 /// What a step came to.
 #[derive(Clone, Copy, PartialEq, Eq)]
-enum Step {
+enum WalkStep {
     /// It is made.
     Made,
     /// It leads over a link.
@@ -95,10 +95,10 @@ fn go<R: AllocGlobal + Files, S: Write>(
     }
     for _ in 0..STEPS {
         match make_step(rt, told, way)? {
-            Step::Made => {}
-            Step::Linked => name_way(socket, way)?,
-            Step::Over => return Ok(true),
-            Step::Shut => return Ok(false),
+            WalkStep::Made => {}
+            WalkStep::Linked => name_way(socket, way)?,
+            WalkStep::Over => return Ok(true),
+            WalkStep::Shut => return Ok(false),
         }
     }
     Ok(true)
@@ -113,7 +113,7 @@ fn name_way<S: Write>(socket: &mut S, way: &Way) -> io::Result<()> {
         Ok(text) => text,
         Err(error) => return Err(io::Error::from(error)),
     };
-    let answer = name(socket, text.as_str());
+    let answer = name(way.alloc, socket, text.as_str());
     drop(text);
     answer
 }
@@ -156,9 +156,9 @@ fn first_part(rest: &str) -> (&str, &str) {
 }
 
 // Goes to the next part of what lies before.
-fn make_step<R: AllocGlobal + Files>(rt: &R, told: &Told, way: &mut Way) -> io::Result<Step> {
+fn make_step<R: AllocGlobal + Files>(rt: &R, told: &Told, way: &mut Way) -> io::Result<WalkStep> {
     let Some(next) = next_of(way)? else {
-        return Ok(Step::Over);
+        return Ok(WalkStep::Over);
     };
     let Next {
         to,
@@ -168,11 +168,11 @@ fn make_step<R: AllocGlobal + Files>(rt: &R, told: &Told, way: &mut Way) -> io::
     way.rest = behind;
     if !is_name {
         way.gone = to;
-        return Ok(Step::Made);
+        return Ok(WalkStep::Made);
     }
     if told.is_shut(rt, to.as_str()) {
         drop(to);
-        return Ok(Step::Shut);
+        return Ok(WalkStep::Shut);
     }
     match rt.read_link(way.alloc, to.as_str()) {
         Ok(target) => {
@@ -181,7 +181,7 @@ fn make_step<R: AllocGlobal + Files>(rt: &R, told: &Told, way: &mut Way) -> io::
             let answer = follow(way, target.as_str());
             drop(target);
             answer?;
-            Ok(Step::Linked)
+            Ok(WalkStep::Linked)
         }
         Err(error) => {
             way.gone = to;
@@ -191,10 +191,10 @@ fn make_step<R: AllocGlobal + Files>(rt: &R, told: &Told, way: &mut Way) -> io::
 }
 
 // That a part is not a link is an error of its own.
-fn step_without_link(error: &io::Error) -> Step {
+fn step_without_link(error: &io::Error) -> WalkStep {
     match error.kind() {
-        ErrorKind::InvalidInput => Step::Made,
-        _ => Step::Over,
+        ErrorKind::InvalidInput => WalkStep::Made,
+        _ => WalkStep::Over,
     }
 }
 

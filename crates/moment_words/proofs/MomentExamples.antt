@@ -1,4 +1,4 @@
--- Worked examples: the days by date(1), the moments by hand.
+-- Worked examples: the days by date(1), the times worked out by a person.
 use Rattle.std.specs.Prelude.{◌≡◌, ℕ, Some, None, pos, codes, refl}
 use Rattle.history_model.specs.declared.CivilMinute.{CivilMinute}
 use Rattle.moment_words.specs.Dates.{days_to}

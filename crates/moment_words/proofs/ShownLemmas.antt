@@ -7,7 +7,7 @@ use Rattle.history_model.specs.Calendar.{Zone}
 use Rattle.moment_words.specs.Shown.{IsOn, IsShownIn, IsFirstShown}
 
 module _ (zone : Zone) (wanted : CivilMinute) (after until : ℕ) where
-  -- every minute at which it is shown comes behind the k-th
+  -- every minute at which it is shown comes after the k-th
   abbrev pub AreBehind : ℕ → Type 0
   AreBehind k = (n : ℕ) → IsShownIn zone wanted after until n → 60 * k < n
 

@@ -14,7 +14,8 @@ use Rattle.moment_words.specs.Shown.{IsFirstShown}
 abbrev pub with_time : CivilMinute → Time → CivilMinute
 with_time date time = record date { hour = time.hour; minute = time.minute }
 
--- the first second, of those three days about, at which the clock shows that date, and that minute or a later one; and the seconds beside it
+-- the first second, of the three days before and after, at which the clock shows that date, and that minute or a later one; plus
+-- the seconds
 abbrev pub IsFirstOf : Zone → CivilMinute → ℕ → ℕ → Option ℕ → Type 0
 IsFirstOf zone wanted seconds about r =
     (m : Option ℕ) × IsFirstShown zone wanted (about - REACH) (min (about + REACH) MAX_WALL) m

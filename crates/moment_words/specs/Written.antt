@@ -1,5 +1,5 @@
--- How moments are written: a second of Unix time; yesterday, today or a date, each also with a time of day behind it; a span before now; a time of
--- day alone.
+-- How times are written: a second of Unix time; yesterday, today or a date, each also with a time of day after it. Also a span
+-- before now, and a time of day alone.
 use Rattle.std.specs.Prelude.{ℕ, ◌+◌, ◌-◌, ◌*◌, Bool, true, false, ◌&&◌, ◌||◌, List, [], ◌∷◌, length, drop, Option, Some, None, option_map, pos, codes, nat_eq, nat_lt, nat_le, ◌==◌, if◌then◌else◌, slice_index, slice_range}
 use Rattle.std.specs.Char.{is_ascii_digit}
 use Rattle.std.specs.List.{list_all, starts_with}
@@ -9,7 +9,7 @@ use Rattle.moment_words.specs.declared.meaning.Time.{Time}
 use Rattle.moment_words.specs.declared.meaning.Moment.{Moment}
 use Rattle.moment_words.specs.declared.meaning.Moment.TheVariants.{Second, Ago, OfToday, OfYesterday, OfDate}
 
--- the decimal number that the digits are, behind those that stand for the first number
+-- the decimal number that the digits are, after those that write the first number
 abbrev pub value_behind : ℕ → List ℕ → ℕ
 value_behind value [] = value
 value_behind value (digit ∷ digits) = value_behind (value * 10 + (digit - 48)) digits
@@ -17,7 +17,7 @@ value_behind value (digit ∷ digits) = value_behind (value * 10 + (digit - 48))
 abbrev pub are_digits : List ℕ → Bool
 are_digits text = nat_lt 0 (length text) && list_all is_ascii_digit text
 
--- the decimal number that the text is, if it is no greater
+-- the decimal number that the text is, if it is at most `most`
 abbrev pub number_of : List ℕ → ℕ → Option ℕ
 number_of text most =
     if nat_le (value_behind 0 text) most && are_digits text then Some (value_behind 0 text) else None
@@ -39,7 +39,7 @@ unit_seconds unit =
     else if unit == 0x77 then Some (7 * 86_400)
     else None
 
--- so many of them
+-- the product of the number and the unit
 abbrev pub times : Option ℕ → Option ℕ → Option ℕ
 times (Some count) (Some seconds) = Some (count * seconds)
 times _ _ = None
@@ -70,7 +70,7 @@ time_of_day text =
     then time_by (pair_at text 0) (pair_at text 3) (pair_at text 6)
     else None
 
--- a time behind a space or a T; midnight if there is no text
+-- a time after a space or a T; midnight if there is no text
 abbrev pub time_after : List ℕ → Option Time
 time_after [] = Some (record { hour = 0; minute = 0; second = 0 })
 time_after (between ∷ text) =
@@ -92,7 +92,7 @@ abbrev pub at_time : Option CivilMinute → Option Time → Option Moment
 at_time (Some date) (Some time) = Some (OfDate date time)
 at_time _ _ = None
 
--- YYYY-MM-DD with a time behind it
+-- YYYY-MM-DD with a time after it
 abbrev pub begins_date : List ℕ → Bool
 begins_date text = (nat_le 10 (length text) && (slice_index text 4 == 0x2D)) && (slice_index text 7 == 0x2D)
 
@@ -118,7 +118,7 @@ ago text =
 abbrev pub spanned : List ℕ → Option Moment
 spanned text = if begins_span text then ago text else dated text
 
--- yesterday or today with a time behind it, or else one of the others
+-- yesterday or today with a time after it, or else one of the others
 abbrev pub worded : List ℕ → Option Moment
 worded text =
     if starts_with nat_eq text (codes "yesterday") then option_map OfYesterday (time_after (drop 9 text))

@@ -1,4 +1,4 @@
-//! Moments as people write them in words, and the second of Unix time that each means by a clock.
+//! Times as people write them, and the second of Unix time that each means by a clock.
 #![tactic(auto)]
 
 mod meaning;

@@ -1,4 +1,5 @@
-//! What a moment means by the clock of a zone. The clock is asked what it shows, minute by minute; no offset is reckoned with.
+//! What a written time means by the clock of a zone. The clock is asked what it shows, minute by minute; no offset is reckoned
+//! with.
 
 ghost use Rattle.std.specs.Prelude.{◌≡◌, ◌↔◌, ◌≤◌, ◌+◌, ◌*◌, IsTrue, IfSome};
 ghost use Rattle.history_model.specs.declared.TheConstants.{MAX_WALL};
@@ -10,7 +11,7 @@ ghost use Rattle.moment_words.specs.Meant.{IsFirstOf, IsOfDayBefore, Means, with
 use calendar_due::Zone;
 use history_model::{CivilMinute, MAX_WALL};
 
-/// So many seconds about a moment its day is looked for: three days. A zone is at most a day from UTC.
+/// How many seconds before and after a second of Unix time its day is looked for: three days. A zone is at most a day from UTC.
 pub const REACH: u64 = 259_200;
 
 /// A time of a day.
@@ -21,12 +22,12 @@ pub struct Time {
     pub second: u8,
 }
 
-/// A moment as it is written.
+/// A time as it is written.
 #[derive(Clone, Copy)]
 pub enum Moment {
     /// This second of Unix time.
     Second(u64),
-    /// So many seconds before now.
+    /// How many seconds before now.
     Ago(u64),
     /// This time of the present day, or of the day before.
     OfToday(Time),
@@ -35,9 +36,9 @@ pub enum Moment {
     OfDate(CivilMinute, Time),
 }
 
-/// The second of Unix time that the moment means at the second `now`, by a clock in the zone. Of a time of a day it is the first minute of
-/// that day at which the clock shows it, with the seconds behind; if the clock skips it, the first that follows. None if the clock shows no
-/// such minute: the date is none. Takes no memory.
+/// The second of Unix time that a written time means at the second `now`, by a clock in the zone. For a time of a day it is the
+/// first minute of that day at which the clock shows it, plus the seconds. If the clock skips it, it is the first that follows.
+/// None if the clock shows no such minute: the date does not exist. Takes no memory.
 pub fn second_of(moment: Moment, zone: &Zone, now: u64) -> Option<u64>
     requires { now ≤ MAX_WALL }
     ensures { Means (minute_at zone.now) now moment result }
@@ -117,7 +118,8 @@ fn minutes(at: &CivilMinute) -> u64
     60 * u64::from(at.hour) + u64::from(at.minute)
 }
 
-// The first second of the date by UTC, if it is not before 1970; at the latest that which a clock may show last. No clock is three days from it.
+// The first second of the date by UTC, if it is not before 1970; at the latest that which a clock may show last. Every clock is
+// less than three days from it.
 fn utc_midnight(date: &CivilMinute) -> u64
     ensures value { result ≡ midnight_by_utc date.now }
     ensures most { result ≤ MAX_WALL }

@@ -1,4 +1,4 @@
-//! How moments are written.
+//! How times are written.
 
 ghost use Rattle.std.specs.Prelude.{◌≡◌, ◌≤◌, ◌<◌, ◌+◌, ◌-◌, ◌*◌, ◌^◌, IfSome, IfNone, IsTrue, length};
 ghost use Rattle.history_model.specs.declared.TheConstants.{MAX_WALL};
@@ -8,23 +8,23 @@ ghost use Rattle.moment_words.specs.Written.{moment_in, worded, spanned, begins_
 use crate::meaning::{MIDNIGHT, Moment, Time};
 use history_model::{CivilMinute, MAX_WALL};
 
-/// What is wanted where a text names no moment.
+/// What is expected where a text is not a time.
 pub const WANTED: &str =
     "HH:MM, HH:MM:SS, a date (today, yesterday, YYYY-MM-DD), a date and a time, a span before now (-90s, -15m, -2h, -3d, -1w), or a second of Unix time up to 250000000000";
 
-/// The moment that the text names; None if it names none.
+/// The time that the text says; None if it says none.
 pub fn read_moment(text: &str) -> Option<Moment>
     ensures readable { IfSome result IsReadable }
     ensures exact { result ≡ moment_in text.now }
 {
     let text = text.as_bytes();
-    match number_in(text, MAX_WALL) {
+    match number_of_digits(text, MAX_WALL) {
         Some(second) => Some(Moment::Second(second)),
         None => read_words(text),
     }
 }
 
-// A moment that is no second of Unix time.
+// A time that is not a second of Unix time.
 fn read_words(text: &[u8]) -> Option<Moment>
     ensures readable { IfSome result IsReadable }
     ensures exact { result ≡ worded text.now }
@@ -75,16 +75,16 @@ fn read_ago(text: &[u8]) -> Option<Moment>
     }
 }
 
-// So many of the unit, in seconds.
+// A number of the unit, in seconds.
 fn span_in(digits: &[u8], unit: u8) -> Option<u64>
     ensures exact { result ≡ span_of digits.now unit }
 {
-    let count = number_in(digits, MAX_WALL)?;
+    let count = number_of_digits(digits, MAX_WALL)?;
     let seconds = seconds_of(unit)?;
     Some(count * seconds)
 }
 
-// A date with a time behind it, or else a time.
+// A date with a time after it, or else a time.
 fn read_dated(text: &[u8]) -> Option<Moment>
     ensures readable { IfSome result IsReadable }
     ensures exact { result ≡ dated text.now }
@@ -125,7 +125,7 @@ fn read_time(text: &[u8]) -> Option<Moment>
     }
 }
 
-// The time that stands behind a day, with a space or a T between them; midnight if nothing does.
+// The time after a day, with a space or a T between them; midnight if nothing follows.
 fn time_behind(rest: &[u8]) -> Option<Time>
     ensures time { IfSome result IsTime }
     ensures exact { result ≡ time_after rest.now }
@@ -202,8 +202,8 @@ fn two_digits(digits: [u8; 2], bound: u8) -> Option<u8>
     if number < bound { Some(number) } else { None }
 }
 
-// The decimal number that the digits are, if it is no greater.
-fn number_in(digits: &[u8], most: u64) -> Option<u64>
+// The decimal number that the digits are, if it is at most `most`.
+fn number_of_digits(digits: &[u8], most: u64) -> Option<u64>
     ensures most { IfSome result (λ number. number ≤ most) }
     ensures exact { result ≡ number_of digits.now most }
 {

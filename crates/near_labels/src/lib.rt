@@ -4,7 +4,7 @@
 use std::alloc::{AllocError, Global};
 use strsim::levenshtein;
 
-/// So many labels are named at most.
+/// How many labels are named at most.
 const MOST_NAMED: usize = 3;
 
 /// How many characters a label may be apart at most, to be near.

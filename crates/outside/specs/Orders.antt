@@ -11,7 +11,7 @@ use Rattle.child_edge.specs.declared.plain.EdgeCall.{EdgeCall}
 use Rattle.child_edge.specs.declared.plain.EdgeCall.TheVariants.{Start, Term, Kill, Close, Release}
 use Rattle.child_edge.specs.declared.plain.Scripted.{Scripted}
 use Rattle.child_edge.specs.declared.plain.Scripted.TheVariants.{Started}
-use Rattle.outside.specs.declared.unheard.Unheard.{Unheard}
+use Rattle.outside.specs.declared.pending_answer.PendingAnswer.{PendingAnswer}
 
 -- the call that an order of the job asks for; a job that was removed gives up its sockets
 abbrev pub call_by : ℕ → Act → EdgeCall
@@ -31,14 +31,14 @@ spawn_answer run (Started pid) = Spawned run pid
 spawn_answer run _ = SpawnRefused run
 
 -- the answer that the call gave, of the job with that number; the others have none
-abbrev pub answer_in : ToldCall → Option Unheard
+abbrev pub answer_in : ToldCall → Option PendingAnswer
 answer_in (Start job run conn, a) = Some (record { job = job; answer = spawn_answer run a })
 answer_in (Term job run, a) = Some (record { job = job; answer = Termed run (is_done a) })
 answer_in (Kill job run, a) = Some (record { job = job; answer = Killed run (is_done a) })
 answer_in _ = None
 
 -- the answers of these calls, in their order
-abbrev pub answers_in : List ToldCall → List Unheard
+abbrev pub answers_in : List ToldCall → List PendingAnswer
 answers_in entries = filter_map answer_in entries
 
 -- the calls, without their answers
@@ -46,7 +46,7 @@ abbrev pub calls_in : List ToldCall → List EdgeCall
 calls_in entries = map (λ entry. entry.0) entries
 
 -- the order is carried out by its one call, and the answer is that call's
-pub record Carries (order : Order) (pending : Option Unheard)
+pub record Executes (order : Order) (pending : Option PendingAnswer)
     (old new : Option (List ToldCall)) : Type 0 where
   pub answer : Scripted
   pub tells : Tells old ((call_of order, answer) ∷ []) new
@@ -61,5 +61,5 @@ IsTellable (Termed run ok) = run < 2 ^ 64
 IsTellable (Killed run ok) = run < 2 ^ 64
 
 -- so are those of the answer to an order
-abbrev pub IsTellablePending : Unheard → Type 0
+abbrev pub IsTellablePending : PendingAnswer → Type 0
 IsTellablePending pending = IsTellable pending.answer

@@ -4,10 +4,10 @@
 
 mod asking;
 mod order;
+mod pending_answer;
 mod store;
-mod unheard;
 
 pub use asking::ask_outside;
-pub use order::carry;
+pub use order::execute;
+pub use pending_answer::PendingAnswer;
 pub use store::{SettingStore, StoreFault};
-pub use unheard::Unheard;

@@ -1,11 +1,11 @@
 //! One order, carried out by one call.
 
-ghost use Rattle.outside.specs.Orders.{Carries, IsTellable, IsTellablePending, spawn_answer as spawned};
+ghost use Rattle.outside.specs.Orders.{Executes, IsTellable, IsTellablePending, spawn_answer as spawned};
 ghost use Rattle.child_edge.specs.Calls.{start_answer};
 ghost use Rattle.std.specs.Prelude.{◌≡◌, ◌<◌, IfSome};
 ghost use Rattle.std.specs.Result.{ForOk};
 
-use crate::Unheard;
+use crate::PendingAnswer;
 use child_edge::{ChildEdge, EdgeFault, SocketEdge};
 use history_model::definition::Def;
 use history_model::{Act, Answer, Order};
@@ -25,26 +25,30 @@ fn spawn_answer(run: u64, started: Result<u32, EdgeFault>) -> Answer
 /// Carries out the order by the one call that it asks for: `start`, `term` or `kill`; `close` for a connection, and
 /// `release` for a job that was removed. The last two have no answer. `def` is the definition of the order's job.
 #[tactic(auto, using(crate::proofs::OrdersLemmas::made_start, crate::proofs::OrdersLemmas::made_term, crate::proofs::OrdersLemmas::made_kill, crate::proofs::OrdersLemmas::made_close, crate::proofs::OrdersLemmas::made_release))]
-pub fn carry<E: ChildEdge + SocketEdge>(edge: &mut E, order: Order, def: &Def) -> Option<Unheard>
-    ensures carries { Carries order result (E.told edge.old) (E.told edge.new) }
+pub fn execute<E: ChildEdge + SocketEdge>(
+    edge: &mut E,
+    order: Order,
+    def: &Def,
+) -> Option<PendingAnswer>
+    ensures executes { Executes order result (E.told edge.old) (E.told edge.new) }
     ensures tellable { IfSome result IsTellablePending }
 {
     let job = order.job;
     match order.act {
         Act::Spawn { run, conn } => {
             let answer = spawn_answer(run, edge.start(job, run, def, conn));
-            Some(Unheard { job, answer })
+            Some(PendingAnswer { job, answer })
         }
         Act::Term { run } => {
             let ok = edge.term(job, run).is_ok();
-            Some(Unheard {
+            Some(PendingAnswer {
                 job,
                 answer: Answer::Termed { run, ok },
             })
         }
         Act::Kill { run } => {
             let ok = edge.kill(job, run).is_ok();
-            Some(Unheard {
+            Some(PendingAnswer {
                 job,
                 answer: Answer::Killed { run, ok },
             })

@@ -1,7 +1,7 @@
 -- How often a store asks its place for a connection.
 use Rattle.std.specs.Prelude.{◌≡◌, ◌<◌, ◌+◌, ℕ, Option, Some}
 
--- if it is known afterwards, it was known before, and this stands between
+-- if it is known afterwards, it was known before, and this holds between
 abbrev pub IsCounted : (ℕ → ℕ → Type 0) → Option ℕ → Option ℕ → Type 0
 IsCounted Stands old new =
     (after : ℕ) → new ≡ Some after → (before : ℕ) × (old ≡ Some before) × Stands before after

@@ -55,7 +55,7 @@ fn place_in_order(known: &[Known], label: &str) -> usize
 }
 
 /// The first index of the label.
-fn place_of(known: &[Known], label: &str) -> Option<usize>
+fn known_place(known: &[Known], label: &str) -> Option<usize>
     ensures { result ≡ position (is_known_as label.now) known.now }
 {
     known.iter().position(|one| one.is_of(label))
@@ -79,7 +79,7 @@ pub(crate) fn put(known: &mut Vec<Known>, one: Known)
     requires { vec_len known.old < vec_capacity known.old }
     ensures { TellAlike known.new.items (one ∷ known.old.items) }
 {
-    match place_of(known, one.label()) {
+    match known_place(known, one.label()) {
         Some(place) => known[place] = one,
         None => {
             let place = place_in_order(known, one.label());

@@ -14,7 +14,7 @@ ghost use Rattle.override_store.specs.Places.{IsAskedMore};
 ghost use Rattle.override_store.specs.KnownSettings.{AtHand, HasMade, HoldsKnown, HoldsLast, IsOneTooMany, StampsLast, TellAlike, known_as};
 
 use crate::known::{Known, is_one_too_many, put, rising};
-use crate::place::{StoreNews, StorePlace, Telling};
+use crate::place::{StorePlace, StoreStatus, Telling};
 use crate::renewal::{open_all, renewed, store_schema};
 use crate::stored_settings::fault_of;
 use crate::{OverrideStore, StoreFault};
@@ -80,10 +80,10 @@ fn settle<S: Alter + Drop, P: StorePlace<Connection<S>>>(
     pattern: &Schema,
     known: &[Known],
 ) {
-    place.tell(StoreNews::Anew);
+    place.tell(StoreStatus::Anew);
     if let Ok((store, is_mended)) = renewed(alloc, place, pattern, known, Telling::AllButBusy) {
         if is_mended {
-            place.tell(StoreNews::Mended);
+            place.tell(StoreStatus::Mended);
         }
         place.close(store.close_on());
     }
@@ -188,7 +188,7 @@ impl<S: Alter + Drop, P: StorePlace<Connection<S>> + Drop> LastingSettings<S, P>
         ensures store { self.new.store ≡ self.old.store }
         ensures place { self.new.place ≡ self.old.place }
     {
-        self.place.tell(StoreNews::Refused(fault));
+        self.place.tell(StoreStatus::Refused(fault));
         self.shut = Some(store);
     }
 
@@ -213,7 +213,7 @@ impl<S: Alter + Drop, P: StorePlace<Connection<S>> + Drop> LastingSettings<S, P>
         match store.set(label, disabled, changed) {
             Ok(()) => {
                 self.store = Some(store);
-                self.place.tell(StoreNews::Anew);
+                self.place.tell(StoreStatus::Anew);
                 true
             }
             Err(fault) => {
@@ -235,7 +235,7 @@ impl<S: Alter + Drop, P: StorePlace<Connection<S>> + Drop> LastingSettings<S, P>
     {
         if is_one_too_many(self.known.as_slice(), label) {
             if !self.is_full {
-                self.place.tell(StoreNews::TooMany);
+                self.place.tell(StoreStatus::TooMany);
             }
             self.is_full = true;
             return Err(NotKept::TooMany);

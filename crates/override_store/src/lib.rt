@@ -32,7 +32,7 @@ mod stored_settings;
 use history_model::Setting;
 pub use known::{Known, MOST_LABELS};
 pub use lasting_settings::{LastingSettings, NotKept, lasting};
-pub use place::{StoreNews, StorePlace, Telling};
+pub use place::{StorePlace, StoreStatus, Telling};
 use sqlite::{Alter, Connection, Error, ErrorCode};
 use sqlite_trees::store::Store;
 use std::alloc::Global;

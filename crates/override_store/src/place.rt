@@ -8,7 +8,7 @@ use std::alloc::Global;
 
 /// What a store reports.
 #[derive(Clone, Copy)]
-pub enum StoreNews {
+pub enum StoreStatus {
     /// A setting was refused, or the store could not be opened again.
     Refused(StoreFault),
     /// A setting of a new label was refused: `MOST_LABELS` have one.
@@ -22,7 +22,7 @@ pub enum StoreNews {
 /// Which refusals of an open are reported.
 #[derive(Clone, Copy)]
 pub enum Telling {
-    /// Those whose reason was not logged since `StoreNews::Anew`.
+    /// Those whose reason was not logged since `StoreStatus::Anew`.
     New,
     /// Not that another process has the store.
     AllButBusy,
@@ -40,5 +40,5 @@ pub trait StorePlace<C> {
     /// Moves what a log next to the database holds into it, and drops the connection.
     fn close(&self, conn: C);
 
-    fn tell(&self, news: StoreNews);
+    fn tell(&self, status: StoreStatus);
 }

@@ -13,7 +13,7 @@ ghost use Rattle.override_store.specs.Places.{IsAskedMore};
 
 use crate::known::{Known, are_same};
 use crate::open::open_tables;
-use crate::place::{StoreNews, StorePlace, Telling};
+use crate::place::{StorePlace, StoreStatus, Telling};
 use crate::sameness::Same;
 use crate::{OverrideStore, StoreFault};
 use sqlite::{Alter, Connection};
@@ -142,7 +142,7 @@ fn told<C, P: StorePlace<C>>(place: &P, telling: Telling, fault: StoreFault) -> 
     ensures { result ≡ fault }
 {
     match telling {
-        Telling::New | Telling::AllButBusy => place.tell(StoreNews::Refused(fault)),
+        Telling::New | Telling::AllButBusy => place.tell(StoreStatus::Refused(fault)),
     }
     fault
 }

@@ -1,5 +1,4 @@
--- What the parts of a job's pace keep of a past, and the tests of Due on moments and answers, at a
--- moment that is handed in.
+-- What the parts of a job's pace keep of a past, and the tests of Due on moments and answers, at a given moment.
 use Rattle.std.specs.Prelude.{ℕ, ◌*◌, Bool, true, false, not, ◌&&◌, ◌||◌, nat_lt, List, Option}
 use Rattle.std.specs.List.{filter, list_any}
 use Rattle.history_model.specs.Items.{History}

@@ -17,15 +17,15 @@ abbrev pub next_spawn_of : Spacing → ℕ → Option ℕ
 next_spawn_of s up =
     sooner (coming_after up (SECOND * s.seconds) s.order) (coming_after up SECOND s.refusal)
 
--- at this moment TERM may be ordered: for a run that is not struck, if neither TERM nor KILL was
--- answered ok, and no TERM was refused less than a second ago
+-- at this moment TERM may be ordered for a run that is not struck, if neither TERM nor KILL was answered ok. No TERM was refused
+-- less than a second ago
 abbrev pub may_term_of : Ends → ℕ → Bool
 may_term_of e up =
     not e.is_struck && not e.is_kill_done
     && (not e.is_term_done && not (is_newest_within SECOND up e.term_refused))
 
--- at this moment KILL may be ordered: for a struck run, or the timeout after the first TERM, if
--- no KILL was answered ok, and none was refused less than a second ago
+-- at this moment KILL may be ordered: for a struck run, or the timeout after the first TERM, if no KILL was answered ok. No KILL
+-- was refused less than a second ago
 abbrev pub may_kill_of : Ends → ℕ → Bool
 may_kill_of e up =
     (e.is_struck || (nat_lt 0 e.timeout && is_over (SECOND * e.timeout) up e.term_ordered))

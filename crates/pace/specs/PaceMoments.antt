@@ -8,7 +8,7 @@ use Rattle.history_model.specs.declared.TheConstants.{SECOND}
 abbrev pub IsPeriodEnd : Every → ℕ → Type 0
 IsPeriodEnd e m = IsPeriod e.seconds e.load_up m
 
--- so many milliseconds after the moment, if there is one
+-- this number of milliseconds after the moment, if there is one
 abbrev pub IsAfter : ℕ → Option ℕ → ℕ → Type 0
 IsAfter wait None m = ⊥
 IsAfter wait (Some moment) m = m ≡ moment + wait

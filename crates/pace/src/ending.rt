@@ -139,8 +139,8 @@ impl Ending {
         self.is_struck
     }
 
-    /// The least moment from which TERM may be ordered for a run that is being stopped; none if it was answered ok,
-    /// or KILL was, or a kickstart asks for KILL. That KILL may be due too is left aside.
+    /// The least time from which TERM may be ordered for a run that is being stopped. None if TERM or KILL was answered ok, or a
+    /// kickstart asks for KILL. It does not consider that KILL may be due too.
     pub fn term_at(&self) -> Option<u64>
         ensures step { (up : ℕ) → has_come result up ≡ may_term_of self.now up }
         ensures past { (past : History) → IsLawful past → self.now ≡ ends_of past → (up : ℕ) →
@@ -149,7 +149,7 @@ impl Ending {
         self.term_from() // for the proof
     }
 
-    /// That moment, by what is kept.
+    /// That time, by what is kept.
     fn term_from(&self) -> Option<u64>
         ensures { (up : ℕ) → has_come result up ≡ may_term_of self.now up }
     {
@@ -159,8 +159,8 @@ impl Ending {
         Some(self.term_refusal.map_or(0, |up| up + SECOND))
     }
 
-    /// The least moment from which KILL may be ordered for a run that is being stopped, or that a kickstart struck; none
-    /// if it was answered ok, or if no time to end runs.
+    /// The least time from which KILL may be ordered for a run that is being stopped, or that a `kickstart -k` asked to end. None
+    /// if KILL was answered ok, or if no time to end runs.
     pub fn kill_at(&self) -> Option<u64>
         ensures step { (up : ℕ) → has_come result up ≡ may_kill_of self.now up }
         ensures past { (past : History) → IsLawful past → self.now ≡ ends_of past → (up : ℕ) →
@@ -169,7 +169,7 @@ impl Ending {
         self.kill_from() // for the proof
     }
 
-    /// That moment, by what is kept.
+    /// That time, by what is kept.
     fn kill_from(&self) -> Option<u64>
         ensures { (up : ℕ) → has_come result up ≡ may_kill_of self.now up }
     {
@@ -189,8 +189,8 @@ impl Ending {
         }
     }
 
-    /// The next moment at which the time to end is over, or a refused TERM or KILL stops being too near. After the
-    /// present reading no other refusal has such a moment.
+    /// The next time at which the time to end is over, or a refused TERM or KILL stops being too near. After the present clock
+    /// reading no other refusal has such a time.
     pub fn next_moment(&self, up: u64) -> Option<u64>
         ensures value { result ≡ next_end_of self.now up }
         ensures next { IsNext (IsEndMoment self.now) up result }
@@ -200,7 +200,7 @@ impl Ending {
         self.next_from(up) // for the proof
     }
 
-    /// That moment, by what is kept.
+    /// That time, by what is kept.
     fn next_from(&self, up: u64) -> Option<u64>
         ensures value { result ≡ next_end_of self.now up }
         ensures next { IsNext (IsEndMoment self.now) up result }

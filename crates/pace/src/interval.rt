@@ -1,4 +1,4 @@
-//! The demands of a job that come again and again: `StartInterval` of launchd.plist(5).
+//! The start requests of a job that come again and again: `StartInterval` of launchd.plist(5).
 
 ghost use Rattle.std.specs.Prelude.{◌≡◌, ◌<◌, ◌≤◌, ◌↔◌, ℕ, ◌+◌, ◌*◌, ◌/◌, ◌^◌, IsTrue};
 ghost use Rattle.std.specs.Option.{ForSome};
@@ -13,7 +13,7 @@ ghost use Rattle.pace.specs.PaceMoments.{IsNext};
 use history_model::{MAX_UP, SECOND};
 use std::marker::Model;
 
-/// A demand each so many seconds after the load, if the definition has an interval.
+/// A start request at each end of a period, counted from the load, if the definition has an interval.
 #[derive(Drop)]
 pub struct Interval {
     seconds: Option<u32>,
@@ -37,7 +37,7 @@ impl Interval {
     ghost use Rattle.pace.specs.PaceMoments.{IsPeriodEnd};
     ghost use Rattle.pace.specs.OfPast.{every_of};
 
-    /// The interval of a job that was loaded at this moment. None: no demand ever.
+    /// The interval of a job that was loaded at this time. None: it never makes a start request.
     pub fn new(seconds: Option<u32>, load_up: u64) -> Interval
         requires positive { ForSome seconds (λ n. 0 < n) }
         requires in_range { load_up ≤ MAX_UP }
@@ -46,8 +46,8 @@ impl Interval {
         Interval { seconds, load_up }
     }
 
-    /// Whether a reading makes a demand: an end of a period lies after the previous reading, and not after this one.
-    /// However many lie there, as after a sleep, they are one demand.
+    /// Whether a clock reading makes a start request: an end of a period lies after the previous clock reading, and not after
+    /// this one. Several ends, as after a sleep, are one start request.
     pub fn crossed(&self, previous: u64, up: u64) -> bool
         ensures value { result ≡ crosses_interval self.now.seconds self.now.load_up previous up }
         ensures past { (past : History) (at : Reading) → self.now ≡ every_of past →

@@ -1,6 +1,6 @@
-//! When a job's orders may come: the interval between its demands, the wait between its spawns, and the end of a run.
-//! Moments are milliseconds of `up`; periods, throttles and timeouts are seconds, as launchd.plist(5) gives them. No
-//! call takes memory, and none is refused.
+//! When a job's orders may come: the interval between its start requests, the wait between its spawns, and the end of a run.
+//! Times are milliseconds of `up`; periods, throttles and timeouts are seconds, as launchd.plist(5) gives them. No call takes
+//! memory, and none is refused.
 #![tactic(auto)]
 
 ghost use Rattle.std.specs.Prelude.{◌≡◌, ◌≤◌, ◌+◌, ◌^◌, ◌<◌};
@@ -16,7 +16,7 @@ use history_model::MAX_UP;
 pub use interval::Interval;
 pub use throttle::Throttle;
 
-/// The lesser of two moments; the one that there is, if the other is none.
+/// The lesser of two times. If there is only one, it is that one.
 pub fn sooner(a: Option<u64>, b: Option<u64>) -> Option<u64>
     ensures { result ≡ sooner a b }
 {
@@ -27,7 +27,7 @@ pub fn sooner(a: Option<u64>, b: Option<u64>) -> Option<u64>
     }
 }
 
-/// A moment so many milliseconds after this one, if it is still to come.
+/// The time `wait` milliseconds after this one, if it is still to come.
 fn coming_after(up: u64, wait: u64, moment: Option<u64>) -> Option<u64>
     requires wait { wait < 2 ^ 43 }
     requires moment { ForSome moment (λ u. u ≤ MAX_UP) }

@@ -68,7 +68,7 @@ impl Throttle {
         self.last_refusal = Some(up);
     }
 
-    /// The least moment from which no spawn order lies less than the throttle back, and no refusal less than a second.
+    /// The least time from which no spawn order lies less than the throttle back, and no refusal less than a second.
     pub fn free_at(&self) -> u64
         ensures step { (up : ℕ) → nat_lt up result ≡ is_throttled_of self.now up }
         ensures past { (past : History) → IsLawful past → self.now ≡ spacing_of past → (up : ℕ) →
@@ -77,7 +77,7 @@ impl Throttle {
         self.free_from() // for the proof
     }
 
-    /// That moment, by what is kept.
+    /// That time, by what is kept.
     fn free_from(&self) -> u64
         ensures { (up : ℕ) → nat_lt up result ≡ is_throttled_of self.now up }
     {
@@ -92,8 +92,8 @@ impl Throttle {
         of_order.max(of_refusal)
     }
 
-    /// The next moment at which the last order or the last refusal stops being too near. After the present reading no other
-    /// order and no other refusal has such a moment.
+    /// The next time at which the last order or the last refusal stops being too near. After the present clock reading no other
+    /// order and no other refusal has such a time.
     pub fn next_moment(&self, up: u64) -> Option<u64>
         ensures value { result ≡ next_spawn_of self.now up }
         ensures next { IsNext (IsSpawnMoment self.now) up result }
@@ -103,7 +103,7 @@ impl Throttle {
         self.next_from(up) // for the proof
     }
 
-    /// That moment, by what is kept.
+    /// That time, by what is kept.
     fn next_from(&self, up: u64) -> Option<u64>
         ensures value { result ≡ next_spawn_of self.now up }
         ensures next { IsNext (IsSpawnMoment self.now) up result }

@@ -1,4 +1,4 @@
--- One word of a set of places is changed, or one more is added.
+-- One number of a set of places is changed, or one more is added.
 use Rattle.std.proofs.Common.{◌≡◌, ◌≢◌, ℕ, zero, suc, nat_lt, ◌+◌, ◌*◌, ◌/◌, ◌%◌, ◌^◌, ◌==◌, ◌<◌, ◌≤◌, List, [], ◌∷◌, ◌++◌, length, Bool, true, false, refl, sym, ap, ◌∙◌, subst, inl, inr, arith, w64}
 use Rattle.std.specs.Prelude.{slice_set, slice_index_or}
 use Rattle.std.proofs.lemmas.Bool.{cases_eq}
@@ -15,7 +15,7 @@ get-zero [] (suc k) = refl
 get-zero (w ∷ ws) zero = refl
 get-zero (w ∷ ws) (suc k) = get-zero ws k
 
--- one more word without a bit adds no place
+-- one more number without a bit adds no place
 pub more-words : (words : List ℕ) (place : ℕ) → has_bit (words ++ 0 ∷ []) place ≡ has_bit words place
 more-words words place = ap (λ w. bit_at w (place % 64) == 1) (get-zero words (place / 64))
 
@@ -34,12 +34,12 @@ get-other (w ∷ ws) (suc k) (suc j) word differ = get-other ws k j word (λ sam
 one-is : (n m : ℕ) → n ≡ m → (n == 1) ≡ (m == 1)
 one-is n m same = ap (λ x. x == 1) same
 
--- what of the words goes by the word at one place, if it alone is another
+-- what of the numbers goes by the number at one place, if it alone is another
 module _ (words : List ℕ) (at word : ℕ) (within : at < length words) where
   word-at : (place : ℕ) → place / 64 ≡ at → has_bit (slice_set words at word) place ≡ (bit_at word (place % 64) == 1)
   word-at place is = ap (λ w. bit_at w (place % 64) == 1) (ap (λ k. slice_index_or (slice_set words at word) k 0) is ∙ get-set words at word within)
 
-  -- if each bit of the word but one is as it was, so is each place but one
+  -- if each bit of the number but one is as it was, so is each place but one
   pub others-stay : (place : ℕ) → place / 64 ≡ at → ((bit : ℕ) → bit < 64 → bit ≢ place % 64 → bit_at word bit ≡ bit_at (slice_index_or words at 0) bit) →
       (other : ℕ) → other ≢ place → has_bit (slice_set words at word) other ≡ has_bit words other
   others-stay place is same other differ = elim (cases_eq (other / 64) at) [
@@ -53,11 +53,11 @@ module _ (words : List ℕ) (at word : ℕ) (within : at < length words) where
   pub own-bit : (place : ℕ) → place / 64 ≡ at → (bit : ℕ) → bit_at word (place % 64) ≡ bit → has_bit (slice_set words at word) place ≡ (bit == 1)
   own-bit place is bit own = word-at place is ∙ one-is (bit_at word (place % 64)) bit own
 
--- no place of a word without a bit is among them
+-- no place of a number without a bit is among them
 pub none-in : (words : List ℕ) (at : ℕ) → slice_index_or words at 0 ≡ 0 → (place : ℕ) → place / 64 ≡ at → has_bit words place ≡ false
 none-in words at none place is = ap (λ w. bit_at w (place % 64) == 1) (ap (λ k. slice_index_or words k 0) is ∙ none) ∙ ap (λ b. b == 1) (bit_at-zero (place % 64))
 
--- nor is one past the last word
+-- nor is one past the last number
 past : (words : List ℕ) (k : ℕ) → length words ≤ k → slice_index_or words k 0 ≡ 0
 past [] zero over = refl
 past [] (suc k) over = refl
@@ -72,7 +72,7 @@ word-is [] k d within = absurd (omega (arith, within))
 word-is (w ∷ ws) zero d within = refl
 word-is (w ∷ ws) (suc k) d within = word-is ws k d (omega (arith, within))
 
--- no place before the lowest bit of the first word with a bit is among them
+-- no place before the lowest bit of the first number with a bit is among them
 pub none-before : (words : List ℕ) (at bit : ℕ) → ((k : ℕ) → k < at → slice_index_or words k 0 ≡ 0) → ((i : ℕ) → i < bit → bit_at (slice_index_or words at 0) i ≡ 0) → bit < 64 →
     (lesser : ℕ) → lesser < at * 64 + bit → has_bit words lesser ≡ false
 none-before words at bit low none small lesser less = go (nat_lt (lesser / 64) at) refl

@@ -1,5 +1,5 @@
--- What a contract sees of a set of places: which are among them, and for which there is room. It is
--- kept in words of 64 bits, place by place, from the lowest bit of the first word on.
+-- What a contract sees of a set of places: which are among them, and for which there is room. It is kept in numbers of 64 bits,
+-- place by place, from the lowest bit of the first number on.
 use Rattle.std.specs.Prelude.{◌≡◌, ◌≢◌, ℕ, ◌<◌, ◌≤◌, ◌*◌, ◌/◌, ◌%◌, ◌^◌, ◌==◌, Bool, true, false, List, length, slice_index_or, Option, Some, None}
 use Rattle.std.specs.Int.{bit_at}
 
@@ -18,7 +18,7 @@ has_place places place = has_bit places.words place
 abbrev pub place_room : Places → ℕ
 place_room places = 64 * length places.words
 
--- each place of the words is below 2 ^ 32
+-- each place of the numbers is below 2 ^ 32
 abbrev pub AreFew : List ℕ → Type 0
 AreFew words = length words ≤ 2 ^ 26
 
@@ -47,7 +47,7 @@ abbrev pub IsLeastTaken : Places → Option ℕ → Places → Type 0
 IsLeastTaken old None new = (new ≡ old) × ((place : ℕ) → has_place old place ≡ false)
 IsLeastTaken old (Some place) new = Pops old new place
 
--- the word is the first that has a bit, or none has one
+-- the number is the first that has a bit set, or none has one
 abbrev pub IsFirstWord : List ℕ → Option ℕ → Type 0
 IsFirstWord words None = (k : ℕ) → slice_index_or words k 0 ≡ 0
 IsFirstWord words (Some at) =

@@ -1,5 +1,5 @@
-//! A set of places, each below a room that is made before: one bit a place, in words. The least of them is found by words, so
-//! a set of which few places are marked costs little to empty. Only `new` and `reserve` take memory.
+//! A set of places, each below a room that is made before: one bit a place, in numbers of 64 bits. The least place is found by
+//! whole numbers, so a set of which few places are marked costs little to empty. Only `new` and `reserve` take memory.
 #![tactic(auto)]
 
 ghost use Rattle.std.specs.Prelude.{◌≡◌, ◌<◌, ◌≤◌, OnOk, []};
@@ -8,7 +8,7 @@ ghost use Rattle.place_set.specs.Places.{IsFirstWord};
 use std::alloc::{AllocError, Global};
 use std::marker::Model;
 
-/// Places. To a contract, the words whose bits are set for the places among them, which only `has_place` and `place_room` read.
+/// Places. To a contract, the numbers whose bits are set for the places among them, which only `has_place` and `place_room` read.
 #[derive(Drop)]
 pub struct PlaceSet {
     words: Vec<u64>,
@@ -74,7 +74,7 @@ impl PlaceSet {
     }
 }
 
-/// The place of the first word that has a bit; none if no word has one.
+/// The index of the first number that has a bit set; none if no number has one.
 fn first_word(words: &[u64]) -> Option<usize>
     ensures { IsFirstWord words.now result }
 {

@@ -6,8 +6,8 @@ use Rattle.std.specs.List.{flat_map}
 abbrev pub is_control : ℕ → Bool
 is_control c = nat_lt c 0x20 || (nat_lt 0x7E c && nat_lt c 0xA0)
 
--- a mark of direction (the property Bidi_Control of Unicode): the Arabic letter mark, the marks from left to right and from right
--- to left, the embeddings and overrides, and the isolates
+-- a bidirectional control character (the property Bidi_Control of Unicode). These are the Arabic letter mark, the marks from left
+-- to right and from right to left, the embeddings and those that set a direction, and the isolates
 abbrev pub is_direction_mark : ℕ → Bool
 is_direction_mark c =
     (c == 0x61C || c == 0x200E || c == 0x200F) || (nat_lt 0x2029 c && nat_lt c 0x202F)

@@ -1,5 +1,5 @@
-//! Texts of others (labels, paths, reasons), as they are written to a terminal, a page or standard error: nothing in them moves the cursor, begins
-//! a line or turns the direction of the text.
+//! Texts of others (labels, paths, reasons), as they are written to a terminal, a page or standard error. Nothing in them moves
+//! the cursor, begins a line or turns the direction of the text.
 #![tactic(auto)]
 
 ghost use Rattle.std.specs.Prelude.{◌≡◌, ◌++◌, false, IfOk, OnOk, string_bytes, chars};
@@ -39,7 +39,7 @@ pub fn plain_char(c: char) -> char
     if is_hidden(c) { '\u{FFFD}' } else { c }
 }
 
-/// Whether it is a control character (C0, DEL or C1), or a mark of direction (`Bidi_Control` of Unicode).
+/// Whether it is a control character (C0, DEL or C1), or a bidirectional control character (`Bidi_Control` of Unicode).
 pub fn is_hidden(c: char) -> bool
     ensures { result ≡ is_hidden c }
 {

@@ -9,7 +9,7 @@ use crate::elements::{Element, Leaf, element_named};
 use crate::fault::{ListFault, Wrong};
 use crate::integers::{Integer, integer_of};
 use crate::lines::line_behind;
-use crate::marks::{Mark, behind_head, is_blank, next_mark};
+use crate::marks::{Token, behind_head, is_blank, next_mark};
 use crate::reals::real_of;
 use json::Writer;
 use json_kinds::json_value;
@@ -37,7 +37,7 @@ enum Inside {
 
 /// How far the list is read.
 #[derive(Clone, Copy, PartialEq)]
-enum Stage {
+enum ReadStage {
     /// `<plist>` is not read yet.
     Before,
     /// The DOCTYPE line is read, and `<plist>` not yet.
@@ -61,7 +61,7 @@ struct Reading<'a> {
 #[derive(Drop)]
 struct Making<'a> {
     writer: Writer,
-    stage: Stage,
+    stage: ReadStage,
     /// Each `<dict>` and `<array>` that is open, the innermost last.
     open: Vec<Inside>,
     reading: Option<Reading<'a>>,
@@ -91,7 +91,7 @@ pub fn json_of(alloc: Global, bytes: &[u8]) -> Result<Vec<u8>, ListFault<'_>>
     };
     let mut making = Making {
         writer: Writer::new(Vec::new(alloc)),
-        stage: Stage::Before,
+        stage: ReadStage::Before,
         open: Vec::new(alloc),
         reading: None,
         text: String::new(alloc),
@@ -185,8 +185,8 @@ fn read_all<'a>(text: &'a str, making: &mut Making<'a>) -> Option<(Wrong<'a>, us
     for _ in 0..=text.len() {
         let left = rest.len();
         match next_mark(rest) {
-            Ok((Mark::End, _)) => {
-                return if making.stage == Stage::Done {
+            Ok((Token::End, _)) => {
+                return if making.stage == ReadStage::Done {
                     None
                 } else {
                     Some((Wrong::Because("it ends before </plist>", ""), left))
@@ -206,10 +206,10 @@ fn read_all<'a>(text: &'a str, making: &mut Making<'a>) -> Option<(Wrong<'a>, us
 }
 
 // How many bytes of a text come before what is wrong in it: inside of an element with a text, or between elements.
-fn front_of(mark: Mark<'_>, is_inside: bool) -> usize {
+fn front_of(mark: Token<'_>, is_inside: bool) -> usize {
     match mark {
-        Mark::Text(text) if is_inside => front_of_wrong(text),
-        Mark::Text(text) | Mark::Plain(text) if !is_inside => {
+        Token::Text(text) if is_inside => front_of_wrong(text),
+        Token::Text(text) | Token::Plain(text) if !is_inside => {
             text.len()
                 .saturating_sub(text.trim_start_matches(is_blank).len())
         }
@@ -217,7 +217,7 @@ fn front_of(mark: Mark<'_>, is_inside: bool) -> usize {
     }
 }
 
-fn take<'a>(making: &mut Making<'a>, mark: Mark<'a>) -> Result<(), Wrong<'a>> {
+fn take<'a>(making: &mut Making<'a>, mark: Token<'a>) -> Result<(), Wrong<'a>> {
     match making.reading {
         Some(reading) => take_text(making, reading, mark),
         None => take_between(making, mark),
@@ -228,46 +228,46 @@ fn take<'a>(making: &mut Making<'a>, mark: Mark<'a>) -> Result<(), Wrong<'a>> {
 fn take_text<'a>(
     making: &mut Making<'a>,
     reading: Reading<'a>,
-    mark: Mark<'a>,
+    mark: Token<'a>,
 ) -> Result<(), Wrong<'a>> {
     match mark {
-        Mark::Text(text) => add_decoded(text, &mut making.text),
-        Mark::Plain(text) => Ok(add_plain(text, &mut making.text)?),
-        Mark::Close(name) if name == reading.name => {
+        Token::Text(text) => add_decoded(text, &mut making.text),
+        Token::Plain(text) => Ok(add_plain(text, &mut making.text)?),
+        Token::Close(name) if name == reading.name => {
             making.reading = None;
             let put = end_leaf(making, reading);
             making.text.clear();
             put
         }
-        Mark::Close(_) | Mark::Open(_) | Mark::Empty(_) | Mark::Doctype => {
+        Token::Close(_) | Token::Open(_) | Token::Empty(_) | Token::Doctype => {
             Err(Wrong::Because("<$> is not closed before the next element", reading.name))
         }
-        Mark::Nothing | Mark::End => Ok(()),
+        Token::Nothing | Token::End => Ok(()),
     }
 }
 
 // Takes a mark between elements.
-fn take_between<'a>(making: &mut Making<'a>, mark: Mark<'a>) -> Result<(), Wrong<'a>> {
+fn take_between<'a>(making: &mut Making<'a>, mark: Token<'a>) -> Result<(), Wrong<'a>> {
     match mark {
-        Mark::Text(text) | Mark::Plain(text) => {
+        Token::Text(text) | Token::Plain(text) => {
             if text.trim_start_matches(is_blank).is_empty() {
                 Ok(())
             } else {
                 Err(Wrong::Because("there is text between elements", ""))
             }
         }
-        Mark::Open(name) => begin(making, name),
-        Mark::Empty(name) => {
+        Token::Open(name) => begin(making, name),
+        Token::Empty(name) => {
             begin(making, name)?;
             end_empty(making, name)
         }
-        Mark::Close(name) => end(making, name),
-        Mark::Doctype if making.stage == Stage::Before => {
-            making.stage = Stage::Named;
+        Token::Close(name) => end(making, name),
+        Token::Doctype if making.stage == ReadStage::Before => {
+            making.stage = ReadStage::Named;
             Ok(())
         }
-        Mark::Doctype => Err(Wrong::Because("the DOCTYPE line comes after <plist>", "")),
-        Mark::Nothing | Mark::End => Ok(()),
+        Token::Doctype => Err(Wrong::Because("the DOCTYPE line comes after <plist>", "")),
+        Token::Nothing | Token::End => Ok(()),
     }
 }
 
@@ -283,8 +283,8 @@ fn end_empty<'a>(making: &mut Making<'a>, name: &'a str) -> Result<(), Wrong<'a>
 
 // Begins the element of this name.
 fn begin<'a>(making: &mut Making<'a>, name: &'a str) -> Result<(), Wrong<'a>> {
-    if name == ROOT && (making.stage == Stage::Before || making.stage == Stage::Named) {
-        making.stage = Stage::Within;
+    if name == ROOT && (making.stage == ReadStage::Before || making.stage == ReadStage::Named) {
+        making.stage = ReadStage::Within;
         return Ok(());
     }
     let Some(element) = element_named(name) else {
@@ -307,9 +307,9 @@ fn begin<'a>(making: &mut Making<'a>, name: &'a str) -> Result<(), Wrong<'a>> {
 fn misplaced(making: &Making<'_>, element: Element) -> Option<&'static str> {
     let is_key = matches!(element, Element::Leaf(Leaf::Key));
     match making.stage {
-        Stage::Before | Stage::Named => return Some("<$> comes before <plist>"),
-        Stage::Behind | Stage::Done => return Some("<$> comes after the list's value"),
-        Stage::Within => {}
+        ReadStage::Before | ReadStage::Named => return Some("<$> comes before <plist>"),
+        ReadStage::Behind | ReadStage::Done => return Some("<$> comes after the list's value"),
+        ReadStage::Within => {}
     }
     match making.open.last() {
         Some(Inside::Key) if !is_key => Some("<$> is where a <key> is expected"),
@@ -335,11 +335,11 @@ fn open<'a>(making: &mut Making<'a>, inside: Inside) -> Result<(), Wrong<'a>> {
 
 // Ends the `<dict>`, the `<array>` or the list.
 fn end<'a>(making: &mut Making<'a>, name: &'a str) -> Result<(), Wrong<'a>> {
-    if name == ROOT && making.stage == Stage::Behind {
-        making.stage = Stage::Done;
+    if name == ROOT && making.stage == ReadStage::Behind {
+        making.stage = ReadStage::Done;
         return Ok(());
     }
-    if name == ROOT && making.stage == Stage::Within && making.open.is_empty() {
+    if name == ROOT && making.stage == ReadStage::Within && making.open.is_empty() {
         return Err(Wrong::Because("<$> has no value in it", name));
     }
     let put = match (making.open.pop(), name) {
@@ -363,7 +363,7 @@ fn value_ended(making: &mut Making<'_>) {
                 *inside = Inside::Key;
             }
         }
-        None => making.stage = Stage::Behind,
+        None => making.stage = ReadStage::Behind,
     }
 }
 

@@ -4,7 +4,7 @@ use crate::fault::Wrong;
 
 /// What comes next in a text.
 #[derive(Clone, Copy)]
-pub(crate) enum Mark<'a> {
+pub(crate) enum Token<'a> {
     /// `<NAME>`
     Open(&'a str),
     /// `</NAME>`
@@ -63,15 +63,15 @@ pub(crate) fn behind_head(text: &str) -> Result<&str, Wrong<'_>> {
 }
 
 /// The next mark, and what follows it. Refused: a mark that does not end, an attribute, and declarations of the text's own.
-pub(crate) fn next_mark(text: &str) -> Result<(Mark<'_>, &str), Wrong<'_>> {
+pub(crate) fn next_mark(text: &str) -> Result<(Token<'_>, &str), Wrong<'_>> {
     if text.is_empty() {
-        return Ok((Mark::End, text));
+        return Ok((Token::End, text));
     }
     let Some(inner) = text.strip_prefix('<') else {
         let end = text.find('<').unwrap_or(text.len());
         return match text.split_at_checked(end) {
-            Some((front, behind)) => Ok((Mark::Text(front), behind)),
-            None => Ok((Mark::Text(text), "")),
+            Some((front, behind)) => Ok((Token::Text(front), behind)),
+            None => Ok((Token::Text(text), "")),
         };
     };
     if let Some(inner) = inner.strip_prefix("!--") {
@@ -85,7 +85,7 @@ pub(crate) fn next_mark(text: &str) -> Result<(Mark<'_>, &str), Wrong<'_>> {
     }
     if let Some(inner) = inner.strip_prefix("![CDATA[") {
         return match inner.split_once("]]>") {
-            Some((plain, behind)) => Ok((Mark::Plain(plain), behind)),
+            Some((plain, behind)) => Ok((Token::Plain(plain), behind)),
             None => Err(Wrong::Because("a CDATA section has no end", "")),
         };
     }
@@ -95,7 +95,7 @@ pub(crate) fn next_mark(text: &str) -> Result<(Mark<'_>, &str), Wrong<'_>> {
     if tag.starts_with('!') {
         return match declaration(tag) {
             Some(why) => Err(Wrong::Because(why, "")),
-            None => Ok((Mark::Doctype, behind)),
+            None => Ok((Token::Doctype, behind)),
         };
     }
     match tag_of(tag) {
@@ -108,9 +108,9 @@ fn passed<'a>(
     inner: &'a str,
     end: &str,
     why: &'static str,
-) -> Result<(Mark<'a>, &'a str), Wrong<'a>> {
+) -> Result<(Token<'a>, &'a str), Wrong<'a>> {
     match inner.split_once(end) {
-        Some((_, behind)) => Ok((Mark::Nothing, behind)),
+        Some((_, behind)) => Ok((Token::Nothing, behind)),
         None => Err(Wrong::Because(why, "")),
     }
 }
@@ -127,9 +127,9 @@ fn declaration(tag: &str) -> Option<&'static str> {
 }
 
 // The mark whose inner text this is.
-fn tag_of(tag: &str) -> Result<Mark<'_>, Wrong<'_>> {
+fn tag_of(tag: &str) -> Result<Token<'_>, Wrong<'_>> {
     if let Some(name) = tag.strip_prefix('/') {
-        return Ok(Mark::Close(name.trim_end_matches(is_blank)));
+        return Ok(Token::Close(name.trim_end_matches(is_blank)));
     }
     let inner = tag.strip_suffix('/');
     let (name, rest) = match inner.unwrap_or(tag).split_once(is_blank) {
@@ -142,9 +142,9 @@ fn tag_of(tag: &str) -> Result<Mark<'_>, Wrong<'_>> {
         return Err(Wrong::Because("<$> has an attribute that no property list has", name));
     }
     Ok(if inner.is_some() {
-        Mark::Empty(name)
+        Token::Empty(name)
     } else {
-        Mark::Open(name)
+        Token::Open(name)
     })
 }
 

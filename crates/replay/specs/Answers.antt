@@ -17,7 +17,7 @@ IsReplied e old new line =
 
 -- ---- the opening
 
--- a machine that the line opens, for which the table stands
+-- a machine that the line opens, which the table represents
 abbrev pub IsOpened : List ℕ → Option Table → Type 0
 IsOpened line None = IsNoHeader line
 IsOpened line (Some table) = (s : State) × Opens line s × KeepsState table s

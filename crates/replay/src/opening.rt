@@ -1,4 +1,4 @@
-//! Opens the table of jobs that a header's line tells.
+//! Opens the table of jobs for a header's line.
 ghost use Rattle.std.specs.Prelude.{IfOk};
 ghost use Rattle.replay.specs.Answers.{IsOpenedFrom, IsOpened};
 
@@ -18,7 +18,7 @@ fn opened(alloc: Global, header: Header) -> Result<Option<JobTable>, AllocError>
     }
 }
 
-/// The table that a header's line opens, or `None`, if the line is no header that can be read.
+/// The table that a header's line opens, or `None`, if the line is not a readable header.
 pub(crate) fn open(alloc: Global, line: &[u8]) -> Result<Option<JobTable>, AllocError>
     ensures { IfOk result (IsOpened line.now) }
 {

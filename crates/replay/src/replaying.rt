@@ -8,7 +8,7 @@ use replay_loop::{ReplayFault, run_within};
 use std::alloc::Global;
 use std::io::{Read, Write};
 
-/// Replays a journal in at most so many reads: a header line, then one event a line, each answered by one outcome line.
+/// Replays a journal in at most `reads` reads: a header line, then one event a line, each answered by one outcome line.
 pub fn replay_within<R: Read, W: Write>(
     alloc: Global,
     reader: &mut R,

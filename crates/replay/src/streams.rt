@@ -8,7 +8,7 @@ use replay_loop::ReplayFault;
 use std::io;
 use std::io::{BufWriter, Write};
 
-/// Replays standard input; the exit status tells how it ended.
+/// Replays standard input, and returns the exit status for how it ended.
 pub fn replay_input<R: Input + Print + AllocGlobal>(rt: &R) -> u8 {
     let Ok(mut writer) = BufWriter::new(rt.alloc(), io::writer(rt)) else {
         return NO_MEMORY;

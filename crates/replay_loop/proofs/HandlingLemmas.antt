@@ -122,7 +122,7 @@ long_header output empty f g piece old new held holds refused is none h =
     let (first, kept, shown) = no_header_yet output empty old new held holds g.lines none h in
     (first, kept, inr (refused, rw refused (subst (λ (k : Feed). k.lines ≡ []) is (h.unopened none))))
 
--- ---- the same, from wherever the machine stands
+-- ---- the same, from wherever the machine is
 
 pub stands_quiet : {M : Type 0} (will_write : M → Future → Type 0) (stage : Option M) (past : Option Future) → Stands will_write stage past → IsQuiet past
 stands_quiet will_write stage None stands = tt
@@ -180,7 +180,7 @@ refuses output will_write stage held header none missing =
     subst (λ stage. Ends will_write stage (Stops output (record { lines = header ∷ []; held = held; holds = held }) Header)) (sym none)
     (elim [ None ↦ λ stands. (refl, Appends-nil held, record { line = header; others = []; first = refl; none = missing }) | (Some future) ↦ λ stands. absurd stands ])
 
--- no machine stands before the header
+-- there is no machine before the header
 pub stands_none : {M : Type 0} (will_write : M → Future → Type 0) (stage : Option M) (next : Option Future) → stage ≡ None → Stands will_write stage next → next ≡ None
 stands_none will_write None None none stands = refl
 stands_none will_write None (Some future) none stands = absurd stands

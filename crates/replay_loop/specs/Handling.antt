@@ -53,14 +53,14 @@ pub record Passage (M : Type 0) : Type 0 where
   pub held : Held
   pub holds : Held
 
--- the lines were handled, and the machine stands where they lead
+-- the lines were handled, and the machine is where they lead
 abbrev pub Leads : {M : Type 0} → Output → (M → Future → Type 0) → Passage M → Lines → Type 0
 Leads output will_write p lines =
     (past : Option Future) → Stands will_write p.old past
     → (next : Option Future) × Stands will_write p.new next
     × Handles output past next p.held p.holds lines
 
--- the lines were handled, and a machine stands at their end
+-- the lines were handled, and there is a machine at their end
 abbrev pub LeadsPast : {M : Type 0} → Output → (M → Future → Type 0) → Passage M → Lines → Type 0
 LeadsPast output will_write p lines =
     (past : Option Future) → Stands will_write p.old past

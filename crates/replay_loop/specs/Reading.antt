@@ -57,7 +57,7 @@ abbrev pub EndsUnopened : Output → Bytes → Held → Type 0
 EndsUnopened output input rest =
     IsAtEnd rest × (fits line_limit input ≡ true) × output (input_lines input) None
 
--- why no machine was opened; a first line that was cut by a read is no reason
+-- why no machine was opened; a first line that was cut by a read is not a reason
 abbrev pub HasNoMachine : Output → Bytes → Held → Type 0
 HasNoMachine output input rest =
     OpensNone output (short_lines input) ⊎ (IsLongAtOnce input ⊎ EndsUnopened output input rest)
@@ -67,7 +67,7 @@ abbrev pub WroteAll : Output → Held → Held → Lines → Type 0
 WroteAll output held holds lines =
     (text : Bytes) × output lines (Some text) × Appends held holds text
 
--- what was written if the run ended by a fault, after at most so many reads
+-- what was written if the run ended by a fault, after at most this number of reads
 abbrev pub Failed : Output → ℕ → Streams → ReplayFault → Type 0
 Failed output reads s Header =
     (input : Bytes) × Consumes s.unread s.rest input × HasNoMachine output input s.rest

@@ -46,7 +46,7 @@ pub(crate) fn handle<M: LineMachine, W: Write>(
     }
 }
 
-/// Handles the next line that the feed has, and tells whether there was one.
+/// Handles the next line that the feed has, and returns whether there was one.
 fn handle_next<M: LineMachine, W: Write>(
     alloc: Global,
     feed: &mut LineFeed,

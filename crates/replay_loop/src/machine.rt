@@ -12,7 +12,7 @@ pub trait LineMachine: Drop + Sized {
     /// The machine will write these texts for the lines that still come.
     ghost will_write: { Self → (List (List ℕ) → List ℕ) → Type 0 };
 
-    /// The machine of a header line, without its newline, or `None`, if the line is no header that can be read.
+    /// The machine of a header line, without its newline, or `None`, if the line is not a readable header.
     fn open(alloc: Global, header: &[u8]) -> Result<Option<Self>, AllocError>
         ensures { IfOk result (λ opened. Opens output will_write header.now opened) };
 

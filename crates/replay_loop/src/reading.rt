@@ -107,9 +107,8 @@ fn finish<M: LineMachine, W: Write>(
     }
 }
 
-/// Runs the machine `M` over an input of at most so many reads, however the reader cuts it: the first line opens the
-/// machine, and what it answers to each later line is written. A line is what stands before a newline; a last line
-/// without one counts too, unless it is empty.
+/// Runs the machine `M` over an input in at most `reads` reads, however the reader cuts it. The first line opens the machine, and
+/// what it answers to each later line is written. A newline ends a line; a last line without one counts too, unless it is empty.
 ///
 /// Each `read` and `write` is called by this function's own loops, so an interrupted one is a fault too.
 pub fn run_within<M: LineMachine, R: Read, W: Write>(

@@ -17,9 +17,9 @@ use Rattle.live_loop.specs.Looks.{IsEmpty}
 use Rattle.live_loop.specs.Rounds.{AreRounds, Left}
 use Rattle.jobd.specs.declared.round_launcher.RoundLauncher.{RoundLauncher}
 use Rattle.round_laws.specs.Marks.{snapshot}
-use Rattle.round_laws.specs.Hearing.{HeardReadings, Decides}
+use Rattle.round_laws.specs.Receiving.{ReceivedReadings, Decides}
 use Rattle.round_laws.specs.RoundMarks.{launcher, marks_of}
-use Rattle.round_laws.proofs.HearingLemmas.{decided, lines-heard, new-good}
+use Rattle.round_laws.proofs.ReceivingLemmas.{decided, lines-received, new-good}
 use Rattle.std.specs.Prelude.{Result}
 use Rattle.history_model.specs.declared.Obs.{Obs}
 use Rattle.child_edge.specs.declared.plain.EdgeFault.{EdgeFault}
@@ -34,7 +34,7 @@ module _ {T E W : Type 0} (calls : E → Option (List ToldCall)) (stores : T →
     (Accepts : ℕ → E → E → Type 0) (Holds : ℕ → ℕ → List ℕ → Bool → E → E → Type 0) where
   pub decides : (header : Header) (told : Option (List ToldCall)) (stored : Option (List StoreCall)) (journal : JournalState) (before : T) (first last : Left (RoundLauncher T E W)) →
       (new : IsNew header told stored journal (stands calls stores first.host.host) (holds before) (holds first.host.host.store)) → first.host.at ≡ first.host.host.table.reading → IsEmpty first.known →
-      (rounds : AreRounds (launcher calls stores holds stamped Finds Looks Accepts Holds) first last) → HeardReadings (marks_of calls stores holds stamped Finds Looks Accepts Holds rounds) →
+      (rounds : AreRounds (launcher calls stores holds stamped Finds Looks Accepts Holds) first last) → ReceivedReadings (marks_of calls stores holds stamped Finds Looks Accepts Holds rounds) →
       Decides new.machine (marks_of calls stores holds stamped Finds Looks Accepts Holds rounds)
   decides header told stored journal before first last new at empty rounds had =
       let s = new.machine in
@@ -47,5 +47,5 @@ module _ {T E W : Type 0} (calls : E → Option (List ToldCall)) (stores : T →
         parts = spans.parts;
         are_parts = spans.are_parts;
         decide = decided s (new-good holds header told stored journal before (snapshot calls stores first.host.host) new) marks spans.parts spans.are_parts
-            (spans.all ∙ ap (λ es. outcomes es s) (lines-heard marks spans.parts spans.are_parts)) (spans.may (spans.had (λ none path obs there. let clash : None ≡ Some obs = sym (empty path) ∙ there in cc)));
+            (spans.all ∙ ap (λ es. outcomes es s) (lines-received marks spans.parts spans.are_parts)) (spans.may (spans.had (λ none path obs there. let clash : None ≡ Some obs = sym (empty path) ∙ there in cc)));
       }

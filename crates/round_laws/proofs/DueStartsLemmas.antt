@@ -25,7 +25,7 @@ use Rattle.history_model.specs.NextMomentByFacts.{has_come}
 use Rattle.history_model.specs.Reasons.{free_from, reasons_of, some_reason, some_want, needs_event, spawns_from}
 use Rattle.history_model.specs.Refusals.{is_clock_refused}
 use Rattle.history_model.specs.Acceptance.{refused_if, refusal_in}
-use Rattle.history_model.specs.Step.{heard, listed, acts_of, orders_of, outcome_by, outcome}
+use Rattle.history_model.specs.Step.{received, listed, acts_of, orders_of, outcome_by, outcome}
 use Rattle.history_model.specs.LeftOut.{LeftOut}
 use Rattle.loaded_jobs.specs.Tables.{Row, Table}
 use Rattle.loaded_jobs.specs.StandsFor.{KeepsJobs, KeepsState, IsAtRest}
@@ -33,7 +33,7 @@ use Rattle.launcher.specs.HostTurns.{IsLed}
 use Rattle.history_model.proofs.BooleanLemmas.{not-true}
 use Rattle.history_model.proofs.ReasonsLemmas.{spawn-due, spawn-is, reading-due, moment-due}
 use Rattle.history_model.proofs.StepLemmas.{Rests, IsGood}
-use Rattle.history_model.proofs.OneLabelLemmas.{filter-heard, filter-orders}
+use Rattle.history_model.proofs.OneLabelLemmas.{filter-received, filter-orders}
 use Rattle.history_model.proofs.LeftOutLemmas.{at-one, left-silent}
 use Rattle.round_laws.specs.DueStarts.{IsDueAt, start_of}
 
@@ -88,21 +88,21 @@ pub order-at : (s : State) (label : Label) (t : History) (at : Reading) → IsDu
     first (filter (is_for label) (outcome s (Tick at)).orders) ≡ Some (start_of label t)
 order-at s label t at is_due accepted =
     ap (λ o. first (filter (is_for label) (outcome_by o s (Tick at)).orders)) accepted
-    ∙ ap first (filter-orders label (heard item s.jobs))
-    ∙ ap (λ (js : List Job). first (flat_map orders_of js)) (filter-heard label item s.jobs)
+    ∙ ap first (filter-orders label (received item s.jobs))
+    ∙ ap (λ (js : List Job). first (flat_map orders_of js)) (filter-received label item s.jobs)
     ∙ go (filter (is_of label) s.jobs) (own-filter label s.jobs) is_due.loaded where
       item : Job → Option Item
       item job = Some (Read at (calendar_fires s.zone (definition_of job.past).calendar s.reading.wall at.wall))
 
       go : (js : List Job) → AllByRecursion (λ (job : Job). is_of label job ≡ true) js → past_in (first js) ≡ Some t →
-          first (flat_map orders_of (heard item js)) ≡ Some (start_of label t)
+          first (flat_map orders_of (received item js)) ≡ Some (start_of label t)
       go [] own there = cc
       go (job ∷ js) own there =
           let past : job.past ≡ t = ap (λ (o : Option History). unwrap_or o t) there in
           let named : label ≡ job.label = same_text label job.label (sym own.0) in
           let fires = calendar_fires s.zone (definition_of job.past).calendar s.reading.wall at.wall in
           let acts = acts-due job.past at fires (spawns-at job.past at fires (subst HasPeriod (sym past) is_due.period) (ap (λ (p : History). has_come (spawns_from p) at.up) past ∙ is_due.late_enough)) in
-          ap (λ (acts : List Act). first (map (λ act. (job.label, act)) acts ++ flat_map orders_of (heard item js))) acts
+          ap (λ (acts : List Act). first (map (λ act. (job.label, act)) acts ++ flat_map orders_of (received item js))) acts
           ∙ (λ i. Some (sym named i, Spawn (runs (past i) + 1) (first (waiting (past i)))))
 
 pub accepts : (s : State) (at : Reading) → is_clock_refused s.reading at ≡ false → refusal_in s (Tick at) ≡ None

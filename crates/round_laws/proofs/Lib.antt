@@ -1,5 +1,5 @@
 pub mod TurnsLemmas
-pub mod HearingLemmas
+pub mod ReceivingLemmas
 pub mod QuietLemmas
 pub mod SeenLemmas
 pub mod StepsLemmas

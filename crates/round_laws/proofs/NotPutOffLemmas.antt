@@ -23,17 +23,17 @@ use Rattle.history_model.specs.Demands.{waiting, interval_fires, is_pending}
 use Rattle.history_model.specs.Levels.{level_holds}
 use Rattle.history_model.specs.Due.{due, is_wanted, has_ever_spawned}
 use Rattle.history_model.specs.Labels.{Label, is_before}
-use Rattle.history_model.specs.Machine.{State, Job, Event, Unreadable, Load, UnloadJob, Set, ListJobs, PrintJob, ShutDown, Tick, Sight, OfJob, is_of, past_in}
+use Rattle.history_model.specs.Machine.{State, Job, Event, Unreadable, Load, UnloadJob, Set, ListJobs, PrintJob, ShutDown, Tick, Observation, OfJob, is_of, past_in}
 use Rattle.history_model.specs.MachineLaws.{is_for, concerns, only, AreInOrder, labels_of}
 use Rattle.history_model.specs.Moments.{HasPeriod}
 use Rattle.history_model.specs.NextMomentByFacts.{has_come}
 use Rattle.history_model.specs.Reasons.{free_from, reasons_of, some_reason, needs_event, is_none_or_stops, standing_child, spawns_from, wanted_from, not_before}
 use Rattle.history_model.specs.Acceptance.{refusal_in}
-use Rattle.history_model.specs.Step.{with_item, heard, lists, sight_of, acts_of, orders_of, stays, taken, outcome_by, outcome, orders_in, step_by, step, run}
+use Rattle.history_model.specs.Step.{with_item, received, lists, observation_of, acts_of, orders_of, stays, taken, outcome_by, outcome, orders_in, step_by, step, run}
 use Rattle.history_model.proofs.BooleanLemmas.{or-true, not-false}
 use Rattle.history_model.proofs.ReasonsLemmas.{spawn-due, stop-due, reading-due, moment-due}
 use Rattle.history_model.proofs.StepLemmas.{Rests, IsGood, good-step}
-use Rattle.history_model.proofs.OneLabelLemmas.{filter-heard, filter-stays, filter-orders, step-other, orders-other, resting-only}
+use Rattle.history_model.proofs.OneLabelLemmas.{filter-received, filter-stays, filter-orders, step-other, orders-other, resting-only}
 use Rattle.loaded_jobs.proofs.NearestLemmas.{not-before-self}
 use Rattle.round_laws.specs.DueStarts.{IsDueAt, LeavesAlone, start_of}
 use Rattle.round_laws.proofs.DueStartsLemmas.{acts-due, own-filter}
@@ -185,23 +185,23 @@ IsStartedOr label t orders W = (first (filter (is_for label) orders) ≡ Some (s
 
 module _ (label : Label) (at : Reading) where
   -- what the events that a step hears make of the label's only job
-  orders-alone : (s : State) (e : Event) (item : Job → Option Item) (job : Job) → refusal_in s e ≡ None → (taken s e).jobs ≡ heard item s.jobs → filter (is_of label) s.jobs ≡ job ∷ [] →
+  orders-alone : (s : State) (e : Event) (item : Job → Option Item) (job : Job) → refusal_in s e ≡ None → (taken s e).jobs ≡ received item s.jobs → filter (is_of label) s.jobs ≡ job ∷ [] →
       filter (is_for label) (outcome s e).orders ≡ orders_of (with_item job (item job)) ++ []
-  orders-alone s e item job accepted hears alone =
+  orders-alone s e item job accepted receives alone =
       ap (λ o. filter (is_for label) (outcome_by o s e).orders) accepted
       ∙ filter-orders label (taken s e).jobs
-      ∙ ap (λ (js : List Job). flat_map orders_of (filter (is_of label) js)) hears
-      ∙ ap (flat_map orders_of) (filter-heard label item s.jobs)
-      ∙ ap (λ (js : List Job). flat_map orders_of (heard item js)) alone
+      ∙ ap (λ (js : List Job). flat_map orders_of (filter (is_of label) js)) receives
+      ∙ ap (flat_map orders_of) (filter-received label item s.jobs)
+      ∙ ap (λ (js : List Job). flat_map orders_of (received item js)) alone
 
-  jobs-alone : (s : State) (e : Event) (item : Job → Option Item) (job : Job) → refusal_in s e ≡ None → (taken s e).jobs ≡ heard item s.jobs → filter (is_of label) s.jobs ≡ job ∷ [] →
+  jobs-alone : (s : State) (e : Event) (item : Job → Option Item) (job : Job) → refusal_in s e ≡ None → (taken s e).jobs ≡ received item s.jobs → filter (is_of label) s.jobs ≡ job ∷ [] →
       is_gone (with_item job (item job)).past ≡ false → due (with_item job (item job)).past ≡ None → filter (is_of label) (step s e).jobs ≡ with_item job (item job) ∷ []
-  jobs-alone s e item job accepted hears alone staying idle =
+  jobs-alone s e item job accepted receives alone staying idle =
       ap (λ o. filter (is_of label) (step_by o s e).jobs) accepted
       ∙ filter-stays label (taken s e).jobs
-      ∙ ap (λ (js : List Job). filter_map stays (filter (is_of label) js)) hears
-      ∙ ap (filter_map stays) (filter-heard label item s.jobs)
-      ∙ ap (λ (js : List Job). filter_map stays (heard item js)) alone
+      ∙ ap (λ (js : List Job). filter_map stays (filter (is_of label) js)) receives
+      ∙ ap (filter_map stays) (filter-received label item s.jobs)
+      ∙ ap (λ (js : List Job). filter_map stays (received item js)) alone
       ∙ rw (staying, idle) refl
 
   idle-orders : (job : Job) → is_gone job.past ≡ false → due job.past ≡ None → orders_of job ++ [] ≡ []
@@ -280,11 +280,11 @@ module _ (label : Label) (at : Reading) where
     whether (Some refusal) is = stays-same s (Tick mid) t w
         (ap (λ o. filter (is_for label) (outcome_by o s (Tick mid)).orders) is) (ap (λ o. filter (is_of label) (step_by o s (Tick mid)).jobs) is)
 
-  sight : (s : State) → IsGood s → (path : List ℕ) (obs : Obs) (t : History) → Waits s label t at → lists (definition_of t) path ≡ false →
-      IsStartedOr label t (outcome s (Sight path obs)).orders (WaitsOn (step s (Sight path obs)) label t at)
-  sight s good path obs t w unlisted =
-      let e = Sight path obs in
-      let item = sight_of path (Saw path obs) in
+  observation : (s : State) → IsGood s → (path : List ℕ) (obs : Obs) (t : History) → Waits s label t at → lists (definition_of t) path ≡ false →
+      IsStartedOr label t (outcome s (Observation path obs)).orders (WaitsOn (step s (Observation path obs)) label t at)
+  observation s good path obs t w unlisted =
+      let e = Observation path obs in
+      let item = observation_of path (Saw path obs) in
       let job = w.its.job in
       let rests : Rests s.reading job = (subst (λ (js : List Job). AllByRecursion (Rests s.reading) js) w.its.alone (resting-only label s good)).0 in
       let none : item job ≡ None = ap (λ (b : Bool). cond b (Some (Saw path obs)) None) (ap (λ (p : History). lists (definition_of p) path) w.its.past ∙ unlisted) in
@@ -296,7 +296,7 @@ module _ (label : Label) (at : Reading) where
 
   one : (s : State) → IsGood s → (e : Event) (t : History) → Waits s label t at → LeavesAlone label (definition_of t) e → IsStartedOr label t (outcome s e).orders (WaitsOn (step s e) label t at)
   one s good (Tick mid) t w leaves = reading s mid t w
-  one s good (Sight path obs) t w leaves = sight s good path obs t w leaves
+  one s good (Observation path obs) t w leaves = observation s good path obs t w leaves
   one s good Unreadable t w leaves = apart s Unreadable good t w leaves
   one s good (Load given writes force bind store) t w leaves = apart s (Load given writes force bind store) good t w leaves
   one s good (UnloadJob other writes store) t w leaves = apart s (UnloadJob other writes store) good t w leaves

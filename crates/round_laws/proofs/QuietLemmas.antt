@@ -8,15 +8,15 @@ use Rattle.history_model.specs.declared.Refusal.{Refusal}
 use Rattle.history_model.specs.declared.Refusal.TheVariants.{ClockRefused}
 use Rattle.history_model.specs.declared.TheConstants.{MAX_UP, MAX_WALL}
 use Rattle.history_model.specs.Refusals.{is_clock_refused}
-use Rattle.history_model.specs.Machine.{State, Event, Unreadable, Load, UnloadJob, Set, ListJobs, PrintJob, ShutDown, Tick, Sight, OfJob}
+use Rattle.history_model.specs.Machine.{State, Event, Unreadable, Load, UnloadJob, Set, ListJobs, PrintJob, ShutDown, Tick, Observation, OfJob}
 use Rattle.history_model.specs.Acceptance.{refused_if, refusal_in}
 use Rattle.history_model.specs.Step.{taken, step_by, step, run, outcome, outcomes}
-use Rattle.history_model.specs.LeftOut.{Line, HandedIn, LeftOut, HaveSeen, all_of, handed_in, last_read, last_read_in, IsInTime, MayBeLeftOut}
+use Rattle.history_model.specs.LeftOut.{Line, Delivered, LeftOut, HaveSeen, all_of, delivered, last_read, last_read_in, IsInTime, MayBeLeftOut}
 use Rattle.job_table.specs.Taking.{machine_event}
 use Rattle.launcher_laws.specs.TurnRuns.{Part, AreParts}
 use Rattle.history_model.proofs.BooleanLemmas.{or-false}
 use Rattle.round_laws.specs.Marks.{Mark, Turned, Spared, turns_in}
-use Rattle.round_laws.specs.Hearing.{lines_of, HeardReadings}
+use Rattle.round_laws.specs.Receiving.{lines_of, ReceivedReadings}
 
 -- ---- lists of lines in two parts
 
@@ -30,10 +30,10 @@ outcomes-both (x ∷ xs) ys s = ap (λ l. outcome s x ∷ l) (outcomes-both xs y
 
 pub all-both : (xs ys : List Line) → all_of (xs ++ ys) ≡ all_of xs ++ all_of ys
 all-both [] ys = refl
-all-both (HandedIn e ∷ xs) ys = ap (λ es. e ∷ es) (all-both xs ys)
+all-both (Delivered e ∷ xs) ys = ap (λ es. e ∷ es) (all-both xs ys)
 all-both (LeftOut e ∷ xs) ys = ap (λ es. e ∷ es) (all-both xs ys)
 
-pub all-map : (es : List Event) → all_of (map HandedIn es) ≡ es
+pub all-map : (es : List Event) → all_of (map Delivered es) ≡ es
 all-map [] = refl
 all-map (e ∷ es) = ap (λ es. e ∷ es) (all-map es)
 
@@ -41,22 +41,22 @@ pub last-both : (last : Reading) (xs ys : List Event) → last_read_in last (xs 
 last-both last [] ys = refl
 last-both last (x ∷ xs) ys = last-both (last_read last x) xs ys
 
-pub may-both : (last : Reading) (s : State) (xs ys : List Line) → MayBeLeftOut last s xs → MayBeLeftOut (last_read_in last (all_of xs)) (run (handed_in xs) s) ys → MayBeLeftOut last s (xs ++ ys)
+pub may-both : (last : Reading) (s : State) (xs ys : List Line) → MayBeLeftOut last s xs → MayBeLeftOut (last_read_in last (all_of xs)) (run (delivered xs) s) ys → MayBeLeftOut last s (xs ++ ys)
 may-both last s [] ys first second = second
-may-both last s (HandedIn e ∷ xs) ys first second = (first.0, may-both (last_read last e) (step s e) xs ys first.1 second)
+may-both last s (Delivered e ∷ xs) ys first second = (first.0, may-both (last_read last e) (step s e) xs ys first.1 second)
 may-both last s (LeftOut e ∷ xs) ys first second = (first.0, may-both (last_read last e) s xs ys first.1 second)
 
 -- of each observation that the launcher was spared, each job which lists the path saw it so last
 abbrev pub HadSeen : State → List Line → Type 0
 HadSeen s [] = ⊤
-HadSeen s (HandedIn e ∷ lines) = HadSeen (step s e) lines
-HadSeen s (LeftOut (Sight path obs) ∷ lines) = HaveSeen path obs s.jobs × HadSeen s lines
+HadSeen s (Delivered e ∷ lines) = HadSeen (step s e) lines
+HadSeen s (LeftOut (Observation path obs) ∷ lines) = HaveSeen path obs s.jobs × HadSeen s lines
 HadSeen s (LeftOut e ∷ lines) = HadSeen s lines
 
 -- the observations of both
-seen-left : (s : State) (e : Event) (xs ys : List Line) → (HadSeen s (xs ++ ys) → HadSeen s xs × HadSeen (run (handed_in xs) s) ys) →
-    HadSeen s (LeftOut e ∷ (xs ++ ys)) → HadSeen s (LeftOut e ∷ xs) × HadSeen (run (handed_in xs) s) ys
-seen-left s (Sight path obs) xs ys more seen = let both = more seen.1 in ((seen.0, both.0), both.1)
+seen-left : (s : State) (e : Event) (xs ys : List Line) → (HadSeen s (xs ++ ys) → HadSeen s xs × HadSeen (run (delivered xs) s) ys) →
+    HadSeen s (LeftOut e ∷ (xs ++ ys)) → HadSeen s (LeftOut e ∷ xs) × HadSeen (run (delivered xs) s) ys
+seen-left s (Observation path obs) xs ys more seen = let both = more seen.1 in ((seen.0, both.0), both.1)
 seen-left s Unreadable xs ys more seen = more seen
 seen-left s (Load given w f b st) xs ys more seen = more seen
 seen-left s (UnloadJob label w st) xs ys more seen = more seen
@@ -67,13 +67,13 @@ seen-left s ShutDown xs ys more seen = more seen
 seen-left s (Tick at) xs ys more seen = more seen
 seen-left s (OfJob label item) xs ys more seen = more seen
 
-pub seen-both : (s : State) (xs ys : List Line) → HadSeen s (xs ++ ys) → HadSeen s xs × HadSeen (run (handed_in xs) s) ys
+pub seen-both : (s : State) (xs ys : List Line) → HadSeen s (xs ++ ys) → HadSeen s xs × HadSeen (run (delivered xs) s) ys
 seen-both s [] ys seen = (tt, seen)
-seen-both s (HandedIn e ∷ xs) ys seen = seen-both (step s e) xs ys seen
+seen-both s (Delivered e ∷ xs) ys seen = seen-both (step s e) xs ys seen
 seen-both s (LeftOut e ∷ xs) ys seen = seen-left s e xs ys (seen-both s xs ys) seen
 
 join-left : (s : State) (e : Event) (xs ys : List Line) → (HadSeen s xs → HadSeen s (xs ++ ys)) → HadSeen s (LeftOut e ∷ xs) → HadSeen s (LeftOut e ∷ (xs ++ ys))
-join-left s (Sight path obs) xs ys more seen = (seen.0, more seen.1)
+join-left s (Observation path obs) xs ys more seen = (seen.0, more seen.1)
 join-left s Unreadable xs ys more seen = more seen
 join-left s (Load given w f b st) xs ys more seen = more seen
 join-left s (UnloadJob label w st) xs ys more seen = more seen
@@ -84,13 +84,13 @@ join-left s ShutDown xs ys more seen = more seen
 join-left s (Tick at) xs ys more seen = more seen
 join-left s (OfJob label item) xs ys more seen = more seen
 
-pub seen-join : (s : State) (xs ys : List Line) → HadSeen s xs → HadSeen (run (handed_in xs) s) ys → HadSeen s (xs ++ ys)
+pub seen-join : (s : State) (xs ys : List Line) → HadSeen s xs → HadSeen (run (delivered xs) s) ys → HadSeen s (xs ++ ys)
 seen-join s [] ys first second = second
-seen-join s (HandedIn e ∷ xs) ys first second = seen-join (step s e) xs ys first second
+seen-join s (Delivered e ∷ xs) ys first second = seen-join (step s e) xs ys first second
 seen-join s (LeftOut e ∷ xs) ys first second = join-left s e xs ys (λ seen. seen-join s xs ys seen second) first
 
 -- what is delivered is not an observation that was spared
-pub seen-handed : (s : State) (es : List Event) → HadSeen s (map HandedIn es)
+pub seen-handed : (s : State) (es : List Event) → HadSeen s (map Delivered es)
 seen-handed s [] = tt
 seen-handed s (e ∷ es) = seen-handed (step s e) es
 
@@ -108,10 +108,10 @@ module _ {T : Type 0} where
   lines-both (Spared event ∷ xs) ys ps qs first = ap (λ ls. LeftOut (machine_event event) ∷ ls) (lines-both xs ys ps qs first)
   lines-both (Turned turn ∷ xs) ys [] qs first = absurd first
   lines-both (Turned turn ∷ xs) ys (p ∷ ps) qs first =
-      ap (λ ls. map HandedIn (map machine_event p.0) ++ ls) (lines-both xs ys ps qs first.1)
-      ∙ sym (append_assoc (map HandedIn (map machine_event p.0)) (lines_of xs ps) (lines_of ys qs))
+      ap (λ ls. map Delivered (map machine_event p.0) ++ ls) (lines-both xs ys ps qs first.1)
+      ∙ sym (append_assoc (map Delivered (map machine_event p.0)) (lines_of xs ps) (lines_of ys qs))
 
-  pub memory-both : (xs ys : List (Mark T)) → HeardReadings (xs ++ ys) → HeardReadings xs × HeardReadings ys
+  pub memory-both : (xs ys : List (Mark T)) → ReceivedReadings (xs ++ ys) → ReceivedReadings xs × ReceivedReadings ys
   memory-both [] ys had = (tt, had)
   memory-both (Spared event ∷ xs) ys had = memory-both xs ys had
   memory-both (Turned turn ∷ xs) ys had = let both = memory-both xs ys had.1 in ((had.0, both.0), both.1)
@@ -132,7 +132,7 @@ taken-reading s ListJobs apart = refl
 taken-reading s (PrintJob label) apart = refl
 taken-reading s ShutDown apart = refl
 taken-reading s (Tick at) apart = cc
-taken-reading s (Sight path obs) apart = refl
+taken-reading s (Observation path obs) apart = refl
 taken-reading s (OfJob label item) apart = refl
 
 step-reading : (s : State) (e : Event) → is_tick e ≡ false → (step s e).reading ≡ s.reading
@@ -151,7 +151,7 @@ plain last s ListJobs apart = (refl, λ is. is)
 plain last s (PrintJob label) apart = (refl, λ is. is)
 plain last s ShutDown apart = (refl, λ is. is)
 plain last s (Tick at) apart = cc
-plain last s (Sight path obs) apart = (refl, λ is. is)
+plain last s (Observation path obs) apart = (refl, λ is. is)
 plain last s (OfJob label item) apart = (refl, λ is. is)
 
 abbrev pub ArePlain : List Event → Type 0
@@ -159,7 +159,7 @@ ArePlain es = AllByRecursion (λ (e : Event). is_tick e ≡ false) es
 
 -- what a list of events is from s on, at this last clock reading
 pub record Comes (last : Reading) (s : State) (es : List Event) (next : Reading) : Type 0 where
-  pub may : MayBeLeftOut last s (map HandedIn es)
+  pub may : MayBeLeftOut last s (map Delivered es)
   pub reading : (run es s).reading ≡ next
   pub read : last_read_in last es ≡ next
 
@@ -169,7 +169,7 @@ plain-list (e ∷ es) all s last is =
     let p = plain last s e all.0 in
     let rest = plain-list es all.1 (step s e) last (step-reading s e all.0 ∙ is) in
     record {
-      may = (p.1 is, subst (λ (l : Reading). MayBeLeftOut l (step s e) (map HandedIn es)) (sym p.0) rest.may);
+      may = (p.1 is, subst (λ (l : Reading). MayBeLeftOut l (step s e) (map Delivered es)) (sym p.0) rest.may);
       reading = rest.reading;
       read = ap (λ l. last_read_in l es) p.0 ∙ rest.read;
     }
@@ -181,7 +181,7 @@ tick-list at es all s last allowed less again =
     let moved : (step s (Tick at)).reading ≡ at = ap (λ o. (step_by o s (Tick at)).reading) accepted in
     let rest = plain-list es all (step s (Tick at)) at moved in
     record {
-      may = (inr less, subst (λ (l : Reading). MayBeLeftOut l (step s (Tick at)) (map HandedIn es)) (sym again) rest.may);
+      may = (inr less, subst (λ (l : Reading). MayBeLeftOut l (step s (Tick at)) (map Delivered es)) (sym again) rest.may);
       reading = rest.reading;
       read = ap (λ l. last_read_in l es) again ∙ rest.read;
     }

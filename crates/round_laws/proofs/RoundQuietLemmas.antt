@@ -17,8 +17,8 @@ use Rattle.outside.specs.Stores.{Stamp, StoreCall}
 use Rattle.launcher.specs.Accepting.{is_accepted_load}
 use Rattle.launcher.specs.Inputs.{asked_by, event_if_label, happened}
 use Rattle.control_socket.specs.Serving.{Serves, nobody, one_more}
-use Rattle.live_loop.specs.declared.loop_host.HandedIn.{HandedIn as Became}
-use Rattle.live_loop.specs.declared.loop_host.HandedIn.TheVariants as handed
+use Rattle.live_loop.specs.declared.loop_host.Delivered.{Delivered as Became}
+use Rattle.live_loop.specs.declared.loop_host.Delivered.TheVariants as handed
 use Rattle.live_loop.specs.Children as children
 use Rattle.live_loop.specs.Looks as looks
 use Rattle.live_loop.specs.Rounds as rounds
@@ -26,7 +26,7 @@ use Rattle.jobd.specs.declared.round_launcher.RoundLauncher.{RoundLauncher}
 use Rattle.jobd.specs.Launches.{lent, AsksEdge, ListsNext, TellsEnd, PollsFrom, DoesPath, TakesClient, TellsCame, ComesIn, AnswersLine}
 use Rattle.round_laws.specs.Marks.{Mark, Spared}
 use Rattle.round_laws.proofs.SeenLemmas.{Mind, plain-asked, have-seen}
-use Rattle.round_laws.specs.RoundMarks.{launcher, of_gives, of_tells, of_end, of_poll, of_polls, of_sight, of_walk, of_serves, of_client, of_clients, of_looks, of_round, marks_of}
+use Rattle.round_laws.specs.RoundMarks.{launcher, of_gives, of_tells, of_end, of_poll, of_polls, of_observation, of_walk, of_serves, of_client, of_clients, of_looks, of_round, marks_of}
 use Rattle.round_laws.proofs.StepsLemmas.{no-clock, no-clock-asked, as_loaded, heeds, notes, of_job, heeded, forgot}
 use Rattle.round_laws.proofs.SpansLemmas.{KeepsTo, mind, Keeps, then_to, then_, reminded, moved_to, nothing, nothing_to, same_to, same, asked, lent_on, asks}
 use Rattle.round_laws.proofs.TurnQuietLemmas.{begins, gives_to, gives_loaded, tells}
@@ -60,9 +60,9 @@ module _ {T E W : Type 0} (calls : E → Option (List ToldCall)) (stores : T →
     ]
   ]
 
-  spared_sight : (path : List ℕ) (obs : Obs) (old : RoundLauncher T E W) (known : looks.Known) (new : RoundLauncher T E W) (known' : looks.Known) → known path ≡ Some obs → new ≡ old → looks.IsKept known known' →
+  spared_observation : (path : List ℕ) (obs : Obs) (old : RoundLauncher T E W) (known : looks.Known) (new : RoundLauncher T E W) (known' : looks.Known) → known path ≡ Some obs → new ≡ old → looks.IsKept known known' →
       KeepsTo (heeded known) (Spared (journaled.Saw path obs) ∷ []) old (heeded known') new
-  spared_sight path obs old known new known' at is kept = λ s last had f. record {
+  spared_observation path obs old known new known' at is kept = λ s last had f. record {
     parts = [];
     are_parts = tt;
     all = refl;
@@ -77,11 +77,11 @@ module _ {T E W : Type 0} (calls : E → Option (List ToldCall)) (stores : T →
     };
   }
 
-  sight : (Looks : List ℕ → Result Obs EdgeFault → E → E → Type 0) (path : List ℕ) (seen : Option Obs) (old : RoundLauncher T E W) (known : looks.Known) (new : RoundLauncher T E W) (known' : looks.Known)
-      (t : looks.TakesIf (DoesPath calls stores holds stamped Looks) path seen old known new known') → KeepsTo (heeded known) (of_sight calls stores holds stamped Looks path seen old known new known' t) old (heeded known') new
-  sight Looks path None old known new known' none = reminded (heeded known) (heeded known) (heeded known') (λ s knows none_loaded other seen there. knows none_loaded other seen (sym (none.1 other) ∙ there)) (same_to (heeded known) none.0)
-  sight Looks path (Some obs) old known new known' (inl is) = spared_sight path obs old known new known' is.0 is.1 is.2
-  sight Looks path (Some obs) old known new known' (inr differs) =
+  observation : (Looks : List ℕ → Result Obs EdgeFault → E → E → Type 0) (path : List ℕ) (seen : Option Obs) (old : RoundLauncher T E W) (known : looks.Known) (new : RoundLauncher T E W) (known' : looks.Known)
+      (t : looks.TakesIf (DoesPath calls stores holds stamped Looks) path seen old known new known') → KeepsTo (heeded known) (of_observation calls stores holds stamped Looks path seen old known new known' t) old (heeded known') new
+  observation Looks path None old known new known' none = reminded (heeded known) (heeded known) (heeded known') (λ s knows none_loaded other seen there. knows none_loaded other seen (sym (none.1 other) ∙ there)) (same_to (heeded known) none.0)
+  observation Looks path (Some obs) old known new known' (inl is) = spared_observation path obs old known new known' is.0 is.1 is.2
+  observation Looks path (Some obs) old known new known' (inr differs) =
       gives_to calls stores holds stamped (Some (happened (journaled.Saw path obs))) (no-clock (Some (happened (journaled.Saw path obs))) refl) differs.1.0 differs.1.2.words old new differs.1.2.gives (heeded known) (heeded known')
       (notes T path obs differs.1.0 differs.1.1 known known' differs.2 false)
 
@@ -103,22 +103,22 @@ module _ {T E W : Type 0} (calls : E → Option (List ToldCall)) (stores : T →
       then_to {m = heeded known} {m' = heeded before} {m'' = heeded after} {a = first} {b = mid} {c = new} (walk Looks more)
       (then_to {xs = []} {m = heeded before} {m' = heeded before} {m'' = heeded after} {a = mid} {b = seen} {c = new} (put (heeded before) waits.0 mid seen waits.2)
       (then_to {xs = []} {m = heeded before} {m' = heeded before} {m'' = heeded after} {a = seen} {b = it.mid} {c = new} (put (heeded before) it.looked.1 seen it.mid it.looked.5)
-      (sight Looks next it.seen it.mid before new after it.taken)))
+      (observation Looks next it.seen it.mid before new after it.taken)))
 
   -- a load that was accepted is noted
   answered : (line : List ℕ) (reply : Reply) (old new : RoundLauncher T E W) (answers : AnswersLine calls stores holds stamped line reply old new) →
       Keeps (of_gives calls stores holds stamped (asked_by line) reply.refusal reply.text old answers.mid answers.gives) old new
   answered line reply old new answers = λ known.
       let event = asked_by line in
-      let heard = old.has_loaded || is_accepted_load event reply.refusal in
-      let m' : Mind = record { known = known; loaded = heard } in
+      let received = old.has_loaded || is_accepted_load event reply.refusal in
+      let m' : Mind = record { known = known; loaded = received } in
       let marks = of_gives calls stores holds stamped event reply.refusal reply.text old answers.mid answers.gives in
-      let noted : new.has_loaded ≡ heard =
-      ap (λ (r : RoundLauncher T E W). r.has_loaded) answers.noted ∙ (λ i. gives_loaded calls stores holds stamped event reply.refusal reply.text old answers.mid answers.gives i || answers.gives.heard.loaded i) in
+      let noted : new.has_loaded ≡ received =
+      ap (λ (r : RoundLauncher T E W). r.has_loaded) answers.noted ∙ (λ i. gives_loaded calls stores holds stamped event reply.refusal reply.text old answers.mid answers.gives i || answers.gives.received.turn.loaded i) in
       subst (λ ms. KeepsTo (mind known old) ms old (mind known new) new) (append-nil marks)
       (then_to {xs = marks} {ys = []} {m = mind known old} {m' = m'} {m'' = mind known new} {a = old} {b = answers.mid} {c = new}
       (gives_to calls stores holds stamped event (no-clock-asked (request_at line)) reply.refusal reply.text old answers.mid answers.gives (mind known old) m' (heeds T event reply.refusal (plain-asked (request_at line)) known old.has_loaded))
-      (moved_to m' (mind known new) (as_loaded known heard new.has_loaded noted) answers.mid new (ap (λ (r : RoundLauncher T E W). r.host.table) answers.noted) (ap (λ (r : RoundLauncher T E W). r.at) answers.noted)))
+      (moved_to m' (mind known new) (as_loaded known received new.has_loaded noted) answers.mid new (ap (λ (r : RoundLauncher T E W). r.host.table) answers.noted) (ap (λ (r : RoundLauncher T E W). r.at) answers.noted)))
 
   serves : {old new : RoundLauncher T E W} (s : Serves (AnswersLine calls stores holds stamped) old new) → Keeps (of_serves calls stores holds stamped s) old new
   serves {old = old} nobody = nothing old
@@ -127,12 +127,12 @@ module _ {T E W : Type 0} (calls : E → Option (List ToldCall)) (stores : T →
   client_on : (label : List ℕ) (job conn : ℕ) (answer : Became) (old new : RoundLauncher T E W) (t : TellsCame calls stores holds stamped label job conn answer old new) →
       Keeps (of_client calls stores holds stamped label job conn answer old new t) old new
   client_on label job conn handed.Dropped old new is = same is
-  client_on label job conn handed.Heard old new t = tells calls stores holds stamped (event_if_label label (journaled.OfJob label (happens.Came conn))) (of_job label (happens.Came conn)) None old new t
+  client_on label job conn handed.Received old new t = tells calls stores holds stamped (event_if_label label (journaled.OfJob label (happens.Came conn))) (of_job label (happens.Came conn)) None old new t
   client_on label job conn (handed.Refused refusal) old new came =
-      let heard = tells calls stores holds stamped (event_if_label label (journaled.OfJob label (happens.Came conn))) (of_job label (happens.Came conn)) (Some refusal) old came.0 came.2 in
+      let received = tells calls stores holds stamped (event_if_label label (journaled.OfJob label (happens.Came conn))) (of_job label (happens.Came conn)) (Some refusal) old came.0 came.2 in
       subst (λ (r : RoundLauncher T E W). Keeps (of_tells calls stores holds stamped (event_if_label label (journaled.OfJob label (happens.Came conn))) (Some refusal) old came.0 came.2) old r) (sym came.4)
       (subst (λ ms. Keeps ms old (lent came.1 came.0)) (append-nil (of_tells calls stores holds stamped (event_if_label label (journaled.OfJob label (happens.Came conn))) (Some refusal) old came.0 came.2))
-      (then_ {ys = []} heard (lent_on came.1 came.0)))
+      (then_ {ys = []} received (lent_on came.1 came.0)))
 
   took : (Accepts : ℕ → E → E → Type 0) {job : ℕ} {old mid new : RoundLauncher T E W} → TakesClient calls Accepts job old mid → rounds.Asks (AsksEdge calls) mid new → Keeps [] old new
   took Accepts {old = old} {mid = mid} takes a = then_ {xs = []} {ys = []} (subst (λ (r : RoundLauncher T E W). Keeps [] old r) (sym takes.3) (lent_on takes.0 old)) (asks calls a)
@@ -142,7 +142,7 @@ module _ {T E W : Type 0} (calls : E → Option (List ToldCall)) (stores : T →
   clients Accepts Holds {old = old} rounds.nobody = nothing old
   clients Accepts Holds {old = old} (rounds.asked {new = new} more a) = subst (λ ms. Keeps ms old new) (append-nil (of_clients calls stores holds stamped Accepts Holds more)) (then_ {ys = []} (clients Accepts Holds more) (asked calls a))
   clients Accepts Holds {old = old} (rounds.taken {new = new} more t w a) = subst (λ ms. Keeps ms old new) (append-nil (of_clients calls stores holds stamped Accepts Holds more)) (then_ {ys = []} (clients Accepts Holds more) (took Accepts t a))
-  clients Accepts Holds (rounds.heard more grows) = clients Accepts Holds more
+  clients Accepts Holds (rounds.received more grows) = clients Accepts Holds more
   clients Accepts Holds (rounds.went more gone) = clients Accepts Holds more
   clients Accepts Holds (rounds.came {client = client} {answer = answer} {desk = desk} {mid = mid} {new = new} more is set comes) =
       then_ (clients Accepts Holds more) (then_ {xs = []} (lent_on comes.edge mid) (client_on comes.label client.origin.job desk.conn answer (lent comes.edge mid) new comes.handed))

@@ -11,19 +11,19 @@ use Rattle.history_model.specs.declared.Refusal.{Refusal}
 use Rattle.history_model.specs.declared.event.Event as journal
 use Rattle.history_model.specs.declared.event.Event.TheVariants as journaled
 use Rattle.history_model.specs.Demands.{is_same_path}
-use Rattle.history_model.specs.Machine.{State, Event, Sight}
+use Rattle.history_model.specs.Machine.{State, Event, Observation}
 use Rattle.history_model.specs.Acceptance.{refusal_in}
 use Rattle.history_model.specs.Step.{Outcome, outcome_by, outcome, outcomes, step, run}
 use Rattle.history_model.specs.RunCounts.{is_taken_as, count_taken}
-use Rattle.history_model.specs.LeftOut.{Line, HandedIn, LeftOut, handed_in, HaveSeen, is_load, is_look_at}
-use Rattle.history_model.proofs.SightLemmas.{seen-still}
+use Rattle.history_model.specs.LeftOut.{Line, Delivered, LeftOut, delivered, HaveSeen, is_load, is_look_at}
+use Rattle.history_model.proofs.ObservationLemmas.{seen-still}
 use Rattle.ctl_protocol.specs.declared.request.Request.{Request}
 use Rattle.ctl_protocol.specs.declared.request.Request.TheVariants as requests
 use Rattle.ctl_protocol.specs.declared.request.Outside.{Outside}
 use Rattle.ctl_protocol.specs.Requests.{event_with}
 use Rattle.loaded_jobs.specs.Tables.{Name}
 use Rattle.job_table.specs.Taking.{machine_event}
-use Rattle.outside.specs.declared.unheard.Unheard.{Unheard}
+use Rattle.outside.specs.declared.pending_answer.PendingAnswer.{PendingAnswer}
 use Rattle.outside.specs.Orders.{answers_in}
 use Rattle.launcher.specs.Accepting as accepting
 use Rattle.launcher.specs.Inputs.{Incoming, asked as asks_for, event_of, happened}
@@ -70,23 +70,23 @@ no-load s e r b is load none = (λ i. not (is_some (is i)) && load i) ∙ go r b
 pub record WasSeen (path : List ℕ) (obs : Obs) (s : State) : Type 0 where
   pub before : State
   pub after : List Event
-  pub is : s ≡ run after (step before (Sight path obs))
+  pub is : s ≡ run after (step before (Observation path obs))
   pub no_look : list_any (is_look_at path) after ≡ false
-  pub no_load : count_taken is_load after (step before (Sight path obs)) ≡ 0
+  pub no_load : count_taken is_load after (step before (Observation path obs)) ≡ 0
 
 pub have-seen : (path : List ℕ) (obs : Obs) (s : State) → WasSeen path obs s → HaveSeen path obs s.jobs
 have-seen path obs s was = subst (λ (t : State). HaveSeen path obs t.jobs) (sym was.is) (seen-still path obs was.before was.after was.no_look was.no_load)
 
-looked : (path : List ℕ) (obs : Obs) (s : State) → WasSeen path obs (step s (Sight path obs))
+looked : (path : List ℕ) (obs : Obs) (s : State) → WasSeen path obs (step s (Observation path obs))
 looked path obs s = record { before = s; after = []; is = refl; no_look = refl; no_load = refl }
 
 later : (path : List ℕ) (obs : Obs) (s : State) (es : List Event) → WasSeen path obs s → list_any (is_look_at path) es ≡ false → count_taken is_load es s ≡ 0 → WasSeen path obs (run es s)
 later path obs s es was no_look no_load = record {
   before = was.before;
   after = was.after ++ es;
-  is = ap (run es) was.is ∙ sym (run-both was.after es (step was.before (Sight path obs)));
+  is = ap (run es) was.is ∙ sym (run-both was.after es (step was.before (Observation path obs)));
   no_look = looks-both path was.after es was.no_look no_look;
-  no_load = loads-both was.after es (step was.before (Sight path obs)) was.no_load (subst (λ (t : State). count_taken is_load es t ≡ 0) was.is no_load);
+  no_load = loads-both was.after es (step was.before (Observation path obs)) was.no_load (subst (λ (t : State). count_taken is_load es t ≡ 0) was.is no_load);
 }
 
 -- ---- what was delivered last of each path
@@ -173,14 +173,14 @@ plain-load out (happened (journaled.Clock at)) is_so = refl
 plain-load out (happened (journaled.Saw other obs)) is_so = cc
 plain-load out (happened (journaled.OfJob job item)) is_so = refl
 
-abbrev answers : List Name → List Unheard → List Event
+abbrev answers : List Name → List PendingAnswer → List Event
 answers names told = map machine_event (map (answer_told names) told)
 
-answers-look : (path : List ℕ) (names : List Name) (told : List Unheard) → list_any (is_look_at path) (answers names told) ≡ false
+answers-look : (path : List ℕ) (names : List Name) (told : List PendingAnswer) → list_any (is_look_at path) (answers names told) ≡ false
 answers-look path names [] = refl
 answers-look path names (p ∷ told) = answers-look path names told
 
-answers-load : (names : List Name) (told : List Unheard) (s : State) → count_taken is_load (answers names told) s ≡ 0
+answers-load : (names : List Name) (told : List PendingAnswer) (s : State) → count_taken is_load (answers names told) s ≡ 0
 answers-load names [] s = refl
 answers-load names (p ∷ told) s =
     let e = machine_event (answer_told names p) in
@@ -200,8 +200,8 @@ first_refusal (out ∷ outs) = out.refusal
 -- the events of a turn of an observation
 record IsLook (path : List ℕ) (obs : Obs) (es : List Event) : Type 0 where
   names : List Name
-  told : List Unheard
-  is : es ≡ Sight path obs ∷ answers names told
+  told : List PendingAnswer
+  is : es ≡ Observation path obs ∷ answers names told
 
 module _ {T : Type 0} where
   -- a turn of what is not an observation, and no load that was accepted
@@ -215,10 +215,10 @@ module _ {T : Type 0} where
       let is_so = is_plain o.incoming o.came in
       let es : map machine_event p.0 ≡ first ∷ rest = ap (map machine_event) (o.first ∙ ap (λ more. event_of o.outside o.incoming ∷ more) o.told) in
       let own : map machine_event (p.0 ++ []) ≡ first ∷ rest = ap (map machine_event) (append-nil p.0) ∙ es in
-      let heard : o.reply.refusal ≡ refusal_in s first =
+      let received : o.reply.refusal ≡ refusal_in s first =
       ap (λ outs. first_refusal (outs ++ [])) (sym o.all) ∙ ap first_refusal all ∙ ap (λ l. first_refusal (outcomes l s)) own ∙ outcome-refusal s first in
       let apart : is_taken_as is_load s first ≡ false =
-      no-load s first turn.refusal (accepting.is_load (Some o.incoming)) (sym heard ∙ o.refusal) (plain-load o.outside o.incoming is_so) (ap (λ x. accepting.is_accepted_load x turn.refusal) (sym o.came) ∙ no_load) in
+      no-load s first turn.refusal (accepting.is_load (Some o.incoming)) (sym received ∙ o.refusal) (plain-load o.outside o.incoming is_so) (ap (λ x. accepting.is_accepted_load x turn.refusal) (sym o.came) ∙ no_load) in
       subst (λ (l : List Event). WasSeen path obs (run l s)) (sym es)
       (later path obs s (first ∷ rest) was (λ i. plain-look path o.outside o.incoming is_so i || answers-look path o.names told i) (count-step s first rest apart (answers-load o.names told (step s first))))
 
@@ -236,9 +236,9 @@ module _ {T : Type 0} where
             ∙ ap (λ x. machine_event (event_of o.outside x) ∷ answers o.names (answers_in o.entries)) incoming;
       }
 
-  pub sight-on : (turn : Turn T) (p : Part) (s : State) (path : List ℕ) (obs : Obs) → IsPartOf turn p → turn.incoming ≡ Some (happened (journaled.Saw path obs)) → is_memory turn.refusal ≢ true →
+  pub observation-on : (turn : Turn T) (p : Part) (s : State) (path : List ℕ) (obs : Obs) → IsPartOf turn p → turn.incoming ≡ Some (happened (journaled.Saw path obs)) → is_memory turn.refusal ≢ true →
       (known known' : Known) → IsNoted path obs known known' → (loaded : Bool) → Knows s (record { known = known; loaded = loaded }) → Knows (run (map machine_event p.0) s) (record { known = known'; loaded = loaded })
-  sight-on turn p s path obs is_part is had known known' noted loaded knows =
+  observation-on turn p s path obs is_part is had known known' noted loaded knows =
       let l = look-of turn p path obs is_part is had in
       λ none q o at. subst (λ (es : List Event). WasSeen q o (run es s)) (sym l.is) (go l.names l.told none q o at (is_same_path q path) refl) where
         apart : (q : List ℕ) → is_same_path q path ≡ false → (b : Bool) → bytes_eq path q ≡ b → b ≡ false
@@ -251,14 +251,14 @@ module _ {T : Type 0} where
           | inr none ↦ let clash : Some o ≡ None = sym at ∙ ap known' e ∙ none in cc
         ]
 
-        go : (names : List Name) (told : List Unheard) → loaded ≡ false → (q : List ℕ) (o : Obs) → known' q ≡ Some o → (b : Bool) → is_same_path q path ≡ b → WasSeen q o (run (answers names told) (step s (Sight path obs)))
+        go : (names : List Name) (told : List PendingAnswer) → loaded ≡ false → (q : List ℕ) (o : Obs) → known' q ≡ Some o → (b : Bool) → is_same_path q path ≡ b → WasSeen q o (run (answers names told) (step s (Observation path obs)))
         go names told none q o at true e =
             let here = (bytes_eq-Decides q path).0 e in
             let seen : o ≡ obs = ap (λ x. unwrap_or x obs) (same q o here at) in
-            subst (λ r. WasSeen r o (run (answers names told) (step s (Sight path obs)))) (sym here)
-            (subst (λ x. WasSeen path x (run (answers names told) (step s (Sight path obs)))) (sym seen)
-            (later path obs (step s (Sight path obs)) (answers names told) (looked path obs s) (answers-look path names told) (answers-load names told (step s (Sight path obs)))))
+            subst (λ r. WasSeen r o (run (answers names told) (step s (Observation path obs)))) (sym here)
+            (subst (λ x. WasSeen path x (run (answers names told) (step s (Observation path obs)))) (sym seen)
+            (later path obs (step s (Observation path obs)) (answers names told) (looked path obs s) (answers-look path names told) (answers-load names told (step s (Observation path obs)))))
         go names told none q o at false e =
             let was = knows none q o (sym (noted.others q (apart q e (bytes_eq path q) refl)) ∙ at) in
-            later q o s (Sight path obs ∷ answers names told) was (λ i. e i || answers-look q names told i)
-            (count-step s (Sight path obs) (answers names told) (no-load s (Sight path obs) None false refl refl refl) (answers-load names told (step s (Sight path obs))))
+            later q o s (Observation path obs ∷ answers names told) was (λ i. e i || answers-look q names told i)
+            (count-step s (Observation path obs) (answers names told) (no-load s (Observation path obs) None false refl refl refl) (answers-load names told (step s (Observation path obs))))

@@ -4,7 +4,7 @@ use Rattle.history_model.specs.declared.Reading.{Reading}
 use Rattle.history_model.specs.Refusals.{is_clock_refused}
 use Rattle.history_model.specs.Machine.{State, Event}
 use Rattle.history_model.specs.Step.{run, outcomes}
-use Rattle.history_model.specs.LeftOut.{Line, HandedIn, all_of, handed_in, last_read_in, MayBeLeftOut}
+use Rattle.history_model.specs.LeftOut.{Line, Delivered, all_of, delivered, last_read_in, MayBeLeftOut}
 use Rattle.loaded_jobs.specs.StandsFor.{KeepsState}
 use Rattle.job_table.specs.Taking.{machine_event}
 use Rattle.launcher.specs.HostTurns.{IsLed}
@@ -17,8 +17,8 @@ use Rattle.child_edge.specs.Calls.{ToldCall}
 use Rattle.jobd.specs.declared.round_launcher.RoundLauncher.{RoundLauncher}
 use Rattle.jobd.specs.Launches.{lent, AsksEdge}
 use Rattle.round_laws.specs.Marks.{Mark, Turned, turns_in}
-use Rattle.round_laws.specs.Hearing.{lines_of, HeardReadings}
-use Rattle.round_laws.proofs.HearingLemmas.{handed-append, handed-map}
+use Rattle.round_laws.specs.Receiving.{lines_of, ReceivedReadings}
+use Rattle.round_laws.proofs.ReceivingLemmas.{handed-append, handed-map}
 use Rattle.round_laws.proofs.SeenLemmas.{Mind, Knows}
 use Rattle.round_laws.proofs.QuietLemmas.{HadSeen, seen-join, seen-handed, run-both, outcomes-both, all-both, all-map, last-both, may-both, seen-both, parts-both, lines-both, memory-both, Comes}
 use Rattle.round_laws.proofs.StepsLemmas.{as_loaded}
@@ -35,19 +35,19 @@ module _ {T E W : Type 0} where
   pub record Spans (s : State) (last : Reading) (m : Mind) (marks : List (Mark T)) (m' : Mind) (new : RoundLauncher T E W) : Type 0 where
     pub parts : List Part
     pub are_parts : AreParts (turns_in marks) parts
-    pub all : outcomes_in parts ≡ outcomes (handed_in (lines_of marks parts)) s
+    pub all : outcomes_in parts ≡ outcomes (delivered (lines_of marks parts)) s
     pub had : Knows s m → HadSeen s (lines_of marks parts)
-    pub knows : Knows s m → Knows (run (handed_in (lines_of marks parts)) s) m'
+    pub knows : Knows s m → Knows (run (delivered (lines_of marks parts)) s) m'
     pub may : HadSeen s (lines_of marks parts) → MayBeLeftOut last s (lines_of marks parts)
-    pub follows : Follows (run (handed_in (lines_of marks parts)) s) (last_read_in last (all_of (lines_of marks parts))) new
+    pub follows : Follows (run (delivered (lines_of marks parts)) s) (last_read_in last (all_of (lines_of marks parts))) new
 
   -- and the machine is at the last clock reading
   pub record SpansOwn (s : State) (last : Reading) (m : Mind) (marks : List (Mark T)) (m' : Mind) (new : RoundLauncher T E W) : Type 0 where
     pub spans : Spans s last m marks m' new
-    pub own : (run (handed_in (lines_of marks spans.parts)) s).reading ≡ last_read_in last (all_of (lines_of marks spans.parts))
+    pub own : (run (delivered (lines_of marks spans.parts)) s).reading ≡ last_read_in last (all_of (lines_of marks spans.parts))
 
   abbrev pub KeepsTo : Mind → List (Mark T) → RoundLauncher T E W → Mind → RoundLauncher T E W → Type 0
-  KeepsTo m marks old m' new = (s : State) (last : Reading) → HeardReadings marks → Follows s last old → Spans s last m marks m' new
+  KeepsTo m marks old m' new = (s : State) (last : Reading) → ReceivedReadings marks → Follows s last old → Spans s last m marks m' new
 
   -- what the path checks remember, and whether the launcher accepted a load since
   abbrev pub mind : looks.Known → RoundLauncher T E W → Mind
@@ -58,34 +58,34 @@ module _ {T E W : Type 0} where
   Keeps marks old new = (known : looks.Known) → KeepsTo (mind known old) marks old (mind known new) new
 
   pub spans-both : (xs ys : List (Mark T)) (s : State) (last : Reading) (m m' m'' : Mind) (b c : RoundLauncher T E W) (one : Spans s last m xs m' b) →
-      Spans (run (handed_in (lines_of xs one.parts)) s) (last_read_in last (all_of (lines_of xs one.parts))) m' ys m'' c → Spans s last m (xs ++ ys) m'' c
+      Spans (run (delivered (lines_of xs one.parts)) s) (last_read_in last (all_of (lines_of xs one.parts))) m' ys m'' c → Spans s last m (xs ++ ys) m'' c
   spans-both xs ys s last m m' m'' b c one two =
       let ls = lines_of xs one.parts in
       let ns = lines_of ys two.parts in
       let split : lines_of (xs ++ ys) (one.parts ++ two.parts) ≡ ls ++ ns = lines-both xs ys one.parts two.parts one.are_parts in
-      let to : run (handed_in (ls ++ ns)) s ≡ run (handed_in ns) (run (handed_in ls) s) = ap (λ es. run es s) (handed-append ls ns) ∙ run-both (handed_in ls) (handed_in ns) s in
+      let to : run (delivered (ls ++ ns)) s ≡ run (delivered ns) (run (delivered ls) s) = ap (λ es. run es s) (handed-append ls ns) ∙ run-both (delivered ls) (delivered ns) s in
       let read : last_read_in last (all_of (ls ++ ns)) ≡ last_read_in (last_read_in last (all_of ls)) (all_of ns) = ap (last_read_in last) (all-both ls ns) ∙ last-both last (all_of ls) (all_of ns) in
       record {
         parts = one.parts ++ two.parts;
         are_parts = parts-both xs ys one.parts two.parts one.are_parts two.are_parts;
-        all = flat_map-append (λ (part : Part). part.1) one.parts two.parts ∙ (λ i. one.all i ++ two.all i) ∙ sym (outcomes-both (handed_in ls) (handed_in ns) s)
-            ∙ ap (λ es. outcomes es s) (sym (handed-append ls ns)) ∙ ap (λ l. outcomes (handed_in l) s) (sym split);
+        all = flat_map-append (λ (part : Part). part.1) one.parts two.parts ∙ (λ i. one.all i ++ two.all i) ∙ sym (outcomes-both (delivered ls) (delivered ns) s)
+            ∙ ap (λ es. outcomes es s) (sym (handed-append ls ns)) ∙ ap (λ l. outcomes (delivered l) s) (sym split);
         had = λ knows. subst (HadSeen s) (sym split) (seen-join s ls ns (one.had knows) (two.had (one.knows knows)));
-        knows = λ knows. subst (λ (l : List Line). Knows (run (handed_in l) s) m'') (sym split)
+        knows = λ knows. subst (λ (l : List Line). Knows (run (delivered l) s) m'') (sym split)
             (subst (λ (t : State). Knows t m'') (sym to) (two.knows (one.knows knows)));
         may = λ seen.
             let both = seen-both s ls ns (subst (HadSeen s) split seen) in
             subst (MayBeLeftOut last s) (sym split) (may-both last s ls ns (one.may both.0) (two.may both.1));
-        follows = subst (λ (l : List Line). Follows (run (handed_in l) s) (last_read_in last (all_of l)) c) (sym split)
+        follows = subst (λ (l : List Line). Follows (run (delivered l) s) (last_read_in last (all_of l)) c) (sym split)
             (subst (λ (t : State). Follows t (last_read_in last (all_of (ls ++ ns))) c) (sym to)
-            (subst (λ (l : Reading). Follows (run (handed_in ns) (run (handed_in ls) s)) l c) (sym read) two.follows));
+            (subst (λ (l : Reading). Follows (run (delivered ns) (run (delivered ls) s)) l c) (sym read) two.follows));
       }
 
   pub then_to : {xs ys : List (Mark T)} {m m' m'' : Mind} {a b c : RoundLauncher T E W} → KeepsTo m xs a m' b → KeepsTo m' ys b m'' c → KeepsTo m (xs ++ ys) a m'' c
   then_to {xs} {ys} {m} {m'} {m''} {a} {b} {c} f g = λ s last had follows.
       let both = memory-both xs ys had in
       let one = f s last both.0 follows in
-      spans-both xs ys s last m m' m'' b c one (g (run (handed_in (lines_of xs one.parts)) s) (last_read_in last (all_of (lines_of xs one.parts))) both.1 one.follows)
+      spans-both xs ys s last m m' m'' b c one (g (run (delivered (lines_of xs one.parts)) s) (last_read_in last (all_of (lines_of xs one.parts))) both.1 one.follows)
 
   pub then_ : {xs ys : List (Mark T)} {a b c : RoundLauncher T E W} → Keeps xs a b → Keeps ys b c → Keeps (xs ++ ys) a c
   then_ {xs} {ys} {a} {b} {c} f g = λ known. then_to {xs = xs} {ys = ys} {m = mind known a} {m' = mind known b} {m'' = mind known c} {a = a} {b = b} {c = c} (f known) (g known)
@@ -99,7 +99,7 @@ module _ {T E W : Type 0} where
         are_parts = sp.are_parts;
         all = sp.all;
         had = sp.had;
-        knows = λ knows. follows (run (handed_in (lines_of marks sp.parts)) s) (sp.knows knows);
+        knows = λ knows. follows (run (delivered (lines_of marks sp.parts)) s) (sp.knows knows);
         may = sp.may;
         follows = sp.follows;
       }
@@ -148,9 +148,9 @@ module _ {T E W : Type 0} where
   spans-of turn p is_part s m m' steps last next new c all led kept at ok =
       let es = map machine_event p.0 in
       let ee : map machine_event (events_in (p ∷ [])) ≡ es = ap (map machine_event) (append-nil p.0) in
-      let ll : map HandedIn es ++ [] ≡ map HandedIn es = append-nil (map HandedIn es) in
-      let hh : handed_in (map HandedIn es ++ []) ≡ es = ap handed_in ll ∙ handed-map es in
-      let aa : all_of (map HandedIn es ++ []) ≡ es = ap all_of ll ∙ all-map es in
+      let ll : map Delivered es ++ [] ≡ map Delivered es = append-nil (map Delivered es) in
+      let hh : delivered (map Delivered es ++ []) ≡ es = ap delivered ll ∙ handed-map es in
+      let aa : all_of (map Delivered es ++ []) ≡ es = ap all_of ll ∙ all-map es in
       record {
         spans = record {
           parts = p ∷ [];
@@ -159,7 +159,7 @@ module _ {T E W : Type 0} where
           had = λ knows. subst (HadSeen s) (sym ll) (seen-handed s es);
           knows = λ knows. subst (λ (xs : List Event). Knows (run xs s) m') (sym hh) (steps knows);
           may = λ seen. subst (MayBeLeftOut last s) (sym ll) c.may;
-          follows = subst (λ (xs : List Event). Follows (run xs s) (last_read_in last (all_of (map HandedIn es ++ []))) new) (sym hh)
+          follows = subst (λ (xs : List Event). Follows (run xs s) (last_read_in last (all_of (map Delivered es ++ []))) new) (sym hh)
               (subst (λ (xs : List Event). Follows (run es s) (last_read_in last xs) new) (sym aa) (record {
                 keeps = subst (λ (xs : List Event). KeepsState new.host.table (run xs s)) ee kept;
                 led = subst (λ (xs : List Event). IsLed (run xs s)) ee led;

@@ -18,7 +18,7 @@ use Rattle.history_model.specs.Refusals.{is_clock_refused}
 use Rattle.history_model.specs.Acceptance.{refusal_in}
 use Rattle.history_model.specs.Search.{first}
 use Rattle.history_model.specs.Step.{Outcome, outcome_by, outcome, outcomes, orders_in, run, step}
-use Rattle.history_model.specs.LeftOut.{handed_in, last_read, last_read_in, all_of}
+use Rattle.history_model.specs.LeftOut.{delivered, last_read, last_read_in, all_of}
 use Rattle.loaded_jobs.specs.StandsFor.{KeepsState}
 use Rattle.job_table.specs.Taking.{machine_event}
 use Rattle.child_edge.specs.Calls.{ToldCall}
@@ -34,10 +34,10 @@ use Rattle.launcher_laws.specs.TurnRuns.{Turn, Part, AreParts, IsPartOf, AreOutc
 use Rattle.launcher_laws.proofs.RunsLemmas.{went}
 use Rattle.live_loop.specs.Rounds as rounds
 use Rattle.jobd.specs.declared.round_launcher.RoundLauncher.{RoundLauncher}
-use Rattle.jobd.specs.Launches.{Heard, HeardIf, HandsNews, ReadsClock, Begins}
+use Rattle.jobd.specs.Launches.{Received, ReceivedIf, DeliversNews, ReadsClock, Begins}
 use Rattle.round_laws.specs.Marks.{Mark, Turned, Spared, turns_in, snapshot, turned}
 use Rattle.round_laws.specs.RoundMarks.{launcher, of_missed, of_news, of_begins, of_polls, of_looks, of_serves, of_clients, of_round, marks_of}
-use Rattle.round_laws.specs.Hearing.{HeardReadings, lines_of}
+use Rattle.round_laws.specs.Receiving.{ReceivedReadings, lines_of}
 use Rattle.round_laws.specs.DueStarts.{IsDueAt, OrdersStart, IsStartedIn, IsStartedBy, StartsAllDue, StartsWhatWaits, start_of, turns_before}
 use Rattle.round_laws.proofs.TurnsLemmas.{one_turn}
 use Rattle.round_laws.proofs.QuietLemmas.{memory-both, allowed-on}
@@ -45,7 +45,7 @@ use Rattle.round_laws.proofs.StepsLemmas.{ticked}
 use Rattle.round_laws.proofs.SpansLemmas.{Follows, mind, then_, then_to, moved, asks}
 use Rattle.round_laws.proofs.TurnQuietLemmas.{missed}
 use Rattle.round_laws.proofs.RoundQuietLemmas.{rounds_keep}
-use Rattle.round_laws.proofs.HearingLemmas.{new-good, lines-heard}
+use Rattle.round_laws.proofs.ReceivingLemmas.{new-good, lines-received}
 use Rattle.round_laws.proofs.DecidingLemmas.{in-range}
 use Rattle.round_laws.proofs.NotPutOffLemmas.{IsStartedOr, not-put-off}
 use Rattle.round_laws.proofs.DueStartsLemmas.{order-at, accepts, is-news, good-of}
@@ -86,7 +86,7 @@ module _ {T : Type 0} where
   turns-both (Spared event ∷ xs) ys = turns-both xs ys
   turns-both (Turned turn ∷ xs) ys = ap (λ (l : List (Turn T)). turn ∷ l) (turns-both xs ys)
 
-  memory-join : (xs ys : List (Mark T)) → HeardReadings xs → HeardReadings ys → HeardReadings (xs ++ ys)
+  memory-join : (xs ys : List (Mark T)) → ReceivedReadings xs → ReceivedReadings ys → ReceivedReadings (xs ++ ys)
   memory-join [] ys first second = second
   memory-join (Spared event ∷ xs) ys first second = memory-join xs ys first second
   memory-join (Turned turn ∷ xs) ys first second = (first.0, memory-join xs ys first.1 second)
@@ -136,11 +136,11 @@ module _ {T E W : Type 0} (calls : E → Option (List ToldCall)) (stores : T →
     (holds : T → List Setting → Type 0) (stamped : T → List Stamp → Type 0) where
   turn_starts : (s : State) (label : Label) (t : History) (at : Reading) → IsDueAt s label t at → refusal_in s (Tick at) ≡ None →
       (refusal : Option Refusal) (words : List ℕ) (old new : RoundLauncher T E W) → KeepsState old.host.table s → IsLed s →
-      Heard calls stores holds stamped (Some (happened (journaled.Clock at))) refusal words old.host new.host → is_memory refusal ≡ false →
+      Received calls stores holds stamped (Some (happened (journaled.Clock at))) refusal words old.host new.host → is_memory refusal ≡ false →
       IsStartedIn label t at (turns_in (turned calls stores (Some (happened (journaled.Clock at))) refusal words old.host new.host ∷ []))
-  turn_starts s label t at is_due accepted refusal words old new keeps led heard had =
+  turn_starts s label t at is_due accepted refusal words old new keeps led received had =
       let turn : Turn T = record { incoming = Some (happened (journaled.Clock at)); refusal = refusal; words = words; before = snapshot calls stores old.host; after = snapshot calls stores new.host } in
-      let w = went holds s (snapshot calls stores old.host) (turn ∷ []) (snapshot calls stores new.host) led keeps (one_turn calls stores holds stamped (Some (happened (journaled.Clock at))) refusal words old new heard).are in
+      let w = went holds s (snapshot calls stores old.host) (turn ∷ []) (snapshot calls stores new.host) led keeps (one_turn calls stores holds stamped (Some (happened (journaled.Clock at))) refusal words old new received).are in
       record {
         before = [];
         turn = turn;
@@ -151,20 +151,20 @@ module _ {T E W : Type 0} (calls : E → Option (List ToldCall)) (stores : T →
       }
 
   news_starts : (s : State) (label : Label) (t : History) (begun new : RoundLauncher T E W) → KeepsState begun.host.table s → IsLed s → is_clock_refused s.reading begun.at ≡ false →
-      IsDueAt s label t begun.at → (n : HandsNews calls stores holds stamped begun new) →
-      HeardReadings (of_news calls stores holds stamped n.is_news begun new n.handed) → IsStartedIn label t begun.at (turns_in (of_news calls stores holds stamped n.is_news begun new n.handed))
+      IsDueAt s label t begun.at → (n : DeliversNews calls stores holds stamped begun new) →
+      ReceivedReadings (of_news calls stores holds stamped n.is_news begun new n.handed) → IsStartedIn label t begun.at (turns_in (of_news calls stores holds stamped n.is_news begun new n.handed))
   news_starts s label t begun new keeps led allowed is_due n had =
       let accepted = accepts s begun.at allowed in
       let is : n.is_news ≡ true = n.decided s keeps ∙ ap (λ (r : Reading). may_change s.jobs r begun.at) keeps.reading
       ∙ is-news s (good-of begun.host.table s keeps led) label t begun.at is_due accepted in
       go n.is_news n.handed is had where
-        go : (b : Bool) (h : HeardIf calls stores holds stamped b begun new) → b ≡ true → HeardReadings (of_news calls stores holds stamped b begun new h) →
+        go : (b : Bool) (h : ReceivedIf calls stores holds stamped b begun new) → b ≡ true → ReceivedReadings (of_news calls stores holds stamped b begun new h) →
             IsStartedIn label t begun.at (turns_in (of_news calls stores holds stamped b begun new h))
-        go true h is had' = turn_starts s label t begun.at is_due (accepts s begun.at allowed) h.refusal h.words begun new keeps led h.heard had'.0
+        go true h is had' = turn_starts s label t begun.at is_due (accepts s begun.at allowed) h.refusal h.words begun new keeps led h.received had'.0
         go false h is had' = cc
 
   begins_start : (s : State) (label : Label) (t : History) (old new : RoundLauncher T E W) (b : Begins calls stores holds stamped old new) → KeepsState b.begun.host.table s → IsLed s →
-      is_clock_refused s.reading b.begun.at ≡ false → IsDueAt s label t b.begun.at → HeardReadings (of_begins calls stores holds stamped old new b) →
+      is_clock_refused s.reading b.begun.at ≡ false → IsDueAt s label t b.begun.at → ReceivedReadings (of_begins calls stores holds stamped old new b) →
       IsStartedIn label t b.begun.at (turns_in (of_begins calls stores holds stamped old new b))
   begins_start s label t old new b keeps led allowed is_due had =
       let first_one = of_missed calls stores holds stamped old.is_refused (record old { is_active = false }) b.first b.missed in
@@ -175,7 +175,7 @@ module _ {T E W : Type 0} (calls : E → Option (List ToldCall)) (stores : T →
   module _ (Finds : ℕ → Option (ℕ × ℕ) → E → E → Type 0) (Looks : List ℕ → Result Obs EdgeFault → E → E → Type 0)
       (Accepts : ℕ → E → E → Type 0) (Holds : ℕ → ℕ → List ℕ → Bool → E → E → Type 0) where
     pub round_starts : (old new : rounds.Left (RoundLauncher T E W)) (round : rounds.IsRound (launcher calls stores holds stamped Finds Looks Accepts Holds) old new) →
-        HeardReadings (of_round calls stores holds stamped Finds Looks Accepts Holds old new round) →
+        ReceivedReadings (of_round calls stores holds stamped Finds Looks Accepts Holds old new round) →
         (s : State) → KeepsState round.begins.begun.host.table s → IsLed s → is_clock_refused s.reading round.begins.begun.at ≡ false →
         (label : Label) (t : History) → IsDueAt s label t round.begins.begun.at →
         IsStartedIn label t round.begins.begun.at (turns_in (of_round calls stores holds stamped Finds Looks Accepts Holds old new round))
@@ -190,7 +190,7 @@ module _ {T E W : Type 0} (calls : E → Option (List ToldCall)) (stores : T →
     -- from a machine that the launcher follows on
     from_there : (s0 : State) (last0 : Reading) (first mid last : rounds.Left (RoundLauncher T E W)) → Follows s0 last0 first.host →
         (more : rounds.AreRounds (launcher calls stores holds stamped Finds Looks Accepts Holds) first mid) (round : rounds.IsRound (launcher calls stores holds stamped Finds Looks Accepts Holds) mid last) →
-        HeardReadings (marks_of calls stores holds stamped Finds Looks Accepts Holds (rounds.one_round more round)) →
+        ReceivedReadings (marks_of calls stores holds stamped Finds Looks Accepts Holds (rounds.one_round more round)) →
         StartsAllDue s0 (turns_before calls stores holds stamped Finds Looks Accepts Holds more round) round.begins.begun.host.table round.begins.begun.at
         (turns_in (of_round calls stores holds stamped Finds Looks Accepts Holds mid last round))
     from_there s0 last0 first mid last follows more round had =
@@ -212,16 +212,16 @@ module _ {T E W : Type 0} (calls : E → Option (List ToldCall)) (stores : T →
         (missed calls stores holds stamped round.waited.is_refused quiet b.first b.missed)) mid.known) in
         let sp = keeps s0 last0 (memory-join ms ns both.0 at_missed) follows in
         let read = last_read_in last0 (all_of (lines_of (ms ++ ns) sp.parts)) in
-        let heard_all = lines-heard (ms ++ ns) sp.parts sp.are_parts in
+        let received_all = lines-received (ms ++ ns) sp.parts sp.are_parts in
         let s = run (map machine_event (events_in sp.parts)) s0 in
-        let f : Follows s read b.first = subst (λ (es : List Event). Follows (run es s0) read b.first) heard_all sp.follows in
+        let f : Follows s read b.first = subst (λ (es : List Event). Follows (run es s0) read b.first) received_all sp.follows in
         let is_at : b.begun.at ≡ last_read read (Tick b.reads.shown) = ap (λ (q : RoundLauncher T E W). q.at) b.reads.read ∙ ap (λ l. last_read l (Tick b.reads.shown)) f.at in
         let kept : KeepsState b.begun.host.table s = subst (λ t. KeepsState t s) (sym (ap (λ (q : RoundLauncher T E W). q.host.table) b.reads.read)) f.keeps in
         let allowed : is_clock_refused s.reading b.begun.at ≡ false = subst (λ (q : Reading). is_clock_refused s.reading q ≡ false) (sym is_at) (allowed-on s.reading read b.reads.shown f.allowed) in
         record {
           parts = sp.parts;
           are_parts = sp.are_parts;
-          all = sp.all ∙ ap (λ (es : List Event). outcomes es s0) heard_all;
+          all = sp.all ∙ ap (λ (es : List Event). outcomes es s0) received_all;
           kept = kept;
           led = f.led;
           starts = λ label t is_due. round_starts mid last round both.1 s kept f.led allowed label t is_due;
@@ -243,7 +243,7 @@ module _ {T E W : Type 0} (calls : E → Option (List ToldCall)) (stores : T →
     pub rounds_start : (header : Header) (told : Option (List ToldCall)) (stored : Option (List StoreCall)) (journal : JournalState) (before : T) (first mid last : rounds.Left (RoundLauncher T E W)) →
         (new : IsNew header told stored journal (stands calls stores first.host.host) (holds before) (holds first.host.host.store)) → first.host.at ≡ first.host.host.table.reading →
         (more : rounds.AreRounds (launcher calls stores holds stamped Finds Looks Accepts Holds) first mid) (round : rounds.IsRound (launcher calls stores holds stamped Finds Looks Accepts Holds) mid last) →
-        HeardReadings (marks_of calls stores holds stamped Finds Looks Accepts Holds (rounds.one_round more round)) →
+        ReceivedReadings (marks_of calls stores holds stamped Finds Looks Accepts Holds (rounds.one_round more round)) →
         StartsAllDue new.machine (turns_before calls stores holds stamped Finds Looks Accepts Holds more round) round.begins.begun.host.table round.begins.begun.at
         (turns_in (of_round calls stores holds stamped Finds Looks Accepts Holds mid last round))
     rounds_start header told stored journal before first mid last new at more round had =
@@ -253,7 +253,7 @@ module _ {T E W : Type 0} (calls : E → Option (List ToldCall)) (stores : T →
         (new : IsNew header told stored journal (stands calls stores first.host.host) (holds before) (holds first.host.host.store)) → first.host.at ≡ first.host.host.table.reading →
         (more : rounds.AreRounds (launcher calls stores holds stamped Finds Looks Accepts Holds) first from) (meanwhile : rounds.AreRounds (launcher calls stores holds stamped Finds Looks Accepts Holds) from mid)
         (round : rounds.IsRound (launcher calls stores holds stamped Finds Looks Accepts Holds) mid last) →
-        HeardReadings (marks_of calls stores holds stamped Finds Looks Accepts Holds more) → HeardReadings (marks_of calls stores holds stamped Finds Looks Accepts Holds (rounds.one_round meanwhile round)) →
+        ReceivedReadings (marks_of calls stores holds stamped Finds Looks Accepts Holds more) → ReceivedReadings (marks_of calls stores holds stamped Finds Looks Accepts Holds (rounds.one_round meanwhile round)) →
         StartsWhatWaits new.machine (turns_in (marks_of calls stores holds stamped Finds Looks Accepts Holds more)) from.host.host.table
         (turns_before calls stores holds stamped Finds Looks Accepts Holds meanwhile round) round.begins.begun.at
         (turns_in (of_round calls stores holds stamped Finds Looks Accepts Holds mid last round))
@@ -263,7 +263,7 @@ module _ {T E W : Type 0} (calls : E → Option (List ToldCall)) (stores : T →
         let sp = rounds_keep calls stores holds stamped Finds Looks Accepts Holds more s0 s0.reading had (at_first header told stored journal before first new at) in
         let read = last_read_in s0.reading (all_of (lines_of ms sp.parts)) in
         let s = run (map machine_event (events_in sp.parts)) s0 in
-        let f : Follows s read from.host = subst (λ (es : List Event). Follows (run es s0) read from.host) (lines-heard ms sp.parts sp.are_parts) sp.follows in
+        let f : Follows s read from.host = subst (λ (es : List Event). Follows (run es s0) read from.host) (lines-received ms sp.parts sp.are_parts) sp.follows in
         let d = from_there s read from mid last f meanwhile round had' in
         let es = map machine_event (events_in d.parts) in
         let in_round = turns_in (of_round calls stores holds stamped Finds Looks Accepts Holds mid last round) in

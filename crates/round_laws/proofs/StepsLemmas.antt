@@ -6,7 +6,7 @@ use Rattle.history_model.specs.Machine.{State, Event, Tick}
 use Rattle.history_model.specs.Step.{run, outcomes}
 use Rattle.loaded_jobs.specs.Tables.{Name}
 use Rattle.job_table.specs.Taking.{machine_event}
-use Rattle.outside.specs.declared.unheard.Unheard.{Unheard}
+use Rattle.outside.specs.declared.pending_answer.PendingAnswer.{PendingAnswer}
 use Rattle.outside.specs.Orders.{answers_in}
 use Rattle.launcher.specs.LoadTurns.{is_memory}
 use Rattle.std.proofs.Common.{◌≡◌, ◌≢◌, inl, inr, ℕ, Bool, true, false, ◌||◌, List, [], ◌∷◌, Option, Some, None, map, refl, sym, ap, subst, ◌∙◌}
@@ -25,7 +25,7 @@ use Rattle.launcher.specs.Accepting.{is_accepted_load}
 use Rattle.launcher.specs.Inputs.{Incoming, asked as asks_for, event_if_label, event_of, happened}
 use Rattle.launcher_laws.specs.TurnRuns.{Turn, Part, IsPartOf, answer_told, events_in, outcomes_in}
 use Rattle.live_loop.specs.Looks as looks
-use Rattle.round_laws.proofs.SeenLemmas.{Mind, Knows, IsPlain, plain, plain-if, happened-if, seen-on, sight-on}
+use Rattle.round_laws.proofs.SeenLemmas.{Mind, Knows, IsPlain, plain, plain-if, happened-if, seen-on, observation-on}
 use Rattle.round_laws.proofs.QuietLemmas.{is_tick, ArePlain}
 
 -- what came is a clock reading
@@ -71,7 +71,7 @@ plain-answered out (happened (journaled.Clock at)) apart = cc
 plain-answered out (happened (journaled.Saw path obs)) apart = refl
 plain-answered out (happened (journaled.OfJob job item)) apart = refl
 
-answers-plain : (names : List Name) (ps : List Unheard) → ArePlain (map machine_event (map (answer_told names) ps))
+answers-plain : (names : List Name) (ps : List PendingAnswer) → ArePlain (map machine_event (map (answer_told names) ps))
 answers-plain names [] = tt
 answers-plain names (p ∷ ps) = (refl, answers-plain names ps)
 
@@ -127,18 +127,18 @@ leaves T event refusal is_plain no_load m = λ turn is was p is_part s all knows
 pub notes : (T : Type 0) (path : List ℕ) (obs : Obs) (refusal : Option Refusal) → is_memory refusal ≢ true → (known known' : looks.Known) → looks.IsNoted path obs known known' → (loaded : Bool) →
     Steps T (Some (happened (journaled.Saw path obs))) refusal (record { known = known; loaded = loaded }) (record { known = known'; loaded = loaded })
 notes T path obs refusal had known known' noted loaded = λ turn is was p is_part s all knows.
-    sight-on turn p s path obs is_part is (subst (λ (r : Option Refusal). is_memory r ≢ true) (sym was) had) known known' noted loaded knows
+    observation-on turn p s path obs is_part is (subst (λ (r : Option Refusal). is_memory r ≢ true) (sym was) had) known known' noted loaded knows
 
 -- what happens to a job: no reading, no observation, no load
 pub record IsOfJob (event : Option Incoming) : Type 0 where
   pub no_reading : NoClock event
-  pub no_sight : IsPlain event
+  pub no_observation : IsPlain event
   pub no_load : (refusal : Option Refusal) → is_accepted_load event refusal ≡ false
 
 pub of_job : (label : List ℕ) (item : JobItem) → IsOfJob (event_if_label label (journaled.OfJob label item))
 of_job label item = record {
   no_reading = no-clock-if (is_label label) (happened (journaled.OfJob label item)) refl;
-  no_sight = plain-if (is_label label) (happened (journaled.OfJob label item)) refl;
+  no_observation = plain-if (is_label label) (happened (journaled.OfJob label item)) refl;
   no_load = λ refusal. happened-if (is_label label) (journaled.OfJob label item) refusal;
 }
 

@@ -19,15 +19,15 @@ use Rattle.launcher.specs.Journals.{reported}
 use Rattle.launcher.specs.Inputs.{Incoming, asked_by, event_if_label, happened}
 use Rattle.launcher_laws.specs.TurnRuns.{Snapshot, IsBetween, AreTurns}
 use Rattle.control_socket.specs.Serving.{Serves, nobody, one_more}
-use Rattle.live_loop.specs.declared.loop_host.HandedIn.{HandedIn}
-use Rattle.live_loop.specs.declared.loop_host.HandedIn.TheVariants as handed
+use Rattle.live_loop.specs.declared.loop_host.Delivered.{Delivered}
+use Rattle.live_loop.specs.declared.loop_host.Delivered.TheVariants as handed
 use Rattle.live_loop.specs.Children as children
 use Rattle.live_loop.specs.Looks as looks
 use Rattle.live_loop.specs.Rounds as rounds
 use Rattle.jobd.specs.declared.round_launcher.RoundLauncher.{RoundLauncher}
-use Rattle.jobd.specs.Launches.{lent, AsksEdge, ListsNext, Heard, HeardReading, Reads, ReadsIf, ReadsClock, HeardIf, Begins, Gives, Tells, TellsEnd, PollsFrom, DoesPath, TakesClient, TellsCame, ComesIn, AnswersLine}
+use Rattle.jobd.specs.Launches.{lent, AsksEdge, ListsNext, Received, ReceivedReading, Reads, ReadsIf, ReadsClock, ReceivedIf, Begins, Gives, Tells, TellsEnd, PollsFrom, DoesPath, TakesClient, TellsCame, ComesIn, AnswersLine}
 use Rattle.round_laws.specs.Marks.{Mark, Turned, Spared, turns_in, snapshot, turned}
-use Rattle.round_laws.specs.RoundMarks.{launcher, of_reading, of_reads, of_missed, of_news, of_begins, of_gives, of_tells, of_end, of_poll, of_polls, of_sight, of_walk, of_serves, of_client, of_clients, of_looks, of_round, marks_of}
+use Rattle.round_laws.specs.RoundMarks.{launcher, of_reading, of_reads, of_missed, of_news, of_begins, of_gives, of_tells, of_end, of_poll, of_polls, of_observation, of_walk, of_serves, of_client, of_clients, of_looks, of_round, marks_of}
 
 reported_twice : (has : Bool) (bytes : Option (List ℕ)) (cause : Option Cause) (p : Phase) →
     reported (reported (record { has_writer = has; bytes = bytes; cause = cause; phase = p })) ≡ reported (record { has_writer = has; bytes = bytes; cause = cause; phase = p })
@@ -82,9 +82,9 @@ module _ {T E W : Type 0} (calls : E → Option (List ToldCall)) (stores : T →
   same {old} {new} is = subst (λ r. Goes [] old r) (sym is) (nothing old)
 
   pub one_turn : (event : Option Incoming) (refusal : Option Refusal) (words : List ℕ) (old new : RoundLauncher T E W) →
-      Heard calls stores holds stamped event refusal words old.host new.host → Goes (turned calls stores event refusal words old.host new.host ∷ []) old new
-  one_turn event refusal words old new heard =
-      record { are = (still (snapshot calls stores old.host), (heard.hears, heard.writable), still (snapshot calls stores new.host)) }
+      Received calls stores holds stamped event refusal words old.host new.host → Goes (turned calls stores event refusal words old.host new.host ∷ []) old new
+  one_turn event refusal words old new received =
+      record { are = (still (snapshot calls stores old.host), (received.turn.receives, received.writable), still (snapshot calls stores new.host)) }
 
   asked : {old new : RoundLauncher T E W} → AsksEdge calls old new → Goes [] old new
   asked {old} {new} (inl edge) = subst (λ (r : RoundLauncher T E W). Goes [] old r) (sym edge.2) (record { are = record { table = refl; store = refl; journal = inl refl } })
@@ -97,8 +97,8 @@ module _ {T E W : Type 0} (calls : E → Option (List ToldCall)) (stores : T →
   asks {old} rounds.nothing = nothing old
   asks (rounds.further more a) = then_ {xs = []} {ys = []} (asks more) (asked a)
 
-  reading : (old new : RoundLauncher T E W) (heard : HeardReading calls stores holds stamped old new) → Goes (of_reading calls stores holds stamped old new heard) old new
-  reading old new heard = one_turn (Some (happened (journaled.Clock old.at))) heard.refusal heard.words old new heard.heard
+  reading : (old new : RoundLauncher T E W) (received : ReceivedReading calls stores holds stamped old new) → Goes (of_reading calls stores holds stamped old new received) old new
+  reading old new received = one_turn (Some (happened (journaled.Clock old.at))) received.refusal received.words old new received.received
 
   reads : (old new : RoundLauncher T E W) (r : Reads calls stores holds stamped old new) → Goes (of_reads calls stores holds stamped old new r) old new
   reads old new (inl own) = same own.1
@@ -108,8 +108,8 @@ module _ {T E W : Type 0} (calls : E → Option (List ToldCall)) (stores : T →
   missed true old new r = reads old new r
   missed false old new is = same is
 
-  news : (b : Bool) (old new : RoundLauncher T E W) (r : HeardIf calls stores holds stamped b old new) → Goes (of_news calls stores holds stamped b old new r) old new
-  news true old new heard = reading old new heard
+  news : (b : Bool) (old new : RoundLauncher T E W) (r : ReceivedIf calls stores holds stamped b old new) → Goes (of_news calls stores holds stamped b old new r) old new
+  news true old new received = reading old new received
   news false old new is = record { are = (same is).are }
 
   clock : (old new : RoundLauncher T E W) → ReadsClock calls stores holds stamped old new → Goes [] old new
@@ -124,7 +124,7 @@ module _ {T E W : Type 0} (calls : E → Option (List ToldCall)) (stores : T →
 
   gives : (event : Option Incoming) (refusal : Option Refusal) (words : List ℕ) (old new : RoundLauncher T E W) (g : Gives calls stores holds stamped event refusal words old new) →
       Goes (of_gives calls stores holds stamped event refusal words old new g) old new
-  gives event refusal words old new g = then_ {b = g.mid} (reads old g.mid g.reading) (one_turn event refusal words g.mid new g.heard)
+  gives event refusal words old new g = then_ {b = g.mid} (reads old g.mid g.reading) (one_turn event refusal words g.mid new g.received)
 
   tells : (event : Option Incoming) (refusal : Option Refusal) (old new : RoundLauncher T E W) (t : Tells calls stores holds stamped event refusal old new) →
       Goes (of_tells calls stores holds stamped event refusal old new t) old new
@@ -157,11 +157,11 @@ module _ {T E W : Type 0} (calls : E → Option (List ToldCall)) (stores : T →
     ]
   ]
 
-  sight : (Looks : List ℕ → Result Obs EdgeFault → E → E → Type 0) (path : List ℕ) (seen : Option Obs) (old : RoundLauncher T E W) (known : looks.Known) (new : RoundLauncher T E W) (known' : looks.Known)
-      (t : looks.TakesIf (DoesPath calls stores holds stamped Looks) path seen old known new known') → Goes (of_sight calls stores holds stamped Looks path seen old known new known' t) old new
-  sight Looks path None old known new known' none = same none.0
-  sight Looks path (Some obs) old known new known' (inl is) = record { are = (same is.1).are }
-  sight Looks path (Some obs) old known new known' (inr differs) = tells (Some (happened (journaled.Saw path obs))) differs.1.0 old new differs.1.2
+  observation : (Looks : List ℕ → Result Obs EdgeFault → E → E → Type 0) (path : List ℕ) (seen : Option Obs) (old : RoundLauncher T E W) (known : looks.Known) (new : RoundLauncher T E W) (known' : looks.Known)
+      (t : looks.TakesIf (DoesPath calls stores holds stamped Looks) path seen old known new known') → Goes (of_observation calls stores holds stamped Looks path seen old known new known' t) old new
+  observation Looks path None old known new known' none = same none.0
+  observation Looks path (Some obs) old known new known' (inl is) = record { are = (same is.1).are }
+  observation Looks path (Some obs) old known new known' (inr differs) = tells (Some (happened (journaled.Saw path obs))) differs.1.0 old new differs.1.2
 
   -- a question about paths
   put : (edge : E) (old new : RoundLauncher T E W) → new ≡ lent edge old → Goes [] old new
@@ -178,25 +178,25 @@ module _ {T E W : Type 0} (calls : E → Option (List ToldCall)) (stores : T →
   walk Looks {first = first} (looks.asked {new = new} more asked_on) = subst (λ ms. Goes ms first new) (append-nil (of_walk calls stores holds stamped Looks more)) (then_ {ys = []} (walk Looks more) (questions Looks asked_on))
   walk Looks (looks.one_more {next = next} {mid = mid} {seen = seen} {new = new} {before = before} {after = after} more is waits it) =
       then_ (walk Looks more) (then_ {xs = []} (put waits.0 mid seen waits.2) (then_ {xs = []} (put it.looked.1 seen it.mid it.looked.5)
-      (sight Looks next it.seen it.mid before new after it.taken)))
+      (observation Looks next it.seen it.mid before new after it.taken)))
 
   serves : {old new : RoundLauncher T E W} (s : Serves (AnswersLine calls stores holds stamped) old new) → Goes (of_serves calls stores holds stamped s) old new
   serves {old = old} nobody = nothing old
   serves (one_more {line = line} {reply = reply} {mid = mid} {new = new} more answers) = then_ (serves more)
       (let marks = of_gives calls stores holds stamped (asked_by line) reply.refusal reply.text mid answers.mid answers.gives in
       let given : Goes (marks ++ []) mid (lent answers.edge answers.mid) = then_ {ys = []} (gives (asked_by line) reply.refusal reply.text mid answers.mid answers.gives) (lent_on answers.edge answers.mid) in
-      let heard : Goes marks mid (lent answers.edge answers.mid) = subst (λ ms. Goes ms mid (lent answers.edge answers.mid)) (append-nil marks) given in
-      subst (λ (r : RoundLauncher T E W). Goes marks mid r) (sym answers.noted) (record { are = heard.are }))
+      let received : Goes marks mid (lent answers.edge answers.mid) = subst (λ ms. Goes ms mid (lent answers.edge answers.mid)) (append-nil marks) given in
+      subst (λ (r : RoundLauncher T E W). Goes marks mid r) (sym answers.noted) (record { are = received.are }))
 
-  client_on : (label : List ℕ) (job conn : ℕ) (answer : HandedIn) (old new : RoundLauncher T E W) (t : TellsCame calls stores holds stamped label job conn answer old new) →
+  client_on : (label : List ℕ) (job conn : ℕ) (answer : Delivered) (old new : RoundLauncher T E W) (t : TellsCame calls stores holds stamped label job conn answer old new) →
       Goes (of_client calls stores holds stamped label job conn answer old new t) old new
   client_on label job conn handed.Dropped old new is = same is
-  client_on label job conn handed.Heard old new t = tells (event_if_label label (journaled.OfJob label (happens.Came conn))) None old new t
+  client_on label job conn handed.Received old new t = tells (event_if_label label (journaled.OfJob label (happens.Came conn))) None old new t
   client_on label job conn (handed.Refused refusal) old new came =
-      let heard = tells (event_if_label label (journaled.OfJob label (happens.Came conn))) (Some refusal) old came.0 came.2 in
+      let received = tells (event_if_label label (journaled.OfJob label (happens.Came conn))) (Some refusal) old came.0 came.2 in
       subst (λ (r : RoundLauncher T E W). Goes (of_tells calls stores holds stamped (event_if_label label (journaled.OfJob label (happens.Came conn))) (Some refusal) old came.0 came.2) old r) (sym came.4)
       (subst (λ ms. Goes ms old (lent came.1 came.0)) (append-nil (of_tells calls stores holds stamped (event_if_label label (journaled.OfJob label (happens.Came conn))) (Some refusal) old came.0 came.2))
-      (then_ {ys = []} heard (lent_on came.1 came.0)))
+      (then_ {ys = []} received (lent_on came.1 came.0)))
 
   took : (Accepts : ℕ → E → E → Type 0) {job : ℕ} {old mid new : RoundLauncher T E W} → TakesClient calls Accepts job old mid → rounds.Asks (AsksEdge calls) mid new → Goes [] old new
   took Accepts {old = old} {mid = mid} takes a = then_ {xs = []} {ys = []} (subst (λ (r : RoundLauncher T E W). Goes [] old r) (sym takes.3) (lent_on takes.0 old)) (asks a)
@@ -206,7 +206,7 @@ module _ {T E W : Type 0} (calls : E → Option (List ToldCall)) (stores : T →
   clients Accepts Holds {old = old} rounds.nobody = nothing old
   clients Accepts Holds {old = old} (rounds.asked {new = new} more a) = subst (λ ms. Goes ms old new) (append-nil (of_clients calls stores holds stamped Accepts Holds more)) (then_ {ys = []} (clients Accepts Holds more) (asked a))
   clients Accepts Holds {old = old} (rounds.taken {new = new} more t w a) = subst (λ ms. Goes ms old new) (append-nil (of_clients calls stores holds stamped Accepts Holds more)) (then_ {ys = []} (clients Accepts Holds more) (took Accepts t a))
-  clients Accepts Holds (rounds.heard more grows) = clients Accepts Holds more
+  clients Accepts Holds (rounds.received more grows) = clients Accepts Holds more
   clients Accepts Holds (rounds.went more gone) = clients Accepts Holds more
   clients Accepts Holds (rounds.came {client = client} {answer = answer} {desk = desk} {mid = mid} {new = new} more is set comes) =
       then_ (clients Accepts Holds more) (then_ {xs = []} (lent_on comes.edge mid) (client_on comes.label client.origin.job desk.conn answer (lent comes.edge mid) new comes.handed))

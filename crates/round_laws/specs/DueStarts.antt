@@ -12,7 +12,7 @@ use Rattle.history_model.specs.Runs.{runs}
 use Rattle.history_model.specs.Demands.{waiting}
 use Rattle.history_model.specs.Labels.{Label}
 use Rattle.history_model.specs.Clock.{definition_of}
-use Rattle.history_model.specs.Machine.{State, Event, Tick, Sight, past_of}
+use Rattle.history_model.specs.Machine.{State, Event, Tick, Observation, past_of}
 use Rattle.history_model.specs.MachineLaws.{concerns, is_for}
 use Rattle.history_model.specs.Moments.{HasPeriod}
 use Rattle.history_model.specs.NextMomentByFacts.{has_come}
@@ -43,7 +43,7 @@ pub record IsDueAt (s : State) (label : Label) (past : History) (at : Reading) :
 -- The event does nothing to a job with this label and this definition but that it may read the clocks.
 abbrev pub LeavesAlone : Label → Definition → Event → Type 0
 LeavesAlone label d (Tick at) = ⊤
-LeavesAlone label d (Sight path obs) = lists d path ≡ false
+LeavesAlone label d (Observation path obs) = lists d path ≡ false
 LeavesAlone label d e = concerns label e ≡ false
 
 -- it is the start of the job's next run, with the connection that waits first

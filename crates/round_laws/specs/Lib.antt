@@ -1,6 +1,6 @@
 pub mod Marks
 pub mod RoundMarks
-pub mod Hearing
+pub mod Receiving
 pub mod Following
 pub mod Called
 pub mod DueStarts

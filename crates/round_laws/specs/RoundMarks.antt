@@ -12,13 +12,13 @@ use Rattle.child_edge.specs.Calls.{ToldCall}
 use Rattle.child_edge.specs.declared.plain.EdgeFault.{EdgeFault}
 use Rattle.outside.specs.Stores.{Stamp, StoreCall}
 use Rattle.control_socket.specs.Serving.{Serves, nobody, one_more}
-use Rattle.live_loop.specs.declared.loop_host.HandedIn.{HandedIn}
-use Rattle.live_loop.specs.declared.loop_host.HandedIn.TheVariants as handed
+use Rattle.live_loop.specs.declared.loop_host.Delivered.{Delivered}
+use Rattle.live_loop.specs.declared.loop_host.Delivered.TheVariants as handed
 use Rattle.live_loop.specs.Children as children
 use Rattle.live_loop.specs.Looks as looks
 use Rattle.live_loop.specs.Rounds as rounds
 use Rattle.jobd.specs.declared.round_launcher.RoundLauncher.{RoundLauncher}
-use Rattle.jobd.specs.Launches.{lent, AsksEdge, ListsNext, HeardReading, Reads, ReadsIf, HeardIf, Begins, Gives, Tells, TellsEnd, PollsFrom, DoesPath, TakesClient, TellsCame, ComesIn, AnswersLine}
+use Rattle.jobd.specs.Launches.{lent, AsksEdge, ListsNext, ReceivedReading, Reads, ReadsIf, ReceivedIf, Begins, Gives, Tells, TellsEnd, PollsFrom, DoesPath, TakesClient, TellsCame, ComesIn, AnswersLine}
 use Rattle.round_laws.specs.Marks.{Mark, Spared, turned}
 
 module _ {T E W : Type 0} (calls : E → Option (List ToldCall)) (stores : T → Option (List StoreCall))
@@ -45,9 +45,9 @@ module _ {T E W : Type 0} (calls : E → Option (List ToldCall)) (stores : T →
   -- ---- clock readings
 
   -- a clock reading that was delivered
-  abbrev pub of_reading : (old new : RoundLauncher T E W) → HeardReading calls stores holds stamped old new → List (Mark T)
-  of_reading old new heard =
-      turned calls stores (Some (happened (journaled.Clock old.at))) heard.refusal heard.words old.host new.host ∷ []
+  abbrev pub of_reading : (old new : RoundLauncher T E W) → ReceivedReading calls stores holds stamped old new → List (Mark T)
+  of_reading old new received =
+      turned calls stores (Some (happened (journaled.Clock old.at))) received.refusal received.words old.host new.host ∷ []
 
   abbrev pub of_reads : (old new : RoundLauncher T E W) → Reads calls stores holds stamped old new → List (Mark T)
   of_reads old new (inl same) = []
@@ -60,8 +60,8 @@ module _ {T E W : Type 0} (calls : E → Option (List ToldCall)) (stores : T →
 
   -- a clock reading that is not news is spared
   abbrev pub of_news : (is_news : Bool) (old new : RoundLauncher T E W) →
-      HeardIf calls stores holds stamped is_news old new → List (Mark T)
-  of_news true old new heard = of_reading old new heard
+      ReceivedIf calls stores holds stamped is_news old new → List (Mark T)
+  of_news true old new received = of_reading old new received
   of_news false old new same = Spared (journaled.Clock old.at) ∷ []
 
   abbrev pub of_begins : (old new : RoundLauncher T E W) → Begins calls stores holds stamped old new → List (Mark T)
@@ -102,11 +102,11 @@ module _ {T E W : Type 0} (calls : E → Option (List ToldCall)) (stores : T →
   -- ---- paths
 
   -- an observation that is what was delivered last is spared
-  abbrev pub of_sight : (Looks : List ℕ → Result Obs EdgeFault → E → E → Type 0) (path : List ℕ) (seen : Option Obs) (old : RoundLauncher T E W) (known : looks.Known) (new : RoundLauncher T E W) (known' : looks.Known) →
+  abbrev pub of_observation : (Looks : List ℕ → Result Obs EdgeFault → E → E → Type 0) (path : List ℕ) (seen : Option Obs) (old : RoundLauncher T E W) (known : looks.Known) (new : RoundLauncher T E W) (known' : looks.Known) →
       looks.TakesIf (DoesPath calls stores holds stamped Looks) path seen old known new known' → List (Mark T)
-  of_sight Looks path None old known new known' none = []
-  of_sight Looks path (Some obs) old known new known' (inl same) = Spared (journaled.Saw path obs) ∷ []
-  of_sight Looks path (Some obs) old known new known' (inr differs) =
+  of_observation Looks path None old known new known' none = []
+  of_observation Looks path (Some obs) old known new known' (inl same) = Spared (journaled.Saw path obs) ∷ []
+  of_observation Looks path (Some obs) old known new known' (inr differs) =
       of_tells (Some (happened (journaled.Saw path obs))) differs.1.0 old new differs.1.2
 
   -- questions about paths hand nothing in
@@ -115,7 +115,7 @@ module _ {T E W : Type 0} (calls : E → Option (List ToldCall)) (stores : T →
   of_walk Looks looks.no_look = []
   of_walk Looks (looks.asked walk questions) = of_walk Looks walk
   of_walk Looks (looks.one_more {next = next} {new = new} {before = before} {after = after} walk is waits it) =
-      of_walk Looks walk ++ of_sight Looks next it.seen it.mid before new after it.taken
+      of_walk Looks walk ++ of_observation Looks next it.seen it.mid before new after it.taken
 
   -- ---- clients
 
@@ -124,10 +124,10 @@ module _ {T E W : Type 0} (calls : E → Option (List ToldCall)) (stores : T →
   of_serves (one_more {line = line} {reply = reply} {mid = mid} serves answers) = of_serves serves
       ++ of_gives (asked_by line) reply.refusal reply.text mid answers.mid answers.gives
 
-  abbrev pub of_client : (label : List ℕ) (job conn : ℕ) (answer : HandedIn) (old new : RoundLauncher T E W) →
+  abbrev pub of_client : (label : List ℕ) (job conn : ℕ) (answer : Delivered) (old new : RoundLauncher T E W) →
       TellsCame calls stores holds stamped label job conn answer old new → List (Mark T)
   of_client label job conn handed.Dropped old new same = []
-  of_client label job conn handed.Heard old new tells = of_tells (event_if_label label (journaled.OfJob label (happens.Came conn))) None old new tells
+  of_client label job conn handed.Received old new tells = of_tells (event_if_label label (journaled.OfJob label (happens.Came conn))) None old new tells
   of_client label job conn (handed.Refused refusal) old new came =
       of_tells (event_if_label label (journaled.OfJob label (happens.Came conn))) (Some refusal) old came.0 came.2
 
@@ -137,7 +137,7 @@ module _ {T E W : Type 0} (calls : E → Option (List ToldCall)) (stores : T →
   of_clients Accepts Holds rounds.nobody = []
   of_clients Accepts Holds (rounds.asked gathers asks) = of_clients Accepts Holds gathers
   of_clients Accepts Holds (rounds.taken gathers takes welcomes asks) = of_clients Accepts Holds gathers
-  of_clients Accepts Holds (rounds.heard gathers grows) = of_clients Accepts Holds gathers
+  of_clients Accepts Holds (rounds.received gathers grows) = of_clients Accepts Holds gathers
   of_clients Accepts Holds (rounds.went gathers gone) = of_clients Accepts Holds gathers
   of_clients Accepts Holds (rounds.came {client = client} {answer = answer} {desk = desk} {mid = mid} {new = new} gathers is set comes) =
       of_clients Accepts Holds gathers ++ of_client comes.label client.origin.job desk.conn answer (lent comes.edge mid) new comes.handed

@@ -21,8 +21,8 @@ ghost use Rattle.outside.specs.Stores.{StoreCall};
 ghost use Rattle.jobd.specs.declared.round_launcher.RoundLauncher.{RoundLauncher as Launcher};
 ghost use Rattle.round_laws.specs.Called.{AsksBetween};
 ghost use Rattle.round_laws.specs.DueStarts.{IsDueAt, IsStartedIn, StartsAllDue, StartsWhatWaits, turns_before};
-ghost use Rattle.round_laws.specs.Following.{AreFollowed, deeds_of};
-ghost use Rattle.round_laws.specs.Hearing.{DecideAsOne, Decides, HeardReadings, lines_of};
+ghost use Rattle.round_laws.specs.Following.{AreFollowed, operations_of};
+ghost use Rattle.round_laws.specs.Receiving.{DecideAsOne, Decides, ReceivedReadings, lines_of};
 ghost use Rattle.round_laws.specs.Marks.{Mark, snapshot, turns_in};
 ghost use Rattle.round_laws.specs.RoundMarks.{launcher, marks_of, of_round};
 
@@ -72,7 +72,7 @@ pub fn what_was_spared_changes_nothing<T: SettingStore>(store: &T)
 }
 
 /// Take any passes of a new launcher, to which no observation was delivered yet. They decide as if each clock reading
-/// and each observation had been delivered, in the order of the passes. No clock reading that was left out was news.
+/// and each observation had been delivered, in the order of the passes. Each clock reading that was left out would have changed nothing.
 /// Where an observation was left out, each job that lists the path had last seen the same. All else was delivered at
 /// the last clock reading. The condition: memory was not wanting at a clock reading.
 pub fn rounds_decide_as_one<T: SettingStore, E: RoundEdge, W: Write>(round: &RoundLauncher<T, E, W>)
@@ -82,7 +82,7 @@ pub fn rounds_decide_as_one<T: SettingStore, E: RoundEdge, W: Write>(round: &Rou
         (T.holds before) (T.holds first.host.host.store)) →
         first.host.at ≡ first.host.host.table.reading → IsEmpty first.known →
         (rounds : AreRounds (launcher E.told T.told T.holds T.stamped E.Finds E.Looks E.Accepts E.Holds) first last) →
-        HeardReadings (marks_of E.told T.told T.holds T.stamped E.Finds E.Looks E.Accepts E.Holds rounds) →
+        ReceivedReadings (marks_of E.told T.told T.holds T.stamped E.Finds E.Looks E.Accepts E.Holds rounds) →
         Decides new.machine (marks_of E.told T.told T.holds T.stamped E.Finds E.Looks E.Accepts E.Holds rounds) }
 {
     let _ = round;
@@ -98,7 +98,7 @@ pub fn each_client_is_followed<T: SettingStore, E: RoundEdge, W: Write>(
     ensures { (first last : Left (Launcher T E W)) → IsNobodyYet first.desk →
         (rounds : AreRounds (launcher E.told T.told T.holds T.stamped E.Finds E.Looks E.Accepts E.Holds) first last) →
         AreFollowed (launcher E.told T.told T.holds T.stamped E.Finds E.Looks E.Accepts E.Holds)
-        (deeds_of (launcher E.told T.told T.holds T.stamped E.Finds E.Looks E.Accepts E.Holds) rounds) }
+        (operations_of (launcher E.told T.told T.holds T.stamped E.Finds E.Looks E.Accepts E.Holds) rounds) }
 {
     let _ = round;
 }
@@ -112,7 +112,7 @@ pub fn a_due_start_is_ordered_in_its_round<T: SettingStore, E: RoundEdge, W: Wri
 )
     ensures one { (old new : Left (Launcher T E W)) →
         (round : IsRound (launcher E.told T.told T.holds T.stamped E.Finds E.Looks E.Accepts E.Holds) old new) →
-        HeardReadings (of_round E.told T.told T.holds T.stamped E.Finds E.Looks E.Accepts E.Holds old new round) →
+        ReceivedReadings (of_round E.told T.told T.holds T.stamped E.Finds E.Looks E.Accepts E.Holds old new round) →
         (s : State) → KeepsState round.begins.begun.host.table s → IsLed s →
         is_clock_refused s.reading round.begins.begun.at ≡ false →
         (label : Label) (past : History) → IsDueAt s label past round.begins.begun.at →
@@ -126,7 +126,7 @@ pub fn a_due_start_is_ordered_in_its_round<T: SettingStore, E: RoundEdge, W: Wri
         first.host.at ≡ first.host.host.table.reading →
         (more : AreRounds (launcher E.told T.told T.holds T.stamped E.Finds E.Looks E.Accepts E.Holds) first old) →
         (round : IsRound (launcher E.told T.told T.holds T.stamped E.Finds E.Looks E.Accepts E.Holds) old new) →
-        HeardReadings (marks_of E.told T.told T.holds T.stamped E.Finds E.Looks E.Accepts E.Holds (one_round more round)) →
+        ReceivedReadings (marks_of E.told T.told T.holds T.stamped E.Finds E.Looks E.Accepts E.Holds (one_round more round)) →
         StartsAllDue opened.machine (turns_before E.told T.told T.holds T.stamped E.Finds E.Looks E.Accepts E.Holds more round)
         round.begins.begun.host.table round.begins.begun.at
         (turns_in (of_round E.told T.told T.holds T.stamped E.Finds E.Looks E.Accepts E.Holds old new round)) }
@@ -140,8 +140,8 @@ pub fn a_due_start_is_ordered_in_its_round<T: SettingStore, E: RoundEdge, W: Wri
         (more : AreRounds (launcher E.told T.told T.holds T.stamped E.Finds E.Looks E.Accepts E.Holds) first from) →
         (meanwhile : AreRounds (launcher E.told T.told T.holds T.stamped E.Finds E.Looks E.Accepts E.Holds) from old) →
         (round : IsRound (launcher E.told T.told T.holds T.stamped E.Finds E.Looks E.Accepts E.Holds) old new) →
-        HeardReadings (marks_of E.told T.told T.holds T.stamped E.Finds E.Looks E.Accepts E.Holds more) →
-        HeardReadings (marks_of E.told T.told T.holds T.stamped E.Finds E.Looks E.Accepts E.Holds (one_round meanwhile round)) →
+        ReceivedReadings (marks_of E.told T.told T.holds T.stamped E.Finds E.Looks E.Accepts E.Holds more) →
+        ReceivedReadings (marks_of E.told T.told T.holds T.stamped E.Finds E.Looks E.Accepts E.Holds (one_round meanwhile round)) →
         StartsWhatWaits opened.machine (turns_in (marks_of E.told T.told T.holds T.stamped E.Finds E.Looks E.Accepts E.Holds more))
         from.host.host.table (turns_before E.told T.told T.holds T.stamped E.Finds E.Looks E.Accepts E.Holds meanwhile round)
         round.begins.begun.at

@@ -38,7 +38,7 @@ abbrev pub refusal_in : List Told → Option Refusal
 refusal_in ((Refused run reason, at) ∷ before) = Some (record { run = run; reason = reason; at = at })
 refusal_in _ = None
 
--- what is known once this happened to a load that was made at this reading
+-- what is known once this happened to a load that was made at this clock reading
 abbrev pub kept_of : Reading → List Told → Kept
 kept_of loaded past = record {
   loaded = loaded;

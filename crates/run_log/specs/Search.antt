@@ -74,7 +74,7 @@ refuses _ = None
 
 -- ---- searches
 
--- the readings of the items that pass, newest first
+-- the clock readings of the items that pass, newest first
 abbrev pub readings : (RunItem → Bool) → List Told → List Reading
 readings passes [] = []
 readings passes ((item, at) ∷ past) =

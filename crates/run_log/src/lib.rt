@@ -1,5 +1,6 @@
-//! One recorder of the runs of a load of a job: its last start, its last exit, its last refused start with the reason, and since when the job is so. It
-//! counts each of them. The launcher has one for each loaded job, for its status file, and `jobscope` has one for each job of a journal.
+//! One recorder of the runs of a load of a job. It keeps the last start, the last exit, the last refused start with the reason,
+//! and since when the job's state lasts. It counts each of them. The launcher has one for each loaded job, for its status file,
+//! and `jobscope` has one for each job of a journal.
 #![tactic(auto)]
 
 mod facts;

@@ -7,12 +7,12 @@ use Rattle.std.proofs.lemmas.Bool.Decides.{nat_tests}
 use Rattle.std.proofs.lemmas.Fmt.{decimal_by_steps}
 use Rattle.std.proofs.lemmas.List.Folds.{list_all-append}
 use Rattle.history_model.specs.declared.CivilMinute.{CivilMinute}
-use Rattle.run_times.specs.declared.ink.Ink.{Ink}
+use Rattle.run_times.specs.declared.writer.TextWriter.{TextWriter}
 use Rattle.run_times.specs.Written.{Adds}
 use Rattle.run_times.specs.ClockTexts.{IsClockText, TellsClock, date_text, hour_text, is_clock_char, offset_text, two_digits}
 use Rattle.run_times.proofs.GrowingLemmas.{adds_on}
 
--- all of them may stand in it
+-- all of them may be in it
 abbrev AreClock : List ℕ → Type 0
 AreClock text = list_all is_clock_char text ≡ true
 
@@ -54,7 +54,7 @@ ahead sign minutes signed =
     (both (codes ":") (two_digits (minutes % 60)) refl (two (minutes % 60))))
 
 -- a day, a time of it and an offset, one after the other
-pub tells_clock : (at here : CivilMinute) (second minutes : ℕ) (sign : List ℕ) (a b c d : Ink) → at ≡ here → list_all is_clock_char sign ≡ true
+pub tells_clock : (at here : CivilMinute) (second minutes : ℕ) (sign : List ℕ) (a b c d : TextWriter) → at ≡ here → list_all is_clock_char sign ≡ true
     → Adds (date_text at) a b → Adds (hour_text at second) b c → Adds (offset_text sign minutes) c d → TellsClock here second a d
 tells_clock at here second minutes sign a b c d same signed day hour offset = subst (λ at. TellsClock at second a d) same (
   date_text at ++ (hour_text at second ++ offset_text sign minutes),

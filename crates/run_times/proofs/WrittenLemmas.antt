@@ -2,7 +2,7 @@
 use Rattle.std.proofs.Common.{◌≡◌, ◌++◌, ◌∷◌, [], ◌∙◌, ◌+◌, ◌<◌, ap, sym, ℕ, List, take, length, get_or, append-nil}
 use Rattle.std.proofs.lemmas.List.{take_more, append_assoc}
 use Rattle.std.proofs.lemmas.Grind.{flat_map-append}
-use Rattle.run_times.specs.declared.ink.Piece.{Piece}
+use Rattle.run_times.specs.declared.writer.Piece.{Piece}
 use Rattle.run_times.specs.Written.{piece_text, pieces_text}
 
 pub written_more : (was before now : List ℕ) (pieces : List Piece) (at : ℕ) (other : Piece) → at < length pieces →

@@ -3,7 +3,7 @@ use Rattle.std.specs.Prelude.{◌≡◌, ℕ, ◌++◌, ◌||◌, ◌&&◌, ◌=
 use Rattle.std.specs.Fmt.{decimal}
 use Rattle.std.specs.List.{list_all}
 use Rattle.history_model.specs.declared.CivilMinute.{CivilMinute}
-use Rattle.run_times.specs.declared.ink.Ink.{Ink}
+use Rattle.run_times.specs.declared.writer.TextWriter.{TextWriter}
 use Rattle.run_times.specs.Written.{Adds}
 
 -- a digit, or one of the signs of a time: + - : T
@@ -25,7 +25,7 @@ abbrev pub hour_text : CivilMinute → ℕ → List ℕ
 hour_text at second =
     codes "T" ++ (two_digits at.hour ++ (codes ":" ++ (two_digits at.minute ++ (codes ":" ++ two_digits (second % 60)))))
 
--- the offset, of so many minutes: +01:00
+-- the offset, of this number of minutes: +01:00
 abbrev pub offset_text : List ℕ → ℕ → List ℕ
 offset_text sign minutes = sign ++ (two_digits (minutes / 60) ++ (codes ":" ++ two_digits (minutes % 60)))
 
@@ -37,5 +37,5 @@ pub record IsClockText (at : CivilMinute) (second : ℕ) (text : List ℕ) : Typ
   pub plain : list_all is_clock_char text ≡ true
 
 -- it follows what was written before
-abbrev pub TellsClock : CivilMinute → ℕ → Ink → Ink → Type 0
+abbrev pub TellsClock : CivilMinute → ℕ → TextWriter → TextWriter → Type 0
 TellsClock at second old new = (text : List ℕ) × IsClockText at second text × Adds text old new

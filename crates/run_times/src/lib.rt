@@ -3,16 +3,16 @@
 #![tactic(auto)]
 
 mod escape;
-mod ink;
 mod moment;
 mod next;
 mod page;
 pub mod picture;
 mod span;
 pub mod telling;
+mod writer;
 
 pub use escape::escaped;
-pub use ink::{Ink, Piece};
 pub use moment::{put_clock, time_text, utc};
 pub use next::{coming_second, needs_event, next_run};
 pub use page::{Filling, Page};
+pub use writer::{Piece, TextWriter};

@@ -6,8 +6,8 @@ ghost use Rattle.calendar_due.specs.ZoneRules.{minute_at};
 ghost use Rattle.run_times.specs.ClockTexts.{TellsClock, date_text, hour_text, is_clock_char, offset_text};
 ghost use Rattle.run_times.specs.Written.{Adds};
 
-use crate::ink::Ink;
-use crate::ink::Piece::{Number, Text, TwoDigits};
+use crate::writer::Piece::{Number, Text, TwoDigits};
+use crate::writer::TextWriter;
 use calendar_due::Zone;
 use history_model::{CivilMinute, MAX_WALL};
 use std::alloc::{AllocError, Global};
@@ -32,7 +32,7 @@ pub fn time_text(alloc: Global, zone: &Zone, second: u64) -> Result<String, Allo
 {
     let at = zone.civil_minute(second);
     let (sign, offset) = offset_of(&at, second);
-    let mut ink = Ink::new(alloc);
+    let mut writer = TextWriter::new(alloc);
     // No year is before 1969, nor after 9999.
     let pieces = [
         Number(u64::from(at.year.unsigned_abs())),
@@ -46,29 +46,29 @@ pub fn time_text(alloc: Global, zone: &Zone, second: u64) -> Result<String, Allo
         TwoDigits(offset / 60),
         TwoDigits(offset % 60),
     ];
-    ink.fill("$-$-$ $ $:$:$ $$$", &pieces);
-    ink.into_text()
+    writer.fill("$-$-$ $ $:$:$ $$$", &pieces);
+    writer.into_text()
 }
 
 /// Adds the second as RFC 3339 writes it, by the clock of the zone: `2026-11-29T03:30:00+01:00`. It is digits and signs alone, without the name of
 /// the zone. Seconds of an offset are dropped. The caller's condition: at most 250,000,000,000 seconds.
 #[tactic(auto, using(crate::proofs::ClockLemmas::tells_clock))]
-pub fn put_clock(ink: &mut Ink, zone: &Zone, second: u64)
+pub fn put_clock(writer: &mut TextWriter, zone: &Zone, second: u64)
     requires { second ≤ MAX_WALL }
-    ensures { TellsClock (minute_at zone.now second) second ink.old ink.new }
+    ensures { TellsClock (minute_at zone.now second) second writer.old writer.new }
 {
     let at = zone.civil_minute(second);
     let (sign, offset) = offset_of(&at, second);
-    put_date(ink, &at);
-    put_hour(ink, &at, second);
-    put_offset(ink, sign, offset);
+    put_date(writer, &at);
+    put_hour(writer, &at, second);
+    put_offset(writer, sign, offset);
 }
 
-fn put_date(ink: &mut Ink, at: &CivilMinute)
-    ensures { Adds (date_text at.now) ink.old ink.new }
+fn put_date(writer: &mut TextWriter, at: &CivilMinute)
+    ensures { Adds (date_text at.now) writer.old writer.new }
 {
     let year = u64::from(at.year.unsigned_abs());
-    ink.put_all(&[
+    writer.put_all(&[
         TwoDigits(year / 100),
         TwoDigits(year % 100),
         Text("-"),
@@ -78,10 +78,10 @@ fn put_date(ink: &mut Ink, at: &CivilMinute)
     ]);
 }
 
-fn put_hour(ink: &mut Ink, at: &CivilMinute, second: u64)
-    ensures { Adds (hour_text at.now second) ink.old ink.new }
+fn put_hour(writer: &mut TextWriter, at: &CivilMinute, second: u64)
+    ensures { Adds (hour_text at.now second) writer.old writer.new }
 {
-    ink.put_all(&[
+    writer.put_all(&[
         Text("T"),
         TwoDigits(u64::from(at.hour)),
         Text(":"),
@@ -91,10 +91,10 @@ fn put_hour(ink: &mut Ink, at: &CivilMinute, second: u64)
     ]);
 }
 
-fn put_offset(ink: &mut Ink, sign: &str, minutes: u64)
-    ensures { Adds (offset_text sign.now minutes) ink.old ink.new }
+fn put_offset(writer: &mut TextWriter, sign: &str, minutes: u64)
+    ensures { Adds (offset_text sign.now minutes) writer.old writer.new }
 {
-    ink.put_all(&[
+    writer.put_all(&[
         Text(sign),
         TwoDigits(minutes / 60),
         Text(":"),

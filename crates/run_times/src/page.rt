@@ -3,9 +3,9 @@
 ghost use Rattle.run_times.specs.Written.{Grows};
 
 use crate::escape::escaped;
-use crate::ink::Ink;
 use crate::moment::time_text;
 use crate::next::coming_second;
+use crate::writer::TextWriter;
 use calendar_due::Zone;
 use history_model::{MAX_WALL, Reading};
 use std::alloc::{AllocError, Global};
@@ -13,18 +13,18 @@ use std::alloc::{AllocError, Global};
 /// A text, the zone in which it shows times, and the clock reading as of which it speaks.
 #[derive(Drop)]
 pub struct Page<'a> {
-    pub ink: Ink,
+    pub writer: TextWriter,
     pub now: Reading,
     pub alloc: Global,
     pub zone: &'a Zone,
     /// The whole time of the clock reading.
-    moment: Ink,
+    moment: TextWriter,
 }
 
 /// What is put into a hole.
 #[derive(Clone, Copy)]
 pub enum Filling<'a> {
-    /// A text, as by `Ink::put_plain`.
+    /// A text, as by `TextWriter::put_plain`.
     Text(&'a str),
     /// A text as it is written within XML or HTML.
     Escaped(&'a str),
@@ -70,10 +70,10 @@ fn place_in(part: &str, next: usize) -> (usize, &str) {
 impl<'a> Page<'a> {
     /// An empty one.
     pub fn new(alloc: Global, zone: &'a Zone, now: Reading) -> Page<'a> {
-        let mut moment = Ink::new(alloc);
+        let mut moment = TextWriter::new(alloc);
         moment.put_moment(alloc, zone, now.wall);
         Page {
-            ink: Ink::new(alloc),
+            writer: TextWriter::new(alloc),
             now,
             alloc,
             zone,
@@ -84,45 +84,45 @@ impl<'a> Page<'a> {
     /// The text, if memory was never refused.
     pub fn into_text(self) -> Result<String, AllocError> {
         let Page {
-            mut ink,
+            mut writer,
             moment,
             ..
         } = self;
         if moment.is_refused {
-            ink.refuse();
+            writer.refuse();
         }
         drop(moment);
-        ink.into_text()
+        writer.into_text()
     }
 
     /// Adds the form. Each `$` in it is for the next of the holes or, with a digit after it, for the hole of that number, from 0. Holes for
     /// which there is no `$` are left out. What is written stays.
     pub fn add(&mut self, form: &str, holes: &[Filling<'_>])
-        ensures grows { Grows self.old.ink self.new.ink }
+        ensures grows { Grows self.old.writer self.new.writer }
     {
         let mut parts = form.split('$');
-        self.ink.put(parts.next().unwrap_or(""));
+        self.writer.put(parts.next().unwrap_or(""));
         let mut next: usize = 0;
         for part in parts {
             let (place, rest) = place_in(part, next);
             self.add_hole(holes.get(place));
-            self.ink.put(rest);
+            self.writer.put(rest);
             next = next.saturating_add(1);
         }
     }
 
     fn add_hole(&mut self, hole: Option<&Filling<'_>>)
-        ensures grows { Grows self.old.ink self.new.ink }
+        ensures grows { Grows self.old.writer self.new.writer }
     {
         let Some(hole) = hole else {
             return;
         };
         match *hole {
-            Filling::Text(part) => self.ink.put_plain(part),
-            Filling::Escaped(part) => self.ink.put_made(escaped(self.alloc, part)),
-            Filling::Number(number) => self.ink.put_number(number),
-            Filling::Now => self.ink.put(self.moment.text.as_str()),
-            Filling::Span(length) => self.ink.put_span(length, true),
+            Filling::Text(part) => self.writer.put_plain(part),
+            Filling::Escaped(part) => self.writer.put_made(escaped(self.alloc, part)),
+            Filling::Number(number) => self.writer.put_number(number),
+            Filling::Now => self.writer.put(self.moment.text.as_str()),
+            Filling::Span(length) => self.writer.put_span(length, true),
             Filling::Moment(wall) => self.add_moment(wall, MomentLook::Whole),
             Filling::Time(wall) => self.add_moment(wall, MomentLook::Short),
             Filling::Coming(up) => {
@@ -133,7 +133,7 @@ impl<'a> Page<'a> {
     }
 
     fn add_moment(&mut self, wall: u64, look: MomentLook)
-        ensures grows { Grows self.old.ink self.new.ink }
+        ensures grows { Grows self.old.writer self.new.writer }
     {
         match time_text(self.alloc, self.zone, wall.min(MAX_WALL)) {
             Ok(text) => {
@@ -145,11 +145,11 @@ impl<'a> Page<'a> {
                     ),
                     _ => (moment.len(), 0, 0),
                 };
-                self.ink.put(moment.get(..date).unwrap_or(""));
-                self.ink.put(moment.get(from..until).unwrap_or(""));
+                self.writer.put(moment.get(..date).unwrap_or(""));
+                self.writer.put(moment.get(from..until).unwrap_or(""));
                 drop(text);
             }
-            Err(_) => self.ink.refuse(),
+            Err(_) => self.writer.refuse(),
         }
     }
 }

@@ -13,7 +13,7 @@ mod words;
 
 pub use axis::Axis;
 pub use blocks::blocks_text;
-pub use chart::{Bar, Chart, End, Mark, MarkKind, Row};
+pub use chart::{Bar, Chart, ChartMark, ChartRow, End, MarkKind};
 pub use gathering::{Gathered, Gathering};
 pub use html::{Beside, Coming};
 pub use piece::picture_piece;

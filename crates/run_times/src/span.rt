@@ -1,7 +1,7 @@
 //! A span of time.
 
-use crate::ink::Piece;
-use crate::ink::Piece::{Number, Text};
+use crate::writer::Piece;
+use crate::writer::Piece::{Number, Text};
 
 /// The units of a span, in milliseconds: from which length on one is the greatest, the unit, its name, the next unit, and its name.
 const UNITS: [(u64, u64, &str, u64, &str); 5] = [

@@ -8,7 +8,7 @@ ghost use Rattle.std.specs.declared.io.ErrorKind.TheVariants.{OutOfMemory};
 ghost use Rattle.exit_status.specs.declared.TheConstants as statuses;
 ghost use Rattle.run_times.specs.Endings.{WantsMemory, status_of_end};
 
-use crate::ink::Ink;
+use crate::writer::TextWriter;
 use exit_status::{BAD_OUTPUT, NO_MEMORY, READER_GONE};
 use std::alloc::{AllocError, Global};
 use std::fmt::Display;
@@ -79,7 +79,7 @@ pub fn put_outcome<W: Write>(writer: &mut W, made: Result<Outcome, AllocError>) 
 }
 
 /// Writes the text to the standard error, if memory was never refused.
-pub fn tell_line(host: &HostRuntime, line: Ink) {
+pub fn tell_line(host: &HostRuntime, line: TextWriter) {
     if let Ok(text) = line.into_text() {
         let _written = eprint!(host; "{text}");
         drop(text);
@@ -89,7 +89,7 @@ pub fn tell_line(host: &HostRuntime, line: Ink) {
 /// Reports a fault of the file, or a note on it, in one line. Without memory it prints nothing.
 pub fn tell_of<D: Display>(host: &HostRuntime, path: &str, told: &D) {
     let alloc = host.alloc();
-    let mut line = Ink::new(alloc);
+    let mut line = TextWriter::new(alloc);
     line.put("jobscope: ");
     line.put_plain(path);
     line.put(": ");

@@ -1,7 +1,7 @@
 pub mod CausesLemmas
 pub mod EndedLemmas
 pub mod FactsLemmas
-pub mod HearingLemmas
+pub mod ReceivingLemmas
 pub mod LineLemmas
 pub mod ObjectsLemmas
 pub mod ReadingLemmas

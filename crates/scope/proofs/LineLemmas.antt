@@ -1,7 +1,7 @@
 -- A line for each cause, and one more.
 use Rattle.std.proofs.Common.{◌≡◌, ℕ, ◌+◌, ◌<◌, ◌≤◌, List, [], ◌∷◌, ◌++◌, length, take, get_or, refl, sym, ap, ◌∙◌, subst, append_assoc}
 use Rattle.std.proofs.lemmas.List.{take_more, take_all}
-use Rattle.run_times.specs.declared.ink.Ink.{Ink}
+use Rattle.run_times.specs.declared.writer.TextWriter.{TextWriter}
 use Rattle.run_times.specs.Written.{Adds}
 use Rattle.run_times.proofs.GrowingLemmas.{adds_on}
 use Rattle.scope.specs.declared.journal.telling.JobCause.{JobCause}
@@ -18,7 +18,7 @@ lines_more (c ∷ cs) cause text more (first, others, rest, is) =
     )
 
 -- a line more after those of the causes up to a place
-pub told_more : (at : ℕ) (causes : List JobCause) (other : JobCause) (a b c : Ink) → at < length causes → TellsEach (take at causes) a b
+pub told_more : (at : ℕ) (causes : List JobCause) (other : JobCause) (a b c : TextWriter) → at < length causes → TellsEach (take at causes) a b
     → ((more : List ℕ) × Adds (front_of (get_or causes at other) ++ (more ++ 10 ∷ [])) b c) → TellsEach (take (at + 1) causes) a c
 told_more at causes other a b c there (text, lines, before) (more, added) =
     let cause = get_or causes at other in (
@@ -28,5 +28,5 @@ told_more at causes other a b c there (text, lines, before) (more, added) =
     )
 
 -- so of all of them
-pub told_all : (causes : List JobCause) (at : ℕ) (a b : Ink) → length causes ≤ at → TellsEach (take at causes) a b → TellsEach causes a b
+pub told_all : (causes : List JobCause) (at : ℕ) (a b : TextWriter) → length causes ≤ at → TellsEach (take at causes) a b → TellsEach causes a b
 told_all causes at a b over told = subst (λ cs. TellsEach cs a b) (take_all at causes over) told

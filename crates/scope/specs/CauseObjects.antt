@@ -3,7 +3,7 @@ use Rattle.std.specs.Prelude.{◌≡◌, ℕ, List, [], ◌∷◌, ◌++◌, cod
 use Rattle.history_model.specs.declared.reasons.Reasons.{Reasons}
 use Rattle.json_lines.specs.declared.Field.{Field}
 use Rattle.json_lines.specs.Objects.{IsObject, TellsObject}
-use Rattle.run_times.specs.declared.ink.Ink.{Ink}
+use Rattle.run_times.specs.declared.writer.TextWriter.{TextWriter}
 use Rattle.run_times.specs.Written.{Adds}
 use Rattle.scope.specs.declared.journal.telling.JobCause.{JobCause}
 use Rattle.scope.specs.declared.journal.telling.JobCause.TheVariants.{Removing, Child, Awaited, LaunchSpent, RunsSpent, Throttled, NotWanted, Demand, Connections, KeepAlive, SuccessfulExit, Crashed, PathState, QueueDirectories}
@@ -42,13 +42,13 @@ AreObjects [] text = text ≡ []
 AreObjects (cause ∷ causes) text =
     (one : List ℕ) × (others : List ℕ) × IsCause cause one × AreMore causes others × (text ≡ one ++ others)
 
-abbrev pub TellsCause : JobCause → Ink → Ink → Type 0
+abbrev pub TellsCause : JobCause → TextWriter → TextWriter → Type 0
 TellsCause cause old new = (text : List ℕ) × IsCause cause text × Adds text old new
 
-abbrev pub TellsMore : List JobCause → Ink → Ink → Type 0
+abbrev pub TellsMore : List JobCause → TextWriter → TextWriter → Type 0
 TellsMore causes old new = (text : List ℕ) × AreMore causes text × Adds text old new
 
-abbrev pub TellsCauses : List JobCause → Ink → Ink → Type 0
+abbrev pub TellsCauses : List JobCause → TextWriter → TextWriter → Type 0
 TellsCauses causes old new = (text : List ℕ) × AreObjects causes text × Adds text old new
 
 -- a list with an object for each cause that the reasons say, in order, and no other

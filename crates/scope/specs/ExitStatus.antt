@@ -26,25 +26,25 @@ abbrev pub status_by : Result ℕ Error → ℕ
 status_by (Ok status) = status
 status_by (Err error) = status_of_end (error_kind error)
 
--- words are there
+-- there are arguments
 abbrev pub has_words : List (List ℕ) → Bool
 has_words words = not (length words == 0)
 
 module _ (Names : ScopeCommand → Result (Option (String Global)) Error → Type 0)
     (Tells : ScopeCommand → List ℕ → Result Statuses Error → Type 0)
     (Ends : Part → ScopeCommand → Result Statuses Error → Type 0) where
-  -- with this file, or with none: the status file at the path was told of, or the journals
+  -- the statuses of this status file; if no file is named, those of the journals
   abbrev pub TellsOf : Result (Option (String Global)) Error → ScopeCommand → Result Statuses Error → Type 0
   TellsOf (Ok (Some path)) command ended = Tells command (string_bytes path) ended
   TellsOf (Ok None) command ended = Ends Journals command ended
   TellsOf (Err error) command ended = ended ≡ Err error
 
-  -- the command's own file, if it names one, was told of, and else the journals
+  -- the statuses of the command's own file, if it names one, and else those of the journals
   abbrev pub RunsBySource : ScopeCommand → Result Statuses Error → Type 0
   RunsBySource command ended =
       (named : Result (Option (String Global)) Error) × Names command named × TellsOf named command ended
 
-  -- the part ran, or where there is none, the file or the journals were told of
+  -- the statuses of the part that ran, or where there is none, those of the file or the journals
   abbrev pub RunsPart : Option Part → ScopeCommand → Result Statuses Error → Type 0
   RunsPart (Some part) command ended = Ends part command ended
   RunsPart None command ended = RunsBySource command ended
@@ -65,8 +65,8 @@ module _ (Explained : Result ℕ Error → Type 0) (Ran : ScopeCommand → Resul
   Answers (Err Usage) status = (ended : Result ℕ Error) × Explained ended × (status ≡ status_by ended)
   Answers (Err NoMemory) status = status ≡ NO_MEMORY
 
--- The exit status of a run, if its parts answer so: the words mean something, and the status is that of the one
--- part which they ask for.
+-- The exit status of a run, if its parts answer so: the arguments mean something, and the status is that of the one part which
+-- they ask for.
 abbrev pub IsExit : (List (String Global) → Result Meaning WordFault → Type 0) → (List (String Global) → Result ℕ Error → Type 0) → (ScopeCommand → Result ℕ Error → Type 0) → List (String Global) → ℕ → Type 0
 IsExit Means Explains Ran words status =
     (meaning : Result Meaning WordFault) × Means words meaning × Answers (Explains words) Ran meaning status

@@ -5,7 +5,7 @@ use Rattle.history_model.specs.declared.Act.{Act}
 use Rattle.history_model.specs.declared.Act.TheVariants.{Spawn, Term, Kill, Close, Gone}
 use Rattle.history_model.specs.declared.reasons.StandingChild.{StandingChild}
 use Rattle.history_model.specs.declared.reasons.Reasons.{Reasons}
-use Rattle.run_times.specs.declared.ink.Ink.{Ink}
+use Rattle.run_times.specs.declared.writer.TextWriter.{TextWriter}
 use Rattle.run_times.specs.Written.{Adds}
 use Rattle.scope.specs.declared.journal.telling.JobCause.{JobCause}
 use Rattle.scope.specs.declared.journal.telling.JobCause.TheVariants.{Removing, Child, Awaited, LaunchSpent, RunsSpent, Throttled, NotWanted, Demand, Connections, KeepAlive, SuccessfulExit, Crashed, PathState, QueueDirectories}
@@ -55,10 +55,10 @@ AreLines (cause ∷ causes) text =
     × (text ≡ front_of cause ++ (more ++ 10 ∷ others))
 
 -- a line for each of the causes follows what was written before
-abbrev pub TellsEach : List JobCause → Ink → Ink → Type 0
+abbrev pub TellsEach : List JobCause → TextWriter → TextWriter → Type 0
 TellsEach causes old new = (text : List ℕ) × AreLines causes text × Adds text old new
 
 -- so for each cause that the reasons say, in order
-abbrev pub TellsCauses : Reasons → Ink → Ink → Type 0
+abbrev pub TellsCauses : Reasons → TextWriter → TextWriter → Type 0
 TellsCauses reasons old new =
     (causes : List JobCause) × AreCauses reasons causes × TellsEach causes old new

@@ -39,8 +39,8 @@ with_line true lines line = line ∷ []
 with_line false lines line = lines ++ line ∷ []
 
 -- what represented some lines represents them with this one
-abbrev pub HearsLine : {A : Type 0} → (A → List (List ℕ) → Type 0) → A → List ℕ → Bool → A → Type 0
-HearsLine stands old line is_header new =
+abbrev pub ReceivesLine : {A : Type 0} → (A → List (List ℕ) → Type 0) → A → List ℕ → Bool → A → Type 0
+ReceivesLine stands old line is_header new =
     (lines : List (List ℕ)) → stands old lines → stands new (with_line is_header lines line)
 
 -- the table of a journal, if its header was read
@@ -52,9 +52,9 @@ abbrev pub StandsAfter : Option OpenJournal → List (List ℕ) → Type 0
 StandsAfter journal lines = KeepsLines lines (table_of journal)
 
 -- what represented some lines, none if none was counted, represents them and these
-abbrev pub HearsLines : {A : Type 0} → (A → List (List ℕ) → Type 0) → ℕ → A → List (List ℕ) → A →
+abbrev pub ReceivesLines : {A : Type 0} → (A → List (List ℕ) → Type 0) → ℕ → A → List (List ℕ) → A →
     Type 0
-HearsLines stands count old done new =
+ReceivesLines stands count old done new =
     (lines : List (List ℕ)) → (count ≡ 0 → lines ≡ []) → stands old lines →
     stands new (lines ++ done)
 
@@ -67,7 +67,7 @@ HandsOn stands false old before new after =
 HandsOn stands true old before new after =
     (line : List ℕ) × GivesLine old.feed (Some line) new.feed × (new.count ≢ 0)
     × (new.is_long ≡ old.is_long)
-    × HearsLines stands old.count before (line ∷ []) after
+    × ReceivesLines stands old.count before (line ∷ []) after
 
 -- ---- what is read
 
@@ -90,25 +90,25 @@ feed_behind bytes =
 
 -- these bytes came, and each line that a newline ends there was heard, the first as the header; the
 -- feed and the count of lines are as they are then
-pub record HasHeard {A : Type 0} (stands : A → List (List ℕ) → Type 0) (bytes : List ℕ)
-    (feed : Feed) (count : ℕ) (hearer : A) : Type 0 where
+pub record HasReceived {A : Type 0} (stands : A → List (List ℕ) → Type 0) (bytes : List ℕ)
+    (feed : Feed) (count : ℕ) (receiver : A) : Type 0 where
   pub fed : feed ≡ feed_behind bytes
   pub counted : count ≡ 0 → lines_of bytes ≡ []
-  pub heard : stands hearer (lines_of bytes)
+  pub received : stands receiver (lines_of bytes)
 
 -- a piece of what the reader had was taken after those that had come, and so its lines are received
-abbrev pub HearsPiece : {A : Type 0} → (A → List (List ℕ) → Type 0) → Option (List ℕ) →
+abbrev pub ReceivesPiece : {A : Type 0} → (A → List (List ℕ) → Type 0) → Option (List ℕ) →
     Option (List ℕ) → JournalLines → A → JournalLines → A → Type 0
-HearsPiece stands unread rest old before new after =
-    (bytes : List ℕ) → HasHeard stands bytes old.feed old.count before →
+ReceivesPiece stands unread rest old before new after =
+    (bytes : List ℕ) → HasReceived stands bytes old.feed old.count before →
     (piece : List ℕ) × Consumes unread rest piece
-    × HasHeard stands (bytes ++ piece) new.feed new.count after
+    × HasReceived stands (bytes ++ piece) new.feed new.count after
 
 -- so of all that it had
-abbrev pub HearsAll : {A : Type 0} → (A → List (List ℕ) → Type 0) → Option (List ℕ) →
+abbrev pub ReceivesAll : {A : Type 0} → (A → List (List ℕ) → Type 0) → Option (List ℕ) →
     Option (List ℕ) → JournalLines → A → JournalLines → A → Type 0
-HearsAll stands unread rest old before new after =
-    HearsPiece stands unread rest old before new after × IsAtEnd rest
+ReceivesAll stands unread rest old before new after =
+    ReceivesPiece stands unread rest old before new after × IsAtEnd rest
 
 -- what one read gave: the end, nothing, or a piece
 abbrev pub Reads : PieceRead → Option (List ℕ) → Option (List ℕ) → JournalLines → JournalLines → Type 0

@@ -92,12 +92,13 @@ pub(crate) fn add_head(page: &mut Page<'_>, as_of: AsOf, last: Reading) {
 
 fn add_age(page: &mut Page<'_>, now: u64, last: u64) {
     if now < last {
-        page.ink.put("which is later than the clock shows now.\n");
+        page.writer
+            .put("which is later than the clock shows now.\n");
         return;
     }
     let age = (now - last).saturating_mul(SECOND);
-    page.ink.put_span(age, false);
-    page.ink.put(" ago.\n");
+    page.writer.put_span(age, false);
+    page.writer.put(" ago.\n");
 }
 
 fn add_launcher(page: &mut Page<'_>, seen: Option<LauncherSeen>, last: Reading) {

@@ -43,8 +43,8 @@ fn is_root(host: &HostRuntime) -> bool {
     }
 }
 
-// The user whose file it is. A file of root's counts as root's only if nobody else could put another one there: none of the folders above it is
-// another user's, and in none may others replace what is not theirs.
+// The user whose file it is. A file of root's counts as root's only if nobody else could put another one there. None of the
+// folders above it is another user's, and in none may others replace what is not theirs.
 fn writer_of(host: &HostRuntime, path: &str) -> Option<u32> {
     let data = symlink_metadata(host, path).ok()?;
     if !data.is_file() {

@@ -1,11 +1,11 @@
 //! Reads a journal up to a given time.
 
 ghost use Rattle.std.specs.Prelude.{None, OnOk};
-ghost use Rattle.scope.specs.Journals.{HearsAll, StandsAfter};
+ghost use Rattle.scope.specs.Journals.{ReceivesAll, StandsAfter};
 
 use crate::age::AsOf;
 use crate::journal::fault::JournalFault;
-use crate::journal::lines::{Hears, JournalLines};
+use crate::journal::lines::{JournalLines, Receives};
 use crate::journal::source::{open_journal, read_journal, read_source};
 use crate::listener::{JournalListener, zone_shown};
 use crate::window::{WHOLE, meant};
@@ -25,16 +25,16 @@ struct MomentFinder<'a> {
     found: u64,
 }
 
-impl Hears for MomentFinder<'_> {
+impl Receives for MomentFinder<'_> {
     ghost stands = { λ finder lines. StandsAfter finder.listener.journal lines };
 
-    fn hear(
+    fn receive(
         &mut self,
         line: &[u8],
         is_header: bool,
         shown: &mut String,
     ) -> Result<bool, JournalFault> {
-        let is_event = self.listener.hear(line, is_header, shown)?;
+        let is_event = self.listener.receive(line, is_header, shown)?;
         self.read = self
             .read
             .saturating_add(line.len() as u64)
@@ -132,19 +132,19 @@ pub(crate) fn read_up_to(
 }
 
 // Reads this many bytes of the journal.
-fn read_front_of<H: Hears>(
+fn read_front_of<H: Receives>(
     host: &HostRuntime,
     path: &str,
     bytes: u64,
     lines: &mut JournalLines,
-    hearer: &mut H,
+    receiver: &mut H,
 ) -> Result<(), JournalFault>
-    ensures { OnOk result (HearsAll H.stands None None lines.old hearer.old lines.new hearer.new) }
+    ensures { OnOk result (ReceivesAll H.stands None None lines.old receiver.old lines.new receiver.new) }
 {
     match open_journal(host, path) {
         Ok(file) => {
             let mut front = file.take(bytes);
-            let read = read_source(host, &mut front, true, lines, hearer);
+            let read = read_source(host, &mut front, true, lines, receiver);
             drop(front);
             read
         }

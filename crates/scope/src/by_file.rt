@@ -18,11 +18,11 @@ use crate::texts::unknown::unknown_in;
 use definition_files::tell_clockless;
 use exit_status::{BAD_CLOCK, BAD_FILE, DIFFERS};
 use history_model::Text;
-use launchctl_words::{ScopeCommand, Task};
+use launchctl_words::{ScopeCommand, ScopeTask};
 use run_times::telling::{put, put_made, tell_of};
 use status_page::{
-    Look, RunCounts, Standing, has_colour, named_path, packages_file, read_standing, samples_text,
-    table_text, tell_trouble, width_of,
+    Look, RunCounts, StatusRead, has_colour, named_path, packages_file, print_diagnostic,
+    read_standing, samples_text, table_text, width_of,
 };
 use std::alloc::Global;
 use std::io;
@@ -38,9 +38,9 @@ pub(crate) const FAILS: u8 = DIFFERS;
 /// package's file and print a note.
 pub(crate) fn file_asked(host: &HostRuntime, of: &ScopeCommand) -> io::Result<Option<String>> {
     let (may_be_journal, is_next) = match of.task {
-        Task::Status | Task::Metrics => (false, false),
-        Task::Why => (true, false),
-        Task::Next => (true, true),
+        ScopeTask::Status | ScopeTask::Metrics => (false, false),
+        ScopeTask::Why => (true, false),
+        ScopeTask::Next => (true, true),
         _ => return Ok(None),
     };
     if may_be_journal && of.status_file.is_none() {
@@ -84,7 +84,7 @@ pub(crate) fn clash_of(of: &ScopeCommand) -> Option<&'static str> {
         return None;
     }
     let is_why = match of.task {
-        Task::Why => true,
+        ScopeTask::Why => true,
         _ => false,
     };
     if !of.journals.as_slice().is_empty() {
@@ -123,7 +123,7 @@ pub(crate) fn tell_by_file(
             drop(standing);
             told
         }
-        Err(trouble) => Ok(Statuses::only(tell_trouble(host, path, trouble)?)),
+        Err(diagnostic) => Ok(Statuses::only(print_diagnostic(host, path, diagnostic)?)),
     }
 }
 
@@ -132,12 +132,12 @@ fn tell(
     alloc: Global,
     of: &ScopeCommand,
     path: &str,
-    standing: &Standing,
+    standing: &StatusRead,
     second: u64,
 ) -> io::Result<Statuses> {
     let labels = of.words.as_slice();
     let status = match of.task {
-        Task::Why if of.is_json => {
+        ScopeTask::Why if of.is_json => {
             let left = left_running(host, alloc, standing, labels)?;
             let settings = settings_of(host, alloc, of, standing)?;
             let made = standing_objects(alloc, standing, of, second, left.as_slice(), &settings);
@@ -147,12 +147,12 @@ fn tell(
             put_made(host, Ok(text))?;
             if of.is_failing && count > 0 { FAILS } else { 0 }
         }
-        Task::Why if of.is_failing => {
+        ScopeTask::Why if of.is_failing => {
             let (text, count) = failing_in(alloc, standing, labels, of.is_utc, second)?;
             put_made(host, Ok(text))?;
             if count > 0 { FAILS } else { 0 }
         }
-        Task::Why => {
+        ScopeTask::Why => {
             let left = left_running(host, alloc, standing, labels)?;
             let settings = settings_of(host, alloc, of, standing)?;
             let text = standing_text(
@@ -169,11 +169,11 @@ fn tell(
             put_made(host, text)?;
             0
         }
-        Task::Next => {
+        ScopeTask::Next => {
             put_next(host, alloc, of, path, standing, second)?;
             0
         }
-        Task::Metrics => {
+        ScopeTask::Metrics => {
             let counts = counts_of(host, alloc, standing)?;
             let text = samples_text(host, alloc, standing, labels, second, lent(&counts));
             drop(counts);
@@ -200,7 +200,7 @@ fn tell(
     };
     let unknown = tell_unknown(host, alloc, path, standing, labels)?;
     match of.task {
-        Task::Why if !of.is_json => put_failed(host, alloc, of, path, standing)?,
+        ScopeTask::Why if !of.is_json => put_failed(host, alloc, of, path, standing)?,
         _ => {}
     }
     Ok(Statuses {
@@ -222,7 +222,7 @@ fn put_failed(
     alloc: Global,
     of: &ScopeCommand,
     path: &str,
-    standing: &Standing,
+    standing: &StatusRead,
 ) -> io::Result<()> {
     let failed = failed_in(alloc, standing, of.words.as_slice())?;
     if !of.is_failing && !failed.is_empty() {
@@ -238,7 +238,7 @@ fn put_next(
     alloc: Global,
     of: &ScopeCommand,
     path: &str,
-    standing: &Standing,
+    standing: &StatusRead,
     second: u64,
 ) -> io::Result<()> {
     tell_unforetold(host, path, of, standing.foretells());
@@ -257,7 +257,7 @@ fn tell_unknown(
     host: &HostRuntime,
     alloc: Global,
     path: &str,
-    standing: &Standing,
+    standing: &StatusRead,
     labels: &[Text],
 ) -> io::Result<u8> {
     let mut status = 0;

@@ -10,12 +10,12 @@ use crate::journal::run::{JobRun, RunEnd};
 use crate::journal::waiting::Wait;
 use crate::texts::log::is_named;
 use history_model::Text;
-use run_times::picture::{Axis, Bar, Chart, End, Gathered, Gathering, MarkKind, PLACES, Row};
+use run_times::picture::{Axis, Bar, Chart, ChartRow, End, Gathered, Gathering, MarkKind, PLACES};
 use std::alloc::{AllocError, Global};
 
 /// What is kept of the lines that were read, of all jobs or of those that are named.
 #[derive(Drop)]
-pub(crate) struct HeardMarks<'a> {
+pub(crate) struct ReceivedMarks<'a> {
     pub(crate) labels: &'a [Text],
     /// The runs that are over, and the marks, by the serial numbers of their jobs.
     pub(crate) gathering: Gathering,
@@ -28,10 +28,10 @@ pub(crate) struct HeardMarks<'a> {
     pub(crate) until: u64,
 }
 
-impl HeardMarks<'_> {
+impl ReceivedMarks<'_> {
     /// Nothing is known yet of the jobs with these labels, or of all.
-    pub(crate) fn new(alloc: Global, labels: &[Text]) -> HeardMarks<'_> {
-        HeardMarks {
+    pub(crate) fn new(alloc: Global, labels: &[Text]) -> ReceivedMarks<'_> {
+        ReceivedMarks {
             labels,
             gathering: Gathering::new(alloc),
             rowless: 0,
@@ -42,7 +42,7 @@ impl HeardMarks<'_> {
     }
 
     /// Takes what the journal's last line gave at this second.
-    pub(crate) fn hear(&mut self, at: u64, news: &[News]) -> Result<(), AllocError> {
+    pub(crate) fn receive(&mut self, at: u64, news: &[News]) -> Result<(), AllocError> {
         self.from = self.from.min(at.max(self.since));
         self.until = self.until.max(at);
         if at < self.since {
@@ -50,7 +50,7 @@ impl HeardMarks<'_> {
         }
         for one in news {
             if is_named(self.labels, one.label.as_str()) {
-                self.hear_news(one, at, is_met(one, news))?;
+                self.receive_news(one, at, is_met(one, news))?;
             }
         }
         Ok(())
@@ -72,7 +72,7 @@ impl HeardMarks<'_> {
         Ok(())
     }
 
-    fn hear_news(&mut self, news: &News, at: u64, is_met: bool) -> Result<(), AllocError> {
+    fn receive_news(&mut self, news: &News, at: u64, is_met: bool) -> Result<(), AllocError> {
         if let What::Ended { run, .. } = &news.what {
             if let Some(bar) = bar_of(&Axis::new(at, at, PLACES), run) {
                 self.gathering.add(run.job, since(bar, self.since))?;
@@ -157,19 +157,19 @@ fn since(bar: Bar, from: u64) -> Bar
 pub(crate) fn chart_of(
     alloc: Global,
     past: &Past,
-    heard: &HeardMarks<'_>,
+    received: &ReceivedMarks<'_>,
 ) -> Result<Chart, AllocError> {
     let mut rows = Rows {
         chart: Chart {
-            axis: Axis::new(heard.from, heard.until, PLACES),
+            axis: Axis::new(received.from, received.until, PLACES),
             rows: Vec::new(alloc),
-            missing_runs: heard.gathering.missing_runs,
-            missing_marks: heard.gathering.missing_marks,
-            rowless_refusals: heard.rowless,
+            missing_runs: received.gathering.missing_runs,
+            missing_marks: received.gathering.missing_marks,
+            rowless_refusals: received.rowless,
         },
         places: Vec::new(alloc),
     };
-    let filled = rows.fill(alloc, past, heard);
+    let filled = rows.fill(alloc, past, received);
     let Rows { chart, places } = rows;
     drop(places);
     match filled {
@@ -193,30 +193,30 @@ impl Rows {
         &mut self,
         alloc: Global,
         past: &Past,
-        heard: &HeardMarks<'_>,
+        received: &ReceivedMarks<'_>,
     ) -> Result<(), AllocError> {
         for (label, job) in &past.jobs {
-            if is_named(heard.labels, label.as_str()) {
+            if is_named(received.labels, label.as_str()) {
                 self.add_job(alloc, label.as_str(), job.record.serial)?;
             }
         }
         self.places.sort_unstable();
-        for of in &heard.gathering.rows {
+        for of in &received.gathering.rows {
             self.add_gathered(of)?;
         }
-        self.add_living(past, heard.since)
+        self.add_living(past, received.since)
     }
 
     fn add_job(&mut self, alloc: Global, label: &str, serial: u64) -> Result<(), AllocError> {
         self.places.push((serial, self.chart.rows.len()))?;
-        let row = Row::new(alloc, String::from_str(alloc, label)?);
+        let row = ChartRow::new(alloc, String::from_str(alloc, label)?);
         Ok(self.chart.rows.push(row)?)
     }
 
     // Adds what was gathered of a job. If the job was forgotten meanwhile, it counts among what is missing.
     fn add_gathered(&mut self, of: &Gathered) -> Result<(), AllocError> {
         let axis = self.chart.axis;
-        let place = place_of(self.places.as_slice(), of.job).unwrap_or(usize::MAX);
+        let place = row_of_job(self.places.as_slice(), of.job).unwrap_or(usize::MAX);
         if let Some(row) = self.chart.rows.get_mut(place) {
             return row.add_all(&axis, &of.row);
         }
@@ -238,7 +238,7 @@ impl Rows {
     // Adds the run, if it began and has a row.
     fn add_run(&mut self, run: &JobRun, from: u64) -> Result<(), AllocError> {
         let axis = self.chart.axis;
-        let place = place_of(self.places.as_slice(), run.job).unwrap_or(usize::MAX);
+        let place = row_of_job(self.places.as_slice(), run.job).unwrap_or(usize::MAX);
         match (self.chart.rows.get_mut(place), bar_of(&axis, run)) {
             (Some(row), Some(bar)) => row.add(&axis, since(bar, from)),
             _ => Ok(()),
@@ -247,7 +247,7 @@ impl Rows {
 }
 
 // The index of the job's row.
-fn place_of(places: &[(u64, usize)], serial: u64) -> Option<usize> {
+fn row_of_job(places: &[(u64, usize)], serial: u64) -> Option<usize> {
     let (Ok(at) | Err(at)) = places.binary_search(&(serial, 0));
     match places.get(at) {
         Some((job, place)) if *job == serial => Some(*place),

@@ -2,10 +2,10 @@
 //! restart.
 
 ghost use Rattle.std.specs.Prelude.{IfOk};
-ghost use Rattle.scope.specs.Journals.{HearsLine};
+ghost use Rattle.scope.specs.Journals.{ReceivesLine};
 
 use crate::journal::fault::JournalFault;
-use crate::journal::lines::{Hears, JournalLines};
+use crate::journal::lines::{JournalLines, Receives};
 use crate::journal::source::read_journal;
 use crate::kept_journals::{
     MOST_KEPT, before_path, begin_at, journal_of, kept_journals, length_at,
@@ -15,7 +15,7 @@ use ctl_protocol::{LineRoom, ReadFault, read_event, read_header};
 use history_model::{Answer, Ended, Event, JobItem, MAX_WALL, Reading, Text};
 use run_times::{time_text, utc};
 use status_file::JournalStatus;
-use status_page::{RunCount, RunCounts, Standing};
+use status_page::{RunCount, RunCounts, StatusRead};
 use std::alloc::{AllocError, Global};
 
 /// How many bytes the journals may have that are read, together: `metrics` is asked for each few seconds.
@@ -121,10 +121,10 @@ fn count_item(count: &mut RunCount, item: JobItem, second: u64) {
     }
 }
 
-impl Hears for RunCounter {
+impl Receives for RunCounter {
     ghost stands = { λ counter lines. Unit {0} };
 
-    fn hear(
+    fn receive(
         &mut self,
         line: &[u8],
         is_header: bool,
@@ -148,7 +148,7 @@ impl Hears for RunCounter {
 pub(crate) fn counts_of(
     host: &HostRuntime,
     alloc: Global,
-    standing: &Standing,
+    standing: &StatusRead,
 ) -> Result<Option<RunCounts>, AllocError> {
     if !is_open(standing) {
         return Ok(None);
@@ -161,7 +161,7 @@ pub(crate) fn counts_of(
     found
 }
 
-fn is_open(standing: &Standing) -> bool {
+fn is_open(standing: &StatusRead) -> bool {
     match standing.launcher() {
         Some(launcher) => match launcher.journal {
             JournalStatus::Open => true,
@@ -175,7 +175,7 @@ fn is_open(standing: &Standing) -> bool {
 fn counted_at(
     host: &HostRuntime,
     alloc: Global,
-    standing: &Standing,
+    standing: &StatusRead,
     path: &str,
     begun: Reading,
 ) -> Result<Option<RunCounts>, AllocError> {
@@ -206,7 +206,7 @@ fn counted_at(
 }
 
 // Each job of the file is counted.
-fn counter_of(alloc: Global, standing: &Standing, since: u64) -> Result<RunCounter, AllocError> {
+fn counter_of(alloc: Global, standing: &StatusRead, since: u64) -> Result<RunCounter, AllocError> {
     let mut counts = RunCounts::new(alloc, since);
     for line in standing.jobs() {
         if let Ok(job) = line.job() {

@@ -13,7 +13,7 @@ use json_kinds::kinds::is_among;
 use json_kinds::{json_value, key_name};
 use launchctl_words::ScopeCommand;
 use run_times::telling::{Outcome, tell_of};
-use run_times::{Ink, Page};
+use run_times::{Page, TextWriter};
 use serde_json::Value;
 use std::alloc::{AllocError, Global};
 
@@ -30,7 +30,7 @@ struct Placed {
 
 /// How a file's definition compares to what is loaded.
 #[derive(Clone, Copy)]
-enum Standing<'a> {
+enum DriftKind<'a> {
     /// The two are one JSON value.
     Same,
     /// Keys differ.
@@ -243,7 +243,7 @@ fn put_files<'a>(
         let before = filed.get(..index).unwrap_or(&[]);
         let is_twice = of_label(before, file.label.as_str()).is_some();
         let is_other = match of_label(loaded, file.label.as_str()) {
-            _ if is_twice => put_standing(file, Standing::Twice, &[], report),
+            _ if is_twice => put_standing(file, DriftKind::Twice, &[], report),
             Some(job) => put_compared(alloc, file, job, report)?,
             None => {
                 let standing = absent(alloc, journal, file, filed, loaded, renamed)?;
@@ -264,9 +264,9 @@ fn put_compared<'x>(
 ) -> Result<bool, AllocError> {
     let keys = changed_keys(alloc, &file.def, &job.def)?;
     let standing = if keys.is_empty() {
-        Standing::Same
+        DriftKind::Same
     } else {
-        Standing::Changed
+        DriftKind::Changed
     };
     let differs = put_standing(file, standing, keys.as_slice(), report);
     drop(keys);
@@ -281,20 +281,20 @@ fn absent<'a>(
     filed: &[Placed],
     loaded: &'a [Placed],
     renamed: &mut Vec<&'a str>,
-) -> Result<Standing<'a>, AllocError> {
+) -> Result<DriftKind<'a>, AllocError> {
     let label = file.label.as_str();
     if file.is_disabled || journal.past.labels.of(label).disabled.is_some() {
-        return Ok(Standing::Disabled);
+        return Ok(DriftKind::Disabled);
     }
     for job in loaded {
         let old = job.label.as_str();
         let is_free = of_label(filed, old).is_none() && !is_among(renamed.as_slice(), old);
         if is_free && is_renamed(alloc, file, job)? {
             renamed.push(old)?;
-            return Ok(Standing::Renamed(old));
+            return Ok(DriftKind::Renamed(old));
         }
     }
-    Ok(Standing::New)
+    Ok(DriftKind::New)
 }
 
 // Whether the file's definition differs from the loaded one only in the label.
@@ -311,17 +311,17 @@ fn is_renamed(alloc: Global, file: &Placed, job: &Placed) -> Result<bool, AllocE
 // Puts the line of a file, with the keys that differ. Whether it differs from what is loaded.
 fn put_standing(
     file: &Placed,
-    standing: Standing<'_>,
+    standing: DriftKind<'_>,
     keys: &[&str],
     report: &mut Report<'_>,
 ) -> bool {
     let (word, was) = match standing {
-        Standing::Same => ("same", ""),
-        Standing::Changed => ("changed", ""),
-        Standing::New => ("new", ""),
-        Standing::Disabled => ("disabled", ""),
-        Standing::Renamed(label) => ("renamed", label),
-        Standing::Twice => ("twice", ""),
+        DriftKind::Same => ("same", ""),
+        DriftKind::Changed => ("changed", ""),
+        DriftKind::New => ("new", ""),
+        DriftKind::Disabled => ("disabled", ""),
+        DriftKind::Renamed(label) => ("renamed", label),
+        DriftKind::Twice => ("twice", ""),
     };
     put_told(
         word,
@@ -331,7 +331,7 @@ fn put_standing(
         was,
         report,
     );
-    !matches!(standing, Standing::Same | Standing::Disabled)
+    !matches!(standing, DriftKind::Same | DriftKind::Disabled)
 }
 
 // Puts a line for each loaded job that no file has and that is not renamed. Whether there is one.
@@ -364,24 +364,24 @@ fn put_told(
     if report.is_json {
         return put_drift(&mut report.page, word, label, path, keys, was);
     }
-    let ink = &mut report.page.ink;
-    ink.put(word);
-    put_column(ink, label);
-    put_column(ink, if path.is_empty() { "-" } else { path });
+    let writer = &mut report.page.writer;
+    writer.put(word);
+    put_column(writer, label);
+    put_column(writer, if path.is_empty() { "-" } else { path });
     if !was.is_empty() {
-        put_column(ink, was);
+        put_column(writer, was);
     }
     if let [first, more @ ..] = keys {
-        put_column(ink, *first);
+        put_column(writer, *first);
         for key in more {
-            ink.put(" ");
-            ink.put_plain(*key);
+            writer.put(" ");
+            writer.put_plain(*key);
         }
     }
-    ink.put("\n");
+    writer.put("\n");
 }
 
-fn put_column(ink: &mut Ink, text: &str) {
-    ink.put("\t");
-    ink.put_plain(text);
+fn put_column(writer: &mut TextWriter, text: &str) {
+    writer.put("\t");
+    writer.put_plain(text);
 }

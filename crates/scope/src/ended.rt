@@ -8,7 +8,7 @@ ghost use Rattle.definition_files.specs.ListStatus.{IsListStatus};
 use definition_files::check::check_files;
 use definition_files::cron::{LineKeeper, Surroundings, definitions_of};
 use definition_files::lists::lists_as_json;
-use definition_files::{Asked, DefinitionSource, coming_starts};
+use definition_files::{DefinitionQuery, DefinitionSource, coming_starts};
 use files_and_process::path_files::Found;
 use history_model::Text;
 use run_times::telling::put_outcome;
@@ -21,7 +21,7 @@ pub fn check_ended<S: DefinitionSource>(
     alloc: Global,
     source: &mut S,
     files: &[Found],
-    asked: &Asked<'_>,
+    asked: &DefinitionQuery<'_>,
     is_strict: bool,
 ) -> io::Result<u8>
     ensures { IfOk result (λ status. Reads files.now (IsCheckStatus is_strict status)
@@ -37,7 +37,7 @@ pub fn next_ended<S: DefinitionSource>(
     alloc: Global,
     source: &mut S,
     files: &[Found],
-    asked: &Asked<'_>,
+    asked: &DefinitionQuery<'_>,
     count: u64,
 ) -> io::Result<u8>
     ensures { IfOk result (λ status. Reads files.now (λ found. status ≡ starts_status found)

@@ -1,8 +1,8 @@
 //! Where the errors of a job went whose last run failed, and the last line that is there.
 
 use crate::as_root::{ReadFor, open_for};
-use run_times::Ink;
 use run_times::Piece::Text;
+use run_times::TextWriter;
 use run_times::picture::{columns_of, columns_of_char};
 use run_times::telling::put_made;
 use std::alloc::Global;
@@ -35,33 +35,33 @@ pub(crate) fn put_errors(
     whom: ReadFor,
 ) -> io::Result<()> {
     for run in failed {
-        let mut ink = Ink::new(alloc);
-        add_errors(&mut ink, run);
+        let mut writer = TextWriter::new(alloc);
+        add_errors(&mut writer, run);
         if let (Some(path), true) = (run.errors, is_seen) {
-            add_last(host, alloc, &mut ink, path, whom);
+            add_last(host, alloc, &mut writer, path, whom);
         }
-        ink.put("\n");
-        put_made(host, ink.into_text())?;
+        writer.put("\n");
+        put_made(host, writer.into_text())?;
     }
     Ok(())
 }
 
 /// Adds where the errors of the job went, without a newline.
-pub(crate) fn add_errors(ink: &mut Ink, run: &FailedRun<'_>) {
+pub(crate) fn add_errors(writer: &mut TextWriter, run: &FailedRun<'_>) {
     match run.errors {
-        Some(path) => ink.fill("$: its errors went to $", &[Text(run.label), Text(path)]),
-        None => ink.fill(
+        Some(path) => writer.fill("$: its errors went to $", &[Text(run.label), Text(path)]),
+        None => writer.fill(
             "$: its errors are lost: no StandardErrorPath",
             &[Text(run.label)],
         ),
     }
     if run.is_served {
-        ink.put("; its output went to the client");
+        writer.put("; its output went to the client");
     }
 }
 
 // The last line of the file, if it is a plain one.
-fn add_last(host: &HostRuntime, alloc: Global, ink: &mut Ink, path: &str, whom: ReadFor) {
+fn add_last(host: &HostRuntime, alloc: Global, writer: &mut TextWriter, path: &str, whom: ReadFor) {
     if !path.starts_with('/') {
         return;
     }
@@ -69,23 +69,24 @@ fn add_last(host: &HostRuntime, alloc: Global, ink: &mut Ink, path: &str, whom: 
     match end_of(host, alloc, path, whom, &mut bytes) {
         Ok(()) => match last_line(bytes.as_slice()) {
             Some(line) => {
-                ink.put("; the last line is: ");
-                put_shown(ink, line);
+                writer.put("; the last line is: ");
+                put_shown(writer, line);
             }
-            None => ink.put("; there is no line in it"),
+            None => writer.put("; there is no line in it"),
         },
         Err(error) => match format!(in alloc; "; it can't be read: {error}") {
             Ok(text) => {
-                ink.put(text.as_str());
+                writer.put(text.as_str());
                 drop(text);
             }
-            Err(_) => ink.refuse(),
+            Err(_) => writer.refuse(),
         },
     }
     drop(bytes);
 }
 
-// Adds the last bytes of the file. InvalidInput for what is no plain file: it is not opened. A file of the kernel that says it is empty is empty.
+// Adds the last bytes of the file. InvalidInput for what is not a plain file: it is not opened. A file of the kernel that says it
+// is empty is empty.
 fn end_of(
     host: &HostRuntime,
     alloc: Global,
@@ -112,33 +113,33 @@ fn last_line(bytes: &[u8]) -> Option<&[u8]> {
     last
 }
 
-// The line with hidden characters and what is no UTF-8 as U+FFFD, cut if it is too long.
-fn put_shown(ink: &mut Ink, line: &[u8]) {
+// The line with hidden characters and what is not UTF-8 as U+FFFD, cut if it is too long.
+fn put_shown(writer: &mut TextWriter, line: &[u8]) {
     let mut rest = line.trim_ascii();
     let mut used: usize = 0;
     for _ in 0..END {
         if used >= LONGEST && !rest.is_empty() {
-            ink.put("…");
+            writer.put("…");
             return;
         }
         let (text, behind) = text_in(rest);
         let room = LONGEST.saturating_sub(used);
         let front = front_of(text, room);
-        ink.put_plain(front);
+        writer.put_plain(front);
         if front.len() < text.len() {
-            ink.put("…");
+            writer.put("…");
             return;
         }
         let Some((_, after)) = behind.split_first() else {
             return;
         };
         used = used.saturating_add(columns_of(front)).saturating_add(1);
-        ink.put("\u{FFFD}");
+        writer.put("\u{FFFD}");
         rest = after;
     }
 }
 
-// As much of the beginning of the text as has room in so many columns.
+// As much of the beginning of the text as has room in this number of columns.
 fn front_of(text: &str, room: usize) -> &str {
     let mut used: usize = 0;
     let mut end: usize = 0;
@@ -151,7 +152,7 @@ fn front_of(text: &str, room: usize) -> &str {
     text.get(..end).unwrap_or("")
 }
 
-// The text at the front, and what is behind it.
+// The text at the front, and what comes after it.
 fn text_in(bytes: &[u8]) -> (&str, &[u8]) {
     match str::from_utf8(bytes) {
         Ok(text) => (text, &[]),

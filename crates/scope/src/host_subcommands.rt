@@ -8,12 +8,12 @@ use crate::subcommands::{Part, Statuses, Subcommands};
 use crate::zone::{Named, zone_of};
 use ctl_protocol::LINE_LIMIT;
 use definition_files::cron::{HostLines, lines_of, surroundings_of};
-use definition_files::{Asked, HostFiles};
+use definition_files::{DefinitionQuery, HostFiles};
 use exit_status::{BAD_CLOCK, BAD_FILE, USAGE};
 use files_and_process::path_files::files_at;
 use history_model::{MAX_WALL, Text};
 use launchctl_words::{
-    Meaning, ScopeCommand, Task, WordFault, ZoneWords, explain_scope, read_scope_words,
+    Meaning, ScopeCommand, ScopeTask, WordFault, ZoneWords, explain_scope, read_scope_words,
 };
 use run_times::telling::put;
 use std::alloc::Global;
@@ -81,7 +81,7 @@ fn alone(ended: io::Result<u8>) -> io::Result<Statuses> {
     }
 }
 
-// The command, or the text that says which of its options can't stand together.
+// The command, or the text that says which of its options exclude each other.
 fn unless_clash(alloc: Global, command: ScopeCommand) -> Result<Meaning, WordFault> {
     let clash = match clash_of(&command) {
         Some(text) => Some(text),
@@ -100,7 +100,7 @@ fn unless_clash(alloc: Global, command: ScopeCommand) -> Result<Meaning, WordFau
 // The error in the arguments of `next`, if there is one: an option for definitions without a definition, or one for loaded jobs with a definition.
 fn clash_of_next(of: &ScopeCommand) -> Option<&'static str> {
     match of.task {
-        Task::Next => {}
+        ScopeTask::Next => {}
         _ => return None,
     }
     let names_zone = match of.zone {
@@ -187,7 +187,7 @@ fn ended_by(
     named: &Named,
     from: u64,
 ) -> io::Result<u8> {
-    let asked = Asked {
+    let asked = DefinitionQuery {
         longest: LINE_LIMIT,
         zone: &named.zone,
         zone_line: named.line,
@@ -198,7 +198,7 @@ fn ended_by(
     let mut source = HostFiles { host };
     let listed = files.as_slice();
     let ended = match of.task {
-        Task::Check => check_ended(host, alloc, &mut source, listed, &asked, of.is_strict),
+        ScopeTask::Check => check_ended(host, alloc, &mut source, listed, &asked, of.is_strict),
         _ => {
             let count = of.count.unwrap_or(COUNT);
             next_ended(host, alloc, &mut source, listed, &asked, count)

@@ -4,7 +4,7 @@ use crate::journal::source::PACKAGED;
 use ctl_protocol::{LINE_LIMIT, ReadFault, read_header};
 use files_and_process::path_files::read_front;
 use history_model::Reading;
-use status_page::Standing;
+use status_page::StatusRead;
 use std::alloc::{AllocError, Global};
 use std::env;
 use std::env::VarError;
@@ -20,7 +20,7 @@ pub(crate) const MOST_KEPT: u64 = 99;
 pub(crate) fn journal_of(
     host: &HostRuntime,
     alloc: Global,
-    standing: &Standing,
+    standing: &StatusRead,
 ) -> Result<Option<(String, Reading)>, AllocError> {
     let begun = match standing.launcher() {
         Some(launcher) => first_reading(alloc, launcher.header.as_bytes())?,

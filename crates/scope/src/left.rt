@@ -5,7 +5,7 @@ use files_and_process::run_names::LauncherId;
 use history_model::Text;
 use leftovers::{RunProcess, run_processes};
 use status_file::JobStatus;
-use status_page::{Standing, is_asked};
+use status_page::{StatusRead, is_asked};
 use std::alloc::{AllocError, Global};
 
 /// For how many clock ticks, of which a second has 100, a status file may lag. It is written within a second of a change, and a pass of the loop later.
@@ -15,7 +15,7 @@ const LAG: u64 = 200;
 pub(crate) fn left_running(
     host: &HostRuntime,
     alloc: Global,
-    standing: &Standing,
+    standing: &StatusRead,
     labels: &[Text],
 ) -> Result<Vec<RunProcess>, AllocError> {
     let launcher = match standing.launcher() {
@@ -44,7 +44,7 @@ pub(crate) fn left_running(
 }
 
 // Whether the numbers of processes that the file has are those of this PID namespace, as far as that is known.
-fn is_numbered_here(standing: &Standing, pid: u32) -> bool {
+fn is_numbered_here(standing: &StatusRead, pid: u32) -> bool {
     match standing.seen.pid {
         Some(seen) => seen == pid,
         None => true,

@@ -31,7 +31,7 @@ mod zone;
 pub use ended::{check_ended, cron_ended, next_ended, plist_ended};
 pub use host_subcommands::HostSubcommands;
 pub use journal::fault::JournalFault;
-pub use journal::lines::{Hears, JournalLines};
+pub use journal::lines::{JournalLines, Receives};
 pub use journal::reader::{OpenJournal, open};
 pub use journal::source::read_source;
 pub use journal::telling::{JobCause, causes};

@@ -1,18 +1,18 @@
 //! What is made of a journal's lines as they are read.
 
 ghost use Rattle.std.specs.Prelude.{IfOk};
-ghost use Rattle.scope.specs.Journals.{HearsLine, StandsAfter};
+ghost use Rattle.scope.specs.Journals.{ReceivesLine, StandsAfter};
 
-use crate::charted::HeardMarks;
+use crate::charted::ReceivedMarks;
 use crate::journal::fault::JournalFault;
-use crate::journal::lines::Hears;
+use crate::journal::lines::Receives;
 use crate::journal::reader::{OpenJournal, open};
 use crate::texts::log::add_lines;
 use crate::texts::log_ends::{add_clock, add_end};
-use crate::window::{Told, Window};
+use crate::window::{ReportedSpan, Window};
 use calendar_due::Zone;
 use history_model::Reading;
-use launchctl_words::{ScopeCommand, Task};
+use launchctl_words::{ScopeCommand, ScopeTask};
 use launcher_life::Life;
 use run_times::Filling::Now;
 use run_times::{Page, utc};
@@ -27,13 +27,13 @@ pub(crate) struct JournalListener<'a> {
     pub(crate) of: &'a ScopeCommand,
     /// The journal, if its header was read.
     pub(crate) journal: Option<OpenJournal>,
-    pub(crate) heard: HeardMarks<'a>,
+    pub(crate) received: ReceivedMarks<'a>,
     pub(crate) utc: Zone,
     pub(crate) window: Window,
     /// Whether a later journal is left out, since it begins after the time that is asked for.
     pub(crate) is_followed: bool,
     /// The seconds of the window, by the zone of the last header.
-    told: Told,
+    told: ReportedSpan,
 }
 
 impl JournalListener<'_> {
@@ -43,11 +43,11 @@ impl JournalListener<'_> {
             alloc,
             of,
             journal: None,
-            heard: HeardMarks::new(alloc, of.words.as_slice()),
+            received: ReceivedMarks::new(alloc, of.words.as_slice()),
             utc: utc(),
             window,
             is_followed: false,
-            told: Told {
+            told: ReportedSpan {
                 since: 0,
                 until: u64::MAX,
             },
@@ -62,7 +62,7 @@ impl JournalListener<'_> {
     // The line of a log for the end of the journal that comes before this header, if that was not one in order.
     fn tell_end(&self, shown: &mut String) -> Result<(), JournalFault> {
         match (&self.journal, self.of.task) {
-            (Some(journal), Task::Log) if self.tells(journal.table.reading()) => {
+            (Some(journal), ScopeTask::Log) if self.tells(journal.table.reading()) => {
                 let zone = zone_shown(self.of, &self.utc, &journal.zone);
                 let mut page = Page::new(self.alloc, zone, journal.table.reading());
                 let life = if journal.has_ended() {
@@ -83,7 +83,7 @@ impl JournalListener<'_> {
     // The line of a log for a clock that was set, if the last line shows it; `before` is the clock reading before that line.
     fn tell_clock(&self, before: Reading, shown: &mut String) -> Result<(), JournalFault> {
         match (&self.journal, self.of.task) {
-            (Some(journal), Task::Log) if self.tells(journal.table.reading()) => {
+            (Some(journal), ScopeTask::Log) if self.tells(journal.table.reading()) => {
                 let now = journal.table.reading();
                 let zone = zone_shown(self.of, &self.utc, &journal.zone);
                 let mut page = Page::new(self.alloc, zone, now);
@@ -106,7 +106,7 @@ impl JournalListener<'_> {
     }
 
     // The seconds of the window, by the zone of the header.
-    fn told(&self) -> Result<Told, JournalFault> {
+    fn told(&self) -> Result<ReportedSpan, JournalFault> {
         match &self.journal {
             Some(journal) => {
                 let zone = zone_shown(self.of, &self.utc, &journal.zone);
@@ -124,7 +124,7 @@ impl JournalListener<'_> {
         shown: &mut String,
     ) -> Result<(), JournalFault> {
         match (&self.journal, self.of.task) {
-            (Some(journal), Task::Log) if is_first && since > 0 => {
+            (Some(journal), ScopeTask::Log) if is_first && since > 0 => {
                 let now = journal.table.reading();
                 if since >= now.wall {
                     return Ok(());
@@ -147,7 +147,7 @@ impl JournalListener<'_> {
     // Takes in the line, and says whether it is an event, or the header.
     fn take(&mut self, line: &[u8], is_header: bool) -> Result<bool, JournalFault>
         ensures { IfOk result (λ _.
-            HearsLine StandsAfter self.old.journal line.now is_header self.new.journal) }
+            ReceivesLine StandsAfter self.old.journal line.now is_header self.new.journal) }
     {
         match &mut self.journal {
             Some(journal) if !is_header => match journal.take(self.alloc, line) {
@@ -168,18 +168,18 @@ impl JournalListener<'_> {
     }
 }
 
-impl Hears for JournalListener<'_> {
+impl Receives for JournalListener<'_> {
     ghost stands = { λ listener lines. StandsAfter listener.journal lines };
 
-    fn hear(
+    fn receive(
         &mut self,
         line: &[u8],
         is_header: bool,
         shown: &mut String,
     ) -> Result<bool, JournalFault> {
         let ended = match (&self.journal, self.of.task) {
-            (Some(journal), Task::Picture) if is_header => self
-                .heard
+            (Some(journal), ScopeTask::Picture) if is_header => self
+                .received
                 .end(&journal.past, journal.table.reading().wall),
             _ => Ok(()),
         };
@@ -199,17 +199,17 @@ impl Hears for JournalListener<'_> {
             let told = self.told()?;
             self.tell_begin(is_first, told.since, shown)?;
             self.told = told;
-            self.heard.since = told.since;
+            self.received.since = told.since;
             if let Some(journal) = &mut self.journal {
                 journal.past.from = told.since;
             }
         }
-        let heard = match (self.of.task, &self.journal) {
-            (Task::Picture, Some(journal)) => {
+        let received = match (self.of.task, &self.journal) {
+            (ScopeTask::Picture, Some(journal)) => {
                 let at = journal.table.reading().wall;
-                self.heard.hear(at, journal.past.news.as_slice())
+                self.received.receive(at, journal.past.news.as_slice())
             }
-            (Task::Log, Some(journal)) => {
+            (ScopeTask::Log, Some(journal)) => {
                 let zone = zone_shown(self.of, &self.utc, &journal.zone);
                 let is_told = is_within(self.told, journal.table.reading().wall);
                 if is_told && (is_header || !journal.past.news.is_empty()) {
@@ -220,7 +220,7 @@ impl Hears for JournalListener<'_> {
             }
             _ => Ok(()),
         };
-        match heard {
+        match received {
             Ok(()) => Ok(is_event),
             Err(_) => Err(JournalFault::NoMemory),
         }
@@ -232,7 +232,7 @@ pub(crate) fn zone_shown<'a>(of: &ScopeCommand, utc: &'a Zone, journals: &'a Zon
     if of.is_utc { utc } else { journals }
 }
 
-fn is_within(told: Told, second: u64) -> bool {
+fn is_within(told: ReportedSpan, second: u64) -> bool {
     told.since <= second && second <= told.until
 }
 

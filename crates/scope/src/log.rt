@@ -1,7 +1,7 @@
 //! A journal's events for people, as they come.
 
 use crate::journal::fault::{JournalFault, tell_fault};
-use crate::journal::lines::{Hears, JournalLines};
+use crate::journal::lines::{JournalLines, Receives};
 use crate::journal::source::{open_journal, read_source, tell_bad};
 use std::alloc::Global;
 use std::fs::File;
@@ -15,18 +15,18 @@ const PAUSE: u64 = 250;
 
 /// Shows the journal as it grows, and from the beginning if a new launcher has emptied it. A file that is away for a while, as when a new
 /// launcher puts it aside, is waited for. 65 if the journal can't be read.
-pub(crate) fn follow<W: Wait, H: Hears>(
+pub(crate) fn follow<W: Wait, H: Receives>(
     host: &HostRuntime,
     waits: &W,
     alloc: Global,
     path: &str,
     lines: &mut JournalLines,
-    hearer: &mut H,
+    receiver: &mut H,
 ) -> io::Result<u8> {
     let mut told: u64 = 0;
     let mut open = None;
     for _ in waits.forever() {
-        match look(host, alloc, path, &mut open, lines, hearer) {
+        match look(host, alloc, path, &mut open, lines, receiver) {
             Ok(()) => {}
             Err(fault) => return tell_fault(host, path, fault),
         }
@@ -40,22 +40,22 @@ pub(crate) fn follow<W: Wait, H: Hears>(
 }
 
 // Shows what is new: first of the file that is open, to its end, and then of the one that the path names now.
-fn look<H: Hears>(
+fn look<H: Receives>(
     host: &HostRuntime,
     alloc: Global,
     path: &str,
     open: &mut Option<File>,
     lines: &mut JournalLines,
-    hearer: &mut H,
+    receiver: &mut H,
 ) -> Result<(), JournalFault> {
     if let Some(file) = open {
         if is_resumed(alloc, file, lines)? {
-            read_source(host, file, false, lines, hearer)?;
+            read_source(host, file, false, lines, receiver)?;
         }
     }
     match reopened(host, alloc, path, lines) {
         Ok(mut file) => {
-            let shown = read_source(host, &mut file, false, lines, hearer);
+            let shown = read_source(host, &mut file, false, lines, receiver);
             drop(mem::replace(open, Some(file)));
             shown
         }

@@ -56,7 +56,7 @@ fn run<P: Subcommands>(parts: &P, command: &ScopeCommand) -> io::Result<u8>
     greatest_of(ended)
 }
 
-// Tells of the file, if one is named, and else of the journals.
+// Prints what the file says, if one is named, and else what the journals say.
 fn by_source<P: Subcommands>(parts: &P, command: &ScopeCommand) -> io::Result<Statuses>
     ensures { RunsBySource (P.Names parts.now) (P.Tells parts.now) (P.Ends parts.now) command.now result }
 {

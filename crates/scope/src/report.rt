@@ -6,7 +6,7 @@ use crate::age::{AsOf, clock_as_of, reading_as_of};
 use crate::as_root::read_for;
 use crate::at::{begun_by, read_up_to};
 use crate::by_file::FAILS;
-use crate::charted::{HeardMarks, chart_of};
+use crate::charted::{ReceivedMarks, chart_of};
 use crate::clock::now;
 use crate::drift::drift_of;
 use crate::errors::{add_errors, put_errors};
@@ -37,11 +37,11 @@ use definition_files::check::put_seen;
 use definition_files::tell_clockless;
 use exit_status::BAD_FILE;
 use history_model::{Ended, Text};
-use launchctl_words::{ScopeCommand, Task};
+use launchctl_words::{ScopeCommand, ScopeTask};
 use launcher_life::{JournalAsked, LauncherSeen, Life, journal_life};
 use run_times::picture::{Beside, Chart, blocks_text, picture_piece};
 use run_times::telling::{put, put_made, put_outcome, tell_of};
-use run_times::{Ink, Page, Piece};
+use run_times::{Page, Piece, TextWriter};
 use status_page::width_of;
 use std::alloc::{AllocError, Global};
 use std::io;
@@ -167,9 +167,9 @@ fn read_before(
 }
 
 // Nothing is shown while a journal is read.
-fn is_quiet(task: Task) -> bool {
+fn is_quiet(task: ScopeTask) -> bool {
     match task {
-        Task::Log => false,
+        ScopeTask::Log => false,
         _ => true,
     }
 }
@@ -189,7 +189,7 @@ fn report_by(
         Err(JournalFault::LongLine(line)) => (tell_long(host, name, line), AsOf::End(None)),
         Err(fault) => return tell_fault(host, name, fault),
     };
-    if let (Some(path), Task::Log) = (path, listener.of.task) {
+    if let (Some(path), ScopeTask::Log) = (path, listener.of.task) {
         put_end(host, alloc, path, listener)?;
     }
     match write_report(host, alloc, name, listener, as_of) {
@@ -213,8 +213,8 @@ fn read_as_of(
         return Ok(with_gap(host, alloc, path, listener, as_of));
     }
     match (read_journal(host, path, is_quiet, lines, listener), of.task) {
-        (Ok(()), Task::Why | Task::Next) => seen_now(host, alloc, path, listener),
-        (Ok(()), Task::Picture) if of.is_page => {
+        (Ok(()), ScopeTask::Why | ScopeTask::Next) => seen_now(host, alloc, path, listener),
+        (Ok(()), ScopeTask::Picture) if of.is_page => {
             Ok(AsOf::End(seen_at(host, alloc, path, listener)))
         }
         (Ok(()), _) => Ok(AsOf::End(None)),
@@ -326,32 +326,32 @@ fn write_report(
     let zone = zone_shown(of, &listener.utc, &journal.zone);
     let labels = of.words.as_slice();
     let written = match of.task {
-        Task::Why if of.is_json => {
+        ScopeTask::Why if of.is_json => {
             return put_objects(host, alloc, name, journal, zone, of, as_of);
         }
-        Task::Why if of.is_failing => {
+        ScopeTask::Why if of.is_failing => {
             let status = put_failing(host, alloc, name, journal, zone, labels, as_of)?;
             put_failed(host, alloc, name, journal, of, as_of)?;
             return Ok(status);
         }
-        Task::Why => put_made(host, why_text(alloc, journal, zone, labels, as_of)),
-        Task::Runs => put_runs(host, alloc, name, journal, zone, of, as_of),
-        Task::Picture => paint(host, alloc, journal, zone, &listener.heard, of, as_of),
-        Task::Show => put_made(host, show_text(alloc, journal, zone, labels, of.is_json)),
-        Task::Next => put_next(host, alloc, name, journal, zone, of, as_of),
-        Task::Drift => {
+        ScopeTask::Why => put_made(host, why_text(alloc, journal, zone, labels, as_of)),
+        ScopeTask::Runs => put_runs(host, alloc, name, journal, zone, of, as_of),
+        ScopeTask::Picture => paint(host, alloc, journal, zone, &listener.received, of, as_of),
+        ScopeTask::Show => put_made(host, show_text(alloc, journal, zone, labels, of.is_json)),
+        ScopeTask::Next => put_next(host, alloc, name, journal, zone, of, as_of),
+        ScopeTask::Drift => {
             return put_outcome(&mut host.stdout(), drift_of(host, alloc, journal, zone, of));
         }
         _ => Ok(()),
     };
     match (written, of.task) {
-        (Ok(()), Task::Why) => {
+        (Ok(()), ScopeTask::Why) => {
             let status = tell_unknown(host, alloc, name, journal, labels)?;
             put_failed(host, alloc, name, journal, of, as_of)?;
             put_now(host, alloc, journal, labels)?;
             Ok(status)
         }
-        (Ok(()), Task::Show) => tell_absent(host, name, journal, labels),
+        (Ok(()), ScopeTask::Show) => tell_absent(host, name, journal, labels),
         (Ok(()), _) => Ok(0),
         (Err(error), _) => Err(error),
     }
@@ -373,7 +373,7 @@ fn put_failing(
     Ok(unknown.max(if count > 0 { FAILS } else { 0 }))
 }
 
-// Where the errors of the jobs went whose last run failed. What a file has now is not told of a moment before.
+// Where the errors of the jobs went whose last run failed. For an earlier time it does not print what a file has now.
 fn put_failed(
     host: &HostRuntime,
     alloc: Global,
@@ -509,9 +509,9 @@ fn put_now(
             why_sought(&job.record.known()),
             is_named(labels, label),
         ) {
-            let mut ink = Ink::new(alloc);
-            ink.fill("\n$, $:\n", &[Piece::Text(label), Piece::Text(why)]);
-            put_made(host, ink.into_text())?;
+            let mut writer = TextWriter::new(alloc);
+            writer.fill("\n$, $:\n", &[Piece::Text(label), Piece::Text(why)]);
+            put_made(host, writer.into_text())?;
             put_seen(host, alloc, def)?;
         }
     }
@@ -566,7 +566,7 @@ fn paint(
     alloc: Global,
     journal: &OpenJournal,
     zone: &Zone,
-    heard: &HeardMarks<'_>,
+    received: &ReceivedMarks<'_>,
     of: &ScopeCommand,
     as_of: AsOf,
 ) -> io::Result<()> {
@@ -577,7 +577,7 @@ fn paint(
             tell_of(host, label, &"the journal has no load of it");
         }
     }
-    let chart = chart_of(alloc, &journal.past, heard)?;
+    let chart = chart_of(alloc, &journal.past, received)?;
     let painted = if of.is_page {
         paint_page(host, alloc, journal, zone, &chart, labels, as_of)
     } else if host.stdout().is_terminal() {
@@ -627,19 +627,19 @@ fn failing_front(
     as_of: AsOf,
 ) -> Result<String, AllocError> {
     let (text, count) = failing_text(alloc, journal, zone, labels, as_of)?;
-    let mut ink = Ink::new(alloc);
+    let mut writer = TextWriter::new(alloc);
     if count > 0 {
-        ink.put(text.as_str());
+        writer.put(text.as_str());
         for run in &failed_runs(alloc, journal, labels)? {
-            add_errors(&mut ink, run);
-            ink.put("\n");
+            add_errors(&mut writer, run);
+            writer.put("\n");
         }
     }
     drop(text);
-    ink.into_text()
+    writer.into_text()
 }
 
-// Writes the page with what stands beside the picture, or the picture alone: piece by piece, so that its whole text is never held.
+// Writes the page with the text around the picture, or the picture alone: piece by piece, so that its whole text is never held.
 fn put_pieces(
     host: &HostRuntime,
     alloc: Global,

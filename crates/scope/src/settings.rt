@@ -12,7 +12,7 @@ use crate::window::WHOLE;
 use history_model::Text;
 use launchctl_words::ScopeCommand;
 use status_file::DisabledBy;
-use status_page::{Standing, is_asked};
+use status_page::{StatusRead, is_asked};
 use std::alloc::{AllocError, Global};
 use std::mem;
 
@@ -25,7 +25,7 @@ pub(crate) fn settings_of(
     host: &HostRuntime,
     alloc: Global,
     of: &ScopeCommand,
-    standing: &Standing,
+    standing: &StatusRead,
 ) -> Result<KnownLabels, AllocError> {
     if !leaves_open(standing, of.words.as_slice()) {
         return Ok(KnownLabels::new(alloc));
@@ -53,7 +53,7 @@ pub(crate) fn settings_of(
 }
 
 // Whether a job that is asked for is disabled by a setting of which the file has no time.
-fn leaves_open(standing: &Standing, labels: &[Text]) -> bool {
+fn leaves_open(standing: &StatusRead, labels: &[Text]) -> bool {
     for line in standing.jobs() {
         match line.job() {
             Ok(job) if is_asked(labels, job.label) => {

@@ -10,7 +10,7 @@ ghost use Rattle.scope.specs.declared.subcommands.Part.{Part as Kind};
 ghost use Rattle.scope.specs.declared.subcommands.Statuses.{Statuses as Both};
 ghost use Rattle.scope.specs.Parts.{part_in};
 
-use launchctl_words::{Meaning, ScopeCommand, Task, WordFault};
+use launchctl_words::{Meaning, ScopeCommand, ScopeTask, WordFault};
 use std::io;
 
 /// A part that reads no status file.
@@ -85,14 +85,14 @@ pub trait Subcommands {
 }
 
 /// The part that does the task, with further arguments or without. None for a task that a status file or a journal may answer.
-pub(crate) fn part_of(task: Task, has_words: bool) -> Option<Part>
+pub(crate) fn part_of(task: ScopeTask, has_words: bool) -> Option<Part>
     ensures { result ≡ part_in task has_words }
 {
     match task {
-        Task::Next if has_words => Some(Part::Definitions),
-        Task::Check => Some(Part::Definitions),
-        Task::Cron => Some(Part::Crontab),
-        Task::Plist => Some(Part::Lists),
+        ScopeTask::Next if has_words => Some(Part::Definitions),
+        ScopeTask::Check => Some(Part::Definitions),
+        ScopeTask::Cron => Some(Part::Crontab),
+        ScopeTask::Plist => Some(Part::Lists),
         _ => None,
     }
 }

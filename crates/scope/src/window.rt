@@ -5,7 +5,7 @@ use crate::journal::fault::JournalFault;
 use calendar_due::Zone;
 use exit_status::{BAD_CLOCK, USAGE};
 use history_model::{MAX_WALL, Text};
-use launchctl_words::{ScopeCommand, Task};
+use launchctl_words::{ScopeCommand, ScopeTask};
 use moment_words::{Moment, WANTED, read_moment, second_of};
 
 /// The times of the arguments.
@@ -29,7 +29,7 @@ pub(crate) const WHOLE: Window = Window {
 
 /// The seconds of Unix time between which a journal is reported.
 #[derive(Clone, Copy)]
-pub(crate) struct Told {
+pub(crate) struct ReportedSpan {
     pub(crate) since: u64,
     pub(crate) until: u64,
 }
@@ -73,10 +73,13 @@ fn moment_of(host: &HostRuntime, option: &str, text: &Option<Text>) -> Result<Op
 impl Window {
     /// The time after which a journal is not read for the task, if there is one, and the second that is now for it. None for that second: the
     /// second of the journal's last event.
-    pub(crate) fn end(&self, task: Task) -> Option<(Moment, Option<u64>)> {
+    pub(crate) fn end(&self, task: ScopeTask) -> Option<(Moment, Option<u64>)> {
         match (self.at, self.until, task) {
             (Some(moment), _, _) => Some((moment, None)),
-            (None, Some(moment), Task::Runs | Task::Picture) => Some((moment, Some(self.now))),
+            (None, Some(moment), ScopeTask::Runs | ScopeTask::Picture) => Some((
+                moment,
+                Some(self.now),
+            )),
             _ => None,
         }
     }
@@ -91,10 +94,10 @@ impl Window {
     }
 
     /// The seconds that it means by the zone.
-    pub(crate) fn told(&self, zone: &Zone) -> Result<Told, JournalFault> {
+    pub(crate) fn told(&self, zone: &Zone) -> Result<ReportedSpan, JournalFault> {
         let since = self.second(self.since, zone, 0)?;
         let until = self.second(self.until, zone, u64::MAX)?;
-        Ok(Told { since, until })
+        Ok(ReportedSpan { since, until })
     }
 
     // The second of the time, or the other one if there is none.

@@ -32,7 +32,7 @@ impl Model for Waiting {
 }
 
 impl Waiting {
-    /// No connection, and room for as many as ever wait. The one refusal is of memory.
+    /// No connection, and room for all that may ever wait. The one refusal is of memory.
     pub fn new(alloc: Global) -> Result<Waiting, AllocError>
         ensures { IfOk result (λ w. w ≡ []) }
     {
@@ -40,7 +40,7 @@ impl Waiting {
         Ok(Waiting { conns })
     }
 
-    /// Adds a connection behind the others. Refused if `MAX_CONNECTIONS` wait already, which it then leaves as they are.
+    /// Adds a connection after the others. Refused if `MAX_CONNECTIONS` wait already, which it then leaves as they are.
     #[tactic(auto, using(std::proofs::lemmas::List::Edits::insert_end))]
     pub fn came(&mut self, conn: u64) -> Result<(), Full>
         ensures room { IsOk result ↔ (length self.old < MAX_CONNECTIONS) }
@@ -58,7 +58,7 @@ impl Waiting {
         }
     }
 
-    /// Takes a connection out, and tells whether it waited.
+    /// Takes a connection out, and returns whether it waited.
     pub fn left(&mut self, conn: u64) -> bool
         ensures waited { result ≡ list_any (λ c. c == conn) self.old }
         ensures rest { self.new ≡ filter (λ c. not (conn == c)) self.old }

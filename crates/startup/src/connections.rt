@@ -11,7 +11,7 @@ use std::alloc::Global;
 pub(crate) type Media = Files<Medium<File, Memory>>;
 
 /// What is done over a connection, with what it gives. If it is refused, or nothing was done, it is given back.
-pub(crate) trait Task {
+pub(crate) trait ConnectionTask {
     type Done;
 
     fn over<S: Alter + Drop>(self, conn: Connection<S>) -> Result<Self::Done, (StoreRefusal, Self)>;
@@ -21,7 +21,7 @@ pub(crate) trait Task {
 pub(crate) type MediaConnection = Connection<FileStore<Medium<File, Memory>>>;
 
 /// Opens the database of these files, and does the task over it.
-pub(crate) fn over_files<T: Task>(
+pub(crate) fn over_files<T: ConnectionTask>(
     alloc: Global,
     files: Media,
     options: Options,

@@ -49,7 +49,7 @@ fn taken_for<R: AllocGlobal + Files<File = File>>(
 fn refuse_journal(rt: &impl Eprint, plan: &Plan, path: &Text, error: &io::Error) -> u8 {
     refuse(
         rt,
-        plan.wishes.level,
+        plan.requested.level,
         JOURNAL,
         "journal",
         path.as_str(),
@@ -93,7 +93,7 @@ pub fn tell_long_header(
     };
     if line.len() > LINE_LIMIT + 1 {
         let why = "jobd replay can't read it, since the settings make its first line too long";
-        report(rt, plan.wishes.level, "journal", path.as_str(), &why);
+        report(rt, plan.requested.level, "journal", path.as_str(), &why);
     }
     Ok(())
 }

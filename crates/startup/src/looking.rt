@@ -1,6 +1,6 @@
 //! Whether a file is a store of settings, found out without a write: this module checks a copy of it in memory.
 
-use crate::connections::{Media, MediaConnection, Task, connection_over, over_files};
+use crate::connections::{ConnectionTask, Media, MediaConnection, connection_over, over_files};
 use crate::medium::Medium;
 use crate::overrides::read_settings;
 use crate::refusal::StoreRefusal;
@@ -20,7 +20,7 @@ const CACHE_PAGES: usize = 8;
 
 /// What a file is that may be a store.
 #[derive(Clone, Copy)]
-pub(crate) enum Found {
+pub(crate) enum StoreKind {
     /// It is empty, or a database without a table.
     Empty,
     /// A database with tables of a store, and no others, whose settings can be read.
@@ -32,11 +32,9 @@ pub(crate) fn look<R: AllocGlobal + fs::Files<File = File>>(
     rt: &R,
     alloc: Global,
     path: &str,
-) -> Result<Found, StoreRefusal> {
-    match read_both(rt, alloc, path) {
-        Ok((file, log)) => look_in(alloc, file, log),
-        Err(refusal) => Err(refusal),
-    }
+) -> Result<StoreKind, StoreRefusal> {
+    let (file, log) = read_both(rt, alloc, path)?;
+    look_in(alloc, file, log)
 }
 
 /// A connection to a copy in memory of the database in the plain file at the path, with the log next to it.
@@ -45,11 +43,8 @@ pub(crate) fn copied_connection<R: AllocGlobal + fs::Files<File = File>>(
     alloc: Global,
     path: &str,
 ) -> Result<MediaConnection, StoreRefusal> {
-    let files = match read_both(rt, alloc, path) {
-        Ok((file, log)) => copies(alloc, file, log),
-        Err(refusal) => return Err(refusal),
-    };
-    match files {
+    let (file, log) = read_both(rt, alloc, path)?;
+    match copies(alloc, file, log) {
         Ok(files) => connection_over(alloc, files, copied_options()),
         Err(error) => Err(StoreRefusal::System("store", error)),
     }
@@ -92,9 +87,9 @@ fn read_real<R: fs::Files<File = File>>(
     }
 }
 
-fn look_in(alloc: Global, file: Vec<u8>, log: Vec<u8>) -> Result<Found, StoreRefusal> {
+fn look_in(alloc: Global, file: Vec<u8>, log: Vec<u8>) -> Result<StoreKind, StoreRefusal> {
     if file.is_empty() && log.is_empty() {
-        return Ok(Found::Empty);
+        return Ok(StoreKind::Empty);
     }
     let files = match copies(alloc, file, log) {
         Ok(files) => files,
@@ -131,13 +126,13 @@ struct LookThrough {
     alloc: Global,
 }
 
-impl Task for LookThrough {
-    type Done = Found;
+impl ConnectionTask for LookThrough {
+    type Done = StoreKind;
 
     fn over<S: Alter + Drop>(
         self,
         conn: Connection<S>,
-    ) -> Result<Found, (StoreRefusal, LookThrough)> {
+    ) -> Result<StoreKind, (StoreRefusal, LookThrough)> {
         let LookThrough { alloc } = self;
         let mut conn = conn;
         let found = match found_in(&mut conn) {
@@ -158,7 +153,7 @@ impl Task for LookThrough {
 }
 
 // What the tables say, whose settings are not yet read.
-fn found_in<S: Alter>(conn: &mut Connection<S>) -> Result<Found, StoreRefusal> {
+fn found_in<S: Alter>(conn: &mut Connection<S>) -> Result<StoreKind, StoreRefusal> {
     let tables = conn.schema().tables.len();
     let first = has(conn, "SELECT label, disabled FROM overrides")?;
     let second = has(conn, "SELECT label, disabled, changed FROM settings")?;
@@ -166,9 +161,9 @@ fn found_in<S: Alter>(conn: &mut Connection<S>) -> Result<Found, StoreRefusal> {
         return Err(StoreRefusal::Foreign);
     }
     Ok(if tables == 0 {
-        Found::Empty
+        StoreKind::Empty
     } else {
-        Found::Store
+        StoreKind::Store
     })
 }
 

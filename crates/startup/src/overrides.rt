@@ -1,7 +1,7 @@
 //! `jobd overrides`: a line for each label that has a stored setting, by rising bytes of the labels.
 
-use crate::connections::Task;
-use crate::looking::{Found, look};
+use crate::connections::ConnectionTask;
+use crate::looking::{StoreKind, look};
 use crate::refusal::{StoreRefusal, refuse_store};
 use crate::reporting::Level;
 use crate::store::over_store;
@@ -17,8 +17,8 @@ use std::io;
 /// written to.
 pub fn list_store(rt: &HostRuntime, alloc: Global, path: &str) -> u8 {
     let read = match look(rt, alloc, path) {
-        Ok(Found::Store) => over_store(rt, path, Listing { alloc }),
-        Ok(Found::Empty) => return 0,
+        Ok(StoreKind::Store) => over_store(rt, path, Listing { alloc }),
+        Ok(StoreKind::Empty) => return 0,
         Err(refusal) => Err((refusal, Listing { alloc })),
     };
     match read {
@@ -32,7 +32,7 @@ struct Listing {
     alloc: Global,
 }
 
-impl Task for Listing {
+impl ConnectionTask for Listing {
     type Done = (Vec<Setting>, Vec<(String, u64)>);
 
     fn over<S: Alter + Drop>(

@@ -37,15 +37,15 @@ pub fn system_of<R: System>(
             Ok(reading) => Ok((edge, reading)),
             Err(_) => {
                 drop(edge);
-                Err(no_clock(rt, plan.wishes.level))
+                Err(no_clock(rt, plan.requested.level))
             }
         },
-        Err(_) => Err(no_clock(rt, plan.wishes.level)),
+        Err(_) => Err(no_clock(rt, plan.requested.level)),
     }
 }
 
 fn first_reading<R: System>(plan: &Plan, edge: &mut OsEdge<R>) -> Result<Reading, EdgeFault> {
-    if plan.wishes.logs_runs {
+    if plan.requested.logs_runs {
         edge.log_runs();
     }
     edge.set_limit(plan.standing.descriptors);
@@ -66,7 +66,7 @@ pub fn bound<R: System>(rt: &R, alloc: Global, plan: &Plan) -> Result<ControlSoc
         Ok(control) => Ok(control),
         Err(error) => Err(refuse(
             rt,
-            plan.wishes.level,
+            plan.requested.level,
             CONTROL_SOCKET,
             "control socket",
             path,

@@ -4,7 +4,7 @@
 use crate::reporting::{Level, refuse, report};
 use crate::status_file::check_status_file;
 use exit_status::{CLOCK_OR_WAITING, NO_MEMORY};
-use files_and_process::own_process::{Standing, open_null_streams};
+use files_and_process::own_process::{ProcessState, open_null_streams};
 use history_model::Text;
 use std::alloc::{AllocError, Global};
 use std::env;
@@ -23,7 +23,7 @@ pub struct Places {
 
 /// What the environment asks for.
 #[derive(Clone, Copy)]
-pub struct Wishes {
+pub struct Requested {
     /// `JOBD_LOG=runs`: the launcher also logs starts, exits, TERM and KILL.
     pub logs_runs: bool,
     pub level: Level,
@@ -33,8 +33,8 @@ pub struct Wishes {
 #[derive(Drop)]
 pub struct Plan {
     pub places: Places,
-    pub wishes: Wishes,
-    pub standing: Standing,
+    pub requested: Requested,
+    pub standing: ProcessState,
     // The null device, in place of each standard stream that is missing.
     _null_streams: Vec<File>,
 }
@@ -46,15 +46,15 @@ pub fn plan_of<R: AllocGlobal + Env + Eprint + Files<File = File>>(
     alloc: Global,
     places: Places,
 ) -> Result<Plan, u8> {
-    let Ok(wishes) = read_wishes(rt) else {
+    let Ok(requested) = read_requested(rt) else {
         return Err(NO_MEMORY);
     };
     match open_null_streams(rt, alloc) {
-        Ok(held) => match check_status_file(rt, alloc, &places, wishes.level) {
+        Ok(held) => match check_status_file(rt, alloc, &places, requested.level) {
             Ok(()) => Ok(Plan {
                 places,
-                wishes,
-                standing: Standing::read(rt),
+                requested,
+                standing: ProcessState::read(rt),
                 _null_streams: held,
             }),
             Err(status) => {
@@ -65,13 +65,13 @@ pub fn plan_of<R: AllocGlobal + Env + Eprint + Files<File = File>>(
         },
         Err(error) => {
             let (part, path) = ("null device", "/dev/null");
-            Err(refuse(rt, wishes.level, CLOCK_OR_WAITING, part, path, &error))
+            Err(refuse(rt, requested.level, CLOCK_OR_WAITING, part, path, &error))
         }
     }
 }
 
 // What `JOBD_LOG` and `JOURNAL_STREAM` are set to. Another value than `runs` is reported, and asks for nothing.
-fn read_wishes<R: AllocGlobal + Env + Eprint>(rt: &R) -> Result<Wishes, AllocError> {
+fn read_requested<R: AllocGlobal + Env + Eprint>(rt: &R) -> Result<Requested, AllocError> {
     let level = match env::var(rt, "JOURNAL_STREAM") {
         Err(VarError::OutOfMemory) => return Err(AllocError),
         Err(VarError::NotPresent) => Level::NONE,
@@ -82,7 +82,7 @@ fn read_wishes<R: AllocGlobal + Env + Eprint>(rt: &R) -> Result<Wishes, AllocErr
         Err(VarError::OutOfMemory) => return Err(AllocError),
         Err(_) => false,
     };
-    Ok(Wishes { logs_runs, level })
+    Ok(Requested { logs_runs, level })
 }
 
 fn is_runs(rt: &impl Eprint, level: Level, word: &str) -> bool {

@@ -12,7 +12,7 @@ use std::io;
 /// left in it. Status 10 if another launcher holds it, or others may write in it. A folder that is not there, or that
 /// the system refuses, is reported, and is not held: jobs without sockets don't need it.
 pub fn hold_spool<R: System>(rt: &R, alloc: Global, plan: &Plan) -> Result<Option<LockFile>, u8> {
-    let (folder, level) = (plan.places.spool.as_str(), plan.wishes.level);
+    let (folder, level) = (plan.places.spool.as_str(), plan.requested.level);
     match held(rt, alloc, folder, plan.standing.user) {
         Ok(lock) => {
             clear(rt, level, folder);

@@ -4,14 +4,14 @@ use crate::plan::Plan;
 use crate::reporting::{Level, report, tell};
 use child_edge::{System, room_for};
 use exit_status::{CLOCK_OR_WAITING, NO_MEMORY};
-use files_and_process::own_process::{Signal, Standing, sees_children};
+use files_and_process::own_process::{ProcessState, Signal, sees_children};
 use std::alloc::Global;
 use std::io;
 
 /// Status 9 if too few descriptors are allowed, or the exits of children can't be seen. It reports a shell that can't
 /// be started.
 pub fn check_standing<R: System>(rt: &R, alloc: Global, plan: &Plan) -> Result<(), u8> {
-    let level = plan.wishes.level;
+    let level = plan.requested.level;
     if room_for(plan.standing.descriptors, 0) == 0 {
         return Err(refuse_serving(
             rt,
@@ -44,7 +44,7 @@ fn refuse_serving(rt: &impl Eprint, level: Level, part: &str, why: &str) -> u8 {
 /// Reports the limit on the size of files, if the system ends who goes past it, and the signals that each job will
 /// ignore.
 pub fn tell_standing(rt: &impl Eprint, plan: &Plan) {
-    let (standing, level) = (&plan.standing, plan.wishes.level);
+    let (standing, level) = (&plan.standing, plan.requested.level);
     if standing.file_size.is_some() && !standing.ignores(Signal::Xfsz) {
         let why = "SIGXFSZ kills the launcher if a file would grow past it (ulimit -f)";
         tell(rt, level, "the limit on the file size", why);
@@ -61,6 +61,6 @@ pub fn tell_standing(rt: &impl Eprint, plan: &Plan) {
     }
 }
 
-fn word_if(standing: &Standing, signal: Signal, word: &'static str) -> &'static str {
+fn word_if(standing: &ProcessState, signal: Signal, word: &'static str) -> &'static str {
     if standing.ignores(signal) { word } else { "" }
 }

@@ -50,17 +50,14 @@ pub(crate) fn check_status_file<R: AllocGlobal + Env + Eprint + Files>(
         drop(path);
         return Ok(());
     }
-    let taken = taken_for(rt, alloc, places, path.as_str());
-    let answer = match taken {
+    match taken_for(rt, alloc, places, path.as_str()) {
         Ok(None) => Ok(()),
         Ok(Some((status, why))) => {
             report(rt, level, "status file", path.as_str(), &why);
             Err(status)
         }
         Err(AllocError) => Err(NO_MEMORY),
-    };
-    drop(path);
-    answer
+    }
 }
 
 // Which place one of its files is, if any.
@@ -74,7 +71,7 @@ fn taken_for<R: AllocGlobal + Files>(
     let store = real_of(rt, alloc, places.store.as_str())?;
     for end in OWN {
         let own = file_at(rt, alloc, path, end)?;
-        let found = place_of(rt, alloc, places, store.as_str(), &own);
+        let found = owning_place(rt, alloc, places, store.as_str(), &own);
         drop(own);
         match found {
             Ok(None) => {}
@@ -84,7 +81,7 @@ fn taken_for<R: AllocGlobal + Files>(
     Ok(None)
 }
 
-fn place_of<R: AllocGlobal + Files>(
+fn owning_place<R: AllocGlobal + Files>(
     rt: &R,
     alloc: Global,
     places: &Places,

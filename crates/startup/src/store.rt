@@ -2,8 +2,8 @@
 
 ghost use Rattle.std.specs.Prelude.{None};
 
-use crate::connections::{Media, MediaConnection, Task, connection_over, over_files};
-use crate::looking::{Found, copied_connection, look};
+use crate::connections::{ConnectionTask, Media, MediaConnection, connection_over, over_files};
+use crate::looking::{StoreKind, copied_connection, look};
 use crate::medium::Medium;
 use crate::one_file::taken_for_store;
 use crate::plan::Plan;
@@ -12,7 +12,7 @@ use crate::reporting::{Level, report};
 use files_and_process::own_files::make_private;
 use history_model::Setting;
 use outside::SettingStore;
-use override_store::{LastingSettings, StoreFault, StoreNews, StorePlace, Telling, lasting};
+use override_store::{LastingSettings, StoreFault, StorePlace, StoreStatus, Telling, lasting};
 use sqlite::{Alter, Connection, Files, Options, Unknown};
 use sqlite_std_file::OpenError;
 use std::alloc::Global;
@@ -54,7 +54,7 @@ pub fn with_store<U: StoreUser>(
     plan: &Plan,
     user: U,
 ) -> Result<u8, (u8, U)> {
-    let (path, level) = (plan.places.store.as_str(), plan.wishes.level);
+    let (path, level) = (plan.places.store.as_str(), plan.requested.level);
     let place = StoreFiles {
         rt,
         level,
@@ -70,7 +70,7 @@ pub fn with_store<U: StoreUser>(
         Err(both) => both,
     };
     let status = refuse_store(rt, level, path, refusal);
-    if !matches!(found, Found::Store) || !refusal.is_full() {
+    if !matches!(found, StoreKind::Store) || !refusal.is_full() {
         return Err((status, user));
     }
     let why =
@@ -140,7 +140,7 @@ fn settings_of<S: Alter + Drop, P: StorePlace<Connection<S>> + Drop>(
 }
 
 // The file at the path is for this user alone and no other place's, and may be a store.
-fn look_at_own(rt: &HostRuntime, alloc: Global, plan: &Plan) -> Result<Found, StoreRefusal> {
+fn look_at_own(rt: &HostRuntime, alloc: Global, plan: &Plan) -> Result<StoreKind, StoreRefusal> {
     match private_file(rt, alloc, plan) {
         Ok(None) => look(rt, alloc, plan.places.store.as_str()),
         Ok(Some(why)) => Err(StoreRefusal::Taken(why)),
@@ -160,7 +160,7 @@ struct StoreFiles<'a> {
     rt: &'a HostRuntime,
     level: Level,
     path: &'a str,
-    // The numbers of the reasons that were logged since `StoreNews::Anew`, and then 0.
+    // The numbers of the reasons that were logged since `StoreStatus::Anew`, and then 0.
     told: Cell<[u32; REASONS]>,
 }
 
@@ -183,7 +183,7 @@ impl StoreFiles<'_> {
 }
 
 impl StorePlace<MediaConnection> for StoreFiles<'_> {
-    // What is asked of the system is not told.
+    // Contracts do not see what is asked of the system.
     ghost asked = { λ s. None };
 
     fn open(&mut self, _alloc: Global, telling: Telling) -> Result<MediaConnection, StoreFault> {
@@ -199,19 +199,19 @@ impl StorePlace<MediaConnection> for StoreFiles<'_> {
         }
     }
 
-    fn tell(&self, news: StoreNews) {
-        let why = match news {
-            StoreNews::Refused(StoreFault::NoMemory) => "no memory",
-            StoreNews::Refused(StoreFault::Refused) => "disk I/O error",
-            StoreNews::Refused(StoreFault::Full) => "database or disk is full",
-            StoreNews::Refused(StoreFault::Foreign) => "a database, but not a store of settings",
-            StoreNews::TooMany => "16,384 labels have a setting, and no other may have one",
-            StoreNews::Mended =>
+    fn tell(&self, status: StoreStatus) {
+        let why = match status {
+            StoreStatus::Refused(StoreFault::NoMemory) => "no memory",
+            StoreStatus::Refused(StoreFault::Refused) => "disk I/O error",
+            StoreStatus::Refused(StoreFault::Full) => "database or disk is full",
+            StoreStatus::Refused(StoreFault::Foreign) => "a database, but not a store of settings",
+            StoreStatus::TooMany => "16,384 labels have a setting, and no other may have one",
+            StoreStatus::Mended =>
                 "its files lack the last settings of some labels: they are written again",
-            StoreNews::Anew => return self.told.set([0; REASONS]),
+            StoreStatus::Anew => return self.told.set([0; REASONS]),
         };
-        let is_told = match news {
-            StoreNews::Refused(fault) => self.is_new(number_of(fault)),
+        let is_told = match status {
+            StoreStatus::Refused(fault) => self.is_new(number_of(fault)),
             _ => true,
         };
         if is_told {
@@ -247,7 +247,7 @@ fn connection_at(rt: &HostRuntime, path: &str) -> Result<MediaConnection, StoreR
 }
 
 /// Does the task over the database in the file at the path.
-pub(crate) fn over_store<T: Task>(
+pub(crate) fn over_store<T: ConnectionTask>(
     rt: &HostRuntime,
     path: &str,
     task: T,

@@ -6,21 +6,21 @@ use Rattle.std.specs.List.{flat_map}
 use Rattle.history_model.specs.declared.Entry.{Entry}
 use Rattle.json.specs.Print.{print}
 use Rattle.json.specs.Token.{Token}
-use Rattle.status_file.specs.declared.line.Line.{Line}
+use Rattle.status_file.specs.declared.line.LineWriter.{LineWriter}
 use Rattle.status_file.specs.declared.line.Piece.{Piece}
 use Rattle.status_file.specs.declared.line.StatusText.{StatusText}
 use Rattle.status_file.specs.Tokens.{entry_tokens, token_in, tokens_in}
 use Rattle.status_file.specs.Lines.{Adds, Puts, line_of}
 
-pub nothing : (line : Line) → Puts [] line line
+pub nothing : (line : LineWriter) → Puts [] line line
 nothing line = record { kept = λ well. well; before = refl; added = λ well. sym (append-nil line.writer.tokens) }
 
 -- the same from its clauses
-pub puts : (ts : List Token) (x y : Line) → (y.is_refused ≡ false → x.is_refused ≡ false) → y.writer.before ≡ x.writer.before →
+pub puts : (ts : List Token) (x y : LineWriter) → (y.is_refused ≡ false → x.is_refused ≡ false) → y.writer.before ≡ x.writer.before →
     (y.is_refused ≡ false → y.writer.tokens ≡ x.writer.tokens ++ ts) → Puts ts x y
 puts ts x y kept before added = record { kept = kept; before = before; added = added }
 
-pub followed : (a b : List Token) (x y z : Line) → Puts a x y → Puts b y z → Puts (a ++ b) x z
+pub followed : (a b : List Token) (x y z : LineWriter) → Puts a x y → Puts b y z → Puts (a ++ b) x z
 followed a b x y z first second = record {
   kept = λ well. first.kept (second.kept well);
   before = second.before ∙ first.before;
@@ -30,7 +30,7 @@ followed a b x y z first second = record {
 }
 
 -- the pieces before this one, and this one
-pub one_more : (ps : List Piece) (at : ℕ) (other : Piece) (x y z : Line) → at < length ps →
+pub one_more : (ps : List Piece) (at : ℕ) (other : Piece) (x y z : LineWriter) → at < length ps →
     Puts (tokens_in (take at ps)) x y → Puts (token_in (get_or ps at other) ∷ []) y z →
     Puts (tokens_in (take (at + 1) ps)) x z
 one_more ps at other x y z is_there first second =
@@ -39,7 +39,7 @@ one_more ps at other x y z is_there first second =
     subst (λ ts. Puts ts x z) (sym more) (followed (tokens_in (take at ps)) (token_in (get_or ps at other) ∷ []) x y z first second)
 
 -- so of the entries of a calendar
-pub one_entry_more : (es : List Entry) (at : ℕ) (other : Entry) (x y z : Line) → at < length es →
+pub one_entry_more : (es : List Entry) (at : ℕ) (other : Entry) (x y z : LineWriter) → at < length es →
     Puts (flat_map entry_tokens (take at es)) x y → Puts (entry_tokens (get_or es at other)) y z →
     Puts (flat_map entry_tokens (take (at + 1) es)) x z
 one_entry_more es at other x y z is_there first second =
@@ -51,7 +51,7 @@ one_entry_more es at other x y z is_there first second =
     subst (λ ts. Puts ts x z) (sym more) (followed front (entry_tokens entry) x y z first second)
 
 -- a line that was begun after a text, and ended with these tokens
-pub ended : (ts : List Token) (old new : StatusText) (x y : Line) →
+pub ended : (ts : List Token) (old new : StatusText) (x y : LineWriter) →
     x.is_refused ≡ old.is_refused → x.writer.before ≡ old.bytes.items → x.writer.tokens ≡ [] → Puts ts x y →
     (new.is_refused ≡ false → new.bytes.items ≡ y.writer.before ++ line_of y.writer.tokens) →
     (new.is_refused ≡ false → y.is_refused ≡ false) → Adds ts old new

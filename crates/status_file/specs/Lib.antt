@@ -5,3 +5,5 @@ pub mod Tokens
 pub mod Fronts
 pub mod Lines
 pub mod Jobs
+pub mod Reads
+pub mod Readings

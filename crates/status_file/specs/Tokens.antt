@@ -26,6 +26,9 @@ use Rattle.status_file.specs.declared.status.DisabledBy.TheVariants.{Definition,
 use Rattle.status_file.specs.declared.status.JobKeys.{JobKeys}
 use Rattle.status_file.specs.declared.status.JobNote.{JobNote}
 use Rattle.status_file.specs.declared.status.JobStatus.{JobStatus}
+use Rattle.status_file.specs.declared.status.JournalStatus.{JournalStatus}
+use Rattle.status_file.specs.declared.status.JournalStatus.TheVariants as journals
+use Rattle.status_file.specs.declared.status.LauncherStatus.{LauncherStatus}
 use Rattle.run_log.specs.declared.facts.RefusedStart.{RefusedStart}
 use Rattle.run_log.specs.declared.facts.RunEnd.{RunEnd}
 
@@ -100,6 +103,36 @@ reading_tokens at =
 abbrev pub moment_tokens : List ℕ → Option Reading → List Token
 moment_tokens name None = key name ∷ null ∷ []
 moment_tokens name (Some at) = key name ∷ reading_tokens at
+
+-- ---- the line of the launcher
+
+-- its version, its process, and the header of a journal of it
+abbrev pub process_tokens : LauncherStatus → List Token
+process_tokens l =
+    begin_object ∷ key (codes "launcher") ∷ begin_object
+    ∷ key (codes "version") ∷ string l.version.now
+    ∷ key (codes "pid") ∷ number (decimal l.pid)
+    ∷ key (codes "began") ∷ number (decimal l.began)
+    ∷ key (codes "header") ∷ string l.header.now ∷ []
+
+-- the state of its journal, and why it is closed
+abbrev pub journal_tokens : JournalStatus → List Token
+journal_tokens journals.None = key (codes "journal") ∷ string (codes "none") ∷ key (codes "journal_reason") ∷ null ∷ []
+journal_tokens journals.Open = key (codes "journal") ∷ string (codes "open") ∷ key (codes "journal_reason") ∷ null ∷ []
+journal_tokens (journals.Closed reason) = key (codes "journal") ∷ string (codes "closed") ∷ key (codes "journal_reason") ∷ string reason.now ∷ []
+
+-- what the store refused last, and its counts
+abbrev pub tallies_tokens : LauncherStatus → List Token
+tallies_tokens l =
+    key (codes "store") ∷ text_token l.store
+    ∷ key (codes "renewed_each") ∷ count_token l.renewed_each
+    ∷ key (codes "failed_calls") ∷ count_token l.failed_calls
+    ∷ key (codes "jobs") ∷ number (decimal l.jobs)
+    ∷ end_object ∷ end_object ∷ []
+
+abbrev pub launcher_tokens : LauncherStatus → List Token
+launcher_tokens l =
+    process_tokens l ++ (moment_tokens (codes "at") (Some l.at) ++ (journal_tokens l.journal ++ tallies_tokens l))
 
 -- ---- what the table says
 

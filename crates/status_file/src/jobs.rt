@@ -79,7 +79,7 @@ fn ordered(table: &JobTable, order: &mut Vec<JobNo>) -> Result<(), AllocError> {
     order.clear();
     for job in 0..NUMBERS {
         if let Some((label, _)) = job_of(table, job) {
-            let place = place_of(table, order.as_slice(), label).min(order.len());
+            let place = place_in_order(table, order.as_slice(), label).min(order.len());
             order.insert(place, job)?;
         }
     }
@@ -87,7 +87,7 @@ fn ordered(table: &JobTable, order: &mut Vec<JobNo>) -> Result<(), AllocError> {
 }
 
 // How many of them have a label before this one.
-fn place_of(table: &JobTable, order: &[JobNo], label: &str) -> usize {
+fn place_in_order(table: &JobTable, order: &[JobNo], label: &str) -> usize {
     order.partition_point(|job| is_before(table, *job, label))
 }
 

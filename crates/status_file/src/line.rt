@@ -54,12 +54,12 @@ pub(crate) fn flag_piece(flag: Option<bool>) -> Piece<'static>
 
 /// A line that is being written. A refusal of memory is kept, and returned once the line is taken.
 #[derive(Drop)]
-pub(crate) struct Line {
+pub(crate) struct LineWriter {
     pub(crate) writer: Writer,
     pub(crate) is_refused: bool,
 }
 
-impl Line {
+impl LineWriter {
     /// Adds the pieces, if there is memory for them.
     pub(crate) fn put(&mut self, pieces: &[Piece<'_>])
         ensures kept { self.new.is_refused ≡ false → self.old.is_refused ≡ false }
@@ -135,24 +135,24 @@ impl StatusText {
     }
 
     /// A line after what is written so far. The caller puts its content on it, and `end` takes it back.
-    pub(crate) fn begin(&mut self, alloc: Global) -> Line
+    pub(crate) fn begin(&mut self, alloc: Global) -> LineWriter
         ensures before { result.writer.before ≡ self.old.bytes.items }
         ensures empty { result.writer.tokens ≡ [] }
         ensures refused { result.is_refused ≡ self.old.is_refused }
     {
         let bytes = mem::replace(&mut self.bytes, Vec::new(alloc));
-        Line {
+        LineWriter {
             writer: Writer::new(bytes),
             is_refused: self.is_refused,
         }
     }
 
     /// Takes the line back, and ends it.
-    pub(crate) fn end(&mut self, line: Line)
+    pub(crate) fn end(&mut self, line: LineWriter)
         ensures taken { self.new.is_refused ≡ false → self.new.bytes.items ≡ line.writer.before ++ line_of line.writer.tokens }
         ensures kept { self.new.is_refused ≡ false → line.is_refused ≡ false }
     {
-        let Line { writer, is_refused } = line;
+        let LineWriter { writer, is_refused } = line;
         let mut bytes = writer.into_inner();
         let is_ended = bytes.push(b'\n').is_ok();
         drop(mem::replace(&mut self.bytes, bytes));

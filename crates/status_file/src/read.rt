@@ -1,5 +1,13 @@
 //! The lines of a file, read.
 
+ghost use Rattle.std.specs.Prelude.{◌≡◌, Some, None, IfErr, IfOk, IfSome, codes};
+ghost use Rattle.json_kinds.specs.Json.{json_in};
+ghost use Rattle.serde_json.specs.View.{view};
+ghost use Rattle.status_file.specs.Reads.{IsReading, NullOr, object_of, value_at};
+ghost use Rattle.status_file.specs.Readings.{ChildAt, DemandAt, DisabledAt, EndAt, FactsAt, HasRun, JobAt, JournalAt, LaterCount, LaterReading, LaterText, LauncherAt, NoteAt, OrderAt, PathsAt, ReadingIf, ReasonsAt, RefusedAt, WantsAt};
+ghost use Rattle.status_file.specs.Tokens.{order_text};
+ghost use Rattle.status_file.specs.declared.read.StatusFault.TheVariants.{NotJson};
+
 use crate::facts::JobFacts;
 use crate::fields::Fields;
 use crate::names::{DEMANDS, demand_name, disabled_name, order_name};
@@ -33,7 +41,10 @@ pub struct StatusLine {
 }
 
 /// The line, without its newline. NotJson if it is not a JSON text; NoMemory.
-pub fn read_line(alloc: Global, line: &[u8]) -> Result<StatusLine, StatusFault> {
+pub fn read_line(alloc: Global, line: &[u8]) -> Result<StatusLine, StatusFault>
+    ensures value { IfOk result (λ read. json_in line.now ≡ Some (view read.value)) }
+    ensures not_json { IfErr result (λ fault. fault ≡ NotJson → json_in line.now ≡ None) }
+{
     match json_value(alloc, line) {
         Ok(Some(value)) => Ok(StatusLine { value }),
         Ok(None) => Err(StatusFault::NotJson),
@@ -42,14 +53,11 @@ pub fn read_line(alloc: Global, line: &[u8]) -> Result<StatusLine, StatusFault> 
 }
 
 impl StatusLine {
-    /// Whether it is the launcher's, which is the first line of a file. The others are those of jobs.
-    pub fn is_launcher(&self) -> bool {
-        let fields = Fields::of(&self.value);
-        fields.has("launcher")
-    }
-
     /// What a line says of the launcher. Missing and Wrong, with the key of the first fault.
-    pub fn launcher(&self) -> Result<LauncherStatus<'_>, StatusFault> {
+    pub fn launcher(&self) -> Result<LauncherStatus<'_>, StatusFault>
+        ensures { IfOk result (λ launcher.
+            LauncherAt (value_at (codes "launcher") (Some (view self.now.value))) launcher) }
+    {
         let mut line = Fields::of(&self.value);
         let mut fields = line.inside("launcher");
         let launcher = LauncherStatus {
@@ -60,7 +68,8 @@ impl StatusLine {
             at: reading_in(&mut fields, "at"),
             journal: journal_in(&mut fields),
             store: fields.text_if("store"),
-            renewed_each: renewed_in(&mut fields),
+            renewed_each: later_count(&mut fields, "renewed_each"),
+            failed_calls: later_count(&mut fields, "failed_calls"),
             jobs: fields.count("jobs"),
         };
         match fields.fault {
@@ -70,7 +79,10 @@ impl StatusLine {
     }
 
     /// What a line says of a job. Missing and Wrong, with the key of the first fault.
-    pub fn job(&self) -> Result<JobStatus<'_>, StatusFault> {
+    pub fn job(&self) -> Result<JobStatus<'_>, StatusFault>
+        ensures { IfOk result (λ job.
+            JobAt (value_at (codes "job") (Some (view self.now.value))) job) }
+    {
         let mut line = Fields::of(&self.value);
         let mut fields = line.inside("job");
         let job = JobStatus {
@@ -117,7 +129,11 @@ fn entries_in(alloc: Global, list: &[Value]) -> Result<Vec<Entry>, StatusFault> 
     Ok(entries)
 }
 
-fn journal_in<'a>(fields: &mut Fields<'a>) -> JournalStatus<'a> {
+fn journal_in<'a>(fields: &mut Fields<'a>) -> JournalStatus<'a>
+    ensures object { fields.new.object ≡ fields.old.object }
+    ensures kept { fields.new.fault ≡ None → fields.old.fault ≡ None }
+    ensures value { fields.new.fault ≡ None → JournalAt (object_of fields.old) result }
+{
     let word = fields.text("journal");
     let reason = fields.text_if("journal_reason");
     if word == "open" {
@@ -159,7 +175,11 @@ fn part_in(part: &Value) -> Option<Option<u8>> {
     }
 }
 
-fn disabled_in(fields: &mut Fields<'_>) -> Option<DisabledBy> {
+fn disabled_in(fields: &mut Fields<'_>) -> Option<DisabledBy>
+    ensures object { fields.new.object ≡ fields.old.object }
+    ensures kept { fields.new.fault ≡ None → fields.old.fault ≡ None }
+    ensures value { fields.new.fault ≡ None → DisabledAt (object_of fields.old) result }
+{
     let word = fields.text_if("disabled")?;
     for by in [DisabledBy::Definition, DisabledBy::Override] {
         if word == disabled_name(by) {
@@ -171,21 +191,33 @@ fn disabled_in(fields: &mut Fields<'_>) -> Option<DisabledBy> {
 }
 
 // The clock reading under the key; both clocks are 0 after a fault.
-fn reading_in(fields: &mut Fields<'_>, key: &'static str) -> Reading {
+fn reading_in(fields: &mut Fields<'_>, key: &'static str) -> Reading
+    ensures object { fields.new.object ≡ fields.old.object }
+    ensures kept { fields.new.fault ≡ None → fields.old.fault ≡ None }
+    ensures value { fields.new.fault ≡ None → IsReading (value_at key.now (object_of fields.old)) result }
+{
     let mut inside = fields.inside(key);
     let at = inside.reading();
     fields.with(inside);
     at
 }
 
-fn reading_if(fields: &mut Fields<'_>, key: &'static str) -> Option<Reading> {
+fn reading_if(fields: &mut Fields<'_>, key: &'static str) -> Option<Reading>
+    ensures object { fields.new.object ≡ fields.old.object }
+    ensures kept { fields.new.fault ≡ None → fields.old.fault ≡ None }
+    ensures value { fields.new.fault ≡ None → ReadingIf key.now (object_of fields.old) result }
+{
     let mut inside = fields.inside_if(key)?;
     let at = inside.reading();
     fields.with(inside);
     Some(at)
 }
 
-fn note_in<'a>(fields: &mut Fields<'a>) -> JobNote<'a> {
+fn note_in<'a>(fields: &mut Fields<'a>) -> JobNote<'a>
+    ensures object { fields.new.object ≡ fields.old.object }
+    ensures kept { fields.new.fault ≡ None → fields.old.fault ≡ None }
+    ensures value { fields.new.fault ≡ None → NoteAt (object_of fields.old) result }
+{
     JobNote {
         since: reading_in(fields, "since"),
         run: fields.count("run"),
@@ -203,17 +235,25 @@ fn note_in<'a>(fields: &mut Fields<'a>) -> JobNote<'a> {
     }
 }
 
-// A launcher of version 0.3.0 does not write it.
-fn renewed_in(fields: &mut Fields<'_>) -> Option<u64> {
-    if fields.has("renewed_each") {
-        fields.count_if("renewed_each")
+// The number, or null, under a key that a launcher of version 0.3.0 does not write.
+fn later_count(fields: &mut Fields<'_>, key: &'static str) -> Option<u64>
+    ensures object { fields.new.object ≡ fields.old.object }
+    ensures kept { fields.new.fault ≡ None → fields.old.fault ≡ None }
+    ensures value { fields.new.fault ≡ None → LaterCount key.now (object_of fields.old) result }
+{
+    if fields.has(key) {
+        fields.count_if(key)
     } else {
         None
     }
 }
 
-// Nor this.
-fn definition_in<'a>(fields: &mut Fields<'a>) -> Option<&'a str> {
+// Such a launcher does not write this.
+fn definition_in<'a>(fields: &mut Fields<'a>) -> Option<&'a str>
+    ensures object { fields.new.object ≡ fields.old.object }
+    ensures kept { fields.new.fault ≡ None → fields.old.fault ≡ None }
+    ensures value { fields.new.fault ≡ None → LaterText (codes "definition") (object_of fields.old) result }
+{
     if fields.has("definition") {
         fields.text_if("definition")
     } else {
@@ -222,7 +262,11 @@ fn definition_in<'a>(fields: &mut Fields<'a>) -> Option<&'a str> {
 }
 
 // Nor this.
-fn succeeded_in(fields: &mut Fields<'_>) -> Option<Reading> {
+fn succeeded_in(fields: &mut Fields<'_>) -> Option<Reading>
+    ensures object { fields.new.object ≡ fields.old.object }
+    ensures kept { fields.new.fault ≡ None → fields.old.fault ≡ None }
+    ensures value { fields.new.fault ≡ None → LaterReading (codes "succeeded") (object_of fields.old) result }
+{
     if fields.has("succeeded") {
         reading_if(fields, "succeeded")
     } else {
@@ -231,7 +275,11 @@ fn succeeded_in(fields: &mut Fields<'_>) -> Option<Reading> {
 }
 
 // Nor since when a label is disabled.
-fn disabled_at_in(fields: &mut Fields<'_>) -> Option<Reading> {
+fn disabled_at_in(fields: &mut Fields<'_>) -> Option<Reading>
+    ensures object { fields.new.object ≡ fields.old.object }
+    ensures kept { fields.new.fault ≡ None → fields.old.fault ≡ None }
+    ensures value { fields.new.fault ≡ None → LaterReading (codes "disabled_at") (object_of fields.old) result }
+{
     if fields.has("disabled_at") {
         reading_if(fields, "disabled_at")
     } else {
@@ -240,7 +288,11 @@ fn disabled_at_in(fields: &mut Fields<'_>) -> Option<Reading> {
 }
 
 // Nor where the errors of a job go.
-fn errors_in<'a>(keys: &mut Fields<'a>) -> Option<&'a str> {
+fn errors_in<'a>(keys: &mut Fields<'a>) -> Option<&'a str>
+    ensures object { keys.new.object ≡ keys.old.object }
+    ensures kept { keys.new.fault ≡ None → keys.old.fault ≡ None }
+    ensures value { keys.new.fault ≡ None → LaterText (codes "errors") (object_of keys.old) result }
+{
     if keys.has("errors") {
         keys.text_if("errors")
     } else {
@@ -248,7 +300,11 @@ fn errors_in<'a>(keys: &mut Fields<'a>) -> Option<&'a str> {
     }
 }
 
-fn end_in(fields: &mut Fields<'_>) -> Option<RunEnd> {
+fn end_in(fields: &mut Fields<'_>) -> Option<RunEnd>
+    ensures object { fields.new.object ≡ fields.old.object }
+    ensures kept { fields.new.fault ≡ None → fields.old.fault ≡ None }
+    ensures value { fields.new.fault ≡ None → NullOr EndAt (value_at (codes "last_end") (object_of fields.old)) result }
+{
     let mut end = fields.inside_if("last_end")?;
     let is_code = end.has("code");
     let kind = if is_code { "code" } else { "signal" };
@@ -274,7 +330,11 @@ fn end_in(fields: &mut Fields<'_>) -> Option<RunEnd> {
     Some(told)
 }
 
-fn refused_in<'a>(fields: &mut Fields<'a>) -> Option<RefusedStart<'a>> {
+fn refused_in<'a>(fields: &mut Fields<'a>) -> Option<RefusedStart<'a>>
+    ensures object { fields.new.object ≡ fields.old.object }
+    ensures kept { fields.new.fault ≡ None → fields.old.fault ≡ None }
+    ensures value { fields.new.fault ≡ None → NullOr RefusedAt (value_at (codes "refused") (object_of fields.old)) result }
+{
     let mut start = fields.inside_if("refused")?;
     let told = RefusedStart {
         run: start.count("run"),
@@ -285,20 +345,22 @@ fn refused_in<'a>(fields: &mut Fields<'a>) -> Option<RefusedStart<'a>> {
     Some(told)
 }
 
-fn paths_in<'a>(fields: &mut Fields<'a>, count: &'static str, first: &'static str) -> KeyPaths<'a> {
+fn paths_in<'a>(fields: &mut Fields<'a>, count: &'static str, first: &'static str) -> KeyPaths<'a>
+    ensures object { fields.new.object ≡ fields.old.object }
+    ensures kept { fields.new.fault ≡ None → fields.old.fault ≡ None }
+    ensures value { fields.new.fault ≡ None → PathsAt count.now first.now (object_of fields.old) result }
+{
     KeyPaths {
         count: fields.count(count),
         first: fields.text_if(first),
     }
 }
 
-fn keys_in<'a>(fields: &mut Fields<'a>) -> JobKeys<'a> {
+fn keys_in<'a>(fields: &mut Fields<'a>) -> JobKeys<'a>
+    ensures object { fields.new.object ≡ fields.old.object }
+    ensures kept { fields.new.fault ≡ None → fields.old.fault ≡ None }
+{
     let mut keys = fields.inside("keys");
-    let interval = keys.count_if("start_interval");
-    let start_interval = match interval {
-        Some(seconds) => u32::try_from(seconds).ok(),
-        None => None,
-    };
     let told = JobKeys {
         run_at_load: keys.flag("run_at_load"),
         successful_exit: keys.flag_if("successful_exit"),
@@ -306,7 +368,7 @@ fn keys_in<'a>(fields: &mut Fields<'a>) -> JobKeys<'a> {
         path_state: paths_in(&mut keys, "path_state", "first_condition"),
         first_exists: keys.flag_if("first_exists"),
         path_exists: keys.flag_if("path_exists"),
-        start_interval,
+        start_interval: keys.short_if("start_interval"),
         throttle_interval: keys.short("throttle_interval"),
         exit_time_out: keys.short("exit_time_out"),
         watch_paths: paths_in(&mut keys, "watch_paths", "first_watched"),
@@ -315,14 +377,15 @@ fn keys_in<'a>(fields: &mut Fields<'a>) -> JobKeys<'a> {
         knows_errors: keys.has("errors"),
         errors: errors_in(&mut keys),
     };
-    if interval.is_some() && start_interval.is_none() {
-        keys.refuse("start_interval");
-    }
     fields.with(keys);
     told
 }
 
-fn facts_in<'a>(fields: &mut Fields<'a>) -> JobFacts<'a> {
+fn facts_in<'a>(fields: &mut Fields<'a>) -> JobFacts<'a>
+    ensures object { fields.new.object ≡ fields.old.object }
+    ensures kept { fields.new.fault ≡ None → fields.old.fault ≡ None }
+    ensures value { fields.new.fault ≡ None → FactsAt (object_of fields.old) result }
+{
     let reasons = reasons_in(fields);
     let mut moments = fields.inside("moments");
     let told = Moments {
@@ -341,7 +404,11 @@ fn facts_in<'a>(fields: &mut Fields<'a>) -> JobFacts<'a> {
     }
 }
 
-fn demand_in(fields: &mut Fields<'_>) -> Option<DemandKind> {
+fn demand_in(fields: &mut Fields<'_>) -> Option<DemandKind>
+    ensures object { fields.new.object ≡ fields.old.object }
+    ensures kept { fields.new.fault ≡ None → fields.old.fault ≡ None }
+    ensures value { fields.new.fault ≡ None → DemandAt (object_of fields.old) result }
+{
     let word = fields.text_if("demand")?;
     for kind in DEMANDS {
         if word == demand_name(kind) {
@@ -352,7 +419,11 @@ fn demand_in(fields: &mut Fields<'_>) -> Option<DemandKind> {
     None
 }
 
-fn reasons_in(fields: &mut Fields<'_>) -> Reasons {
+fn reasons_in(fields: &mut Fields<'_>) -> Reasons
+    ensures object { fields.new.object ≡ fields.old.object }
+    ensures kept { fields.new.fault ≡ None → fields.old.fault ≡ None }
+    ensures value { fields.new.fault ≡ None → ReasonsAt (value_at (codes "reasons") (object_of fields.old)) result }
+{
     let mut reasons = fields.inside("reasons");
     let child = child_in(&mut reasons);
     let awaited = awaited_in(&mut reasons);
@@ -370,7 +441,11 @@ fn reasons_in(fields: &mut Fields<'_>) -> Reasons {
     told
 }
 
-fn child_in(reasons: &mut Fields<'_>) -> Option<StandingChild> {
+fn child_in(reasons: &mut Fields<'_>) -> Option<StandingChild>
+    ensures object { reasons.new.object ≡ reasons.old.object }
+    ensures kept { reasons.new.fault ≡ None → reasons.old.fault ≡ None }
+    ensures value { reasons.new.fault ≡ None → NullOr ChildAt (value_at (codes "child") (object_of reasons.old)) result }
+{
     let mut child = reasons.inside_if("child")?;
     let told = StandingChild {
         run: child.count("run"),
@@ -382,24 +457,16 @@ fn child_in(reasons: &mut Fields<'_>) -> Option<StandingChild> {
     Some(told)
 }
 
-fn awaited_in(reasons: &mut Fields<'_>) -> Option<Act> {
+fn awaited_in(reasons: &mut Fields<'_>) -> Option<Act>
+    ensures object { reasons.new.object ≡ reasons.old.object }
+    ensures kept { reasons.new.fault ≡ None → reasons.old.fault ≡ None }
+    ensures value { reasons.new.fault ≡ None → NullOr OrderAt (value_at (codes "awaited") (object_of reasons.old)) result }
+{
     let mut order = reasons.inside_if("awaited")?;
     let run = order.count_if("run").unwrap_or(0);
     let conn = order.count_if("conn");
     let word = order.text("order");
-    let closed = conn.unwrap_or(0);
-    let mut told = None;
-    for act in [
-        Act::Spawn { run, conn },
-        Act::Term { run },
-        Act::Kill { run },
-        Act::Close { conn: closed },
-        Act::Gone,
-    ] {
-        if word == order_name(act) {
-            told = Some(act);
-        }
-    }
+    let told = act_named(word, run, conn);
     if told.is_none() {
         order.refuse("order");
     }
@@ -407,7 +474,41 @@ fn awaited_in(reasons: &mut Fields<'_>) -> Option<Act> {
     told
 }
 
-fn wants_in(reasons: &mut Fields<'_>) -> Wants {
+// The order of this name.
+fn act_named(word: &str, run: u64, conn: Option<u64>) -> Option<Act>
+    ensures named { IfSome result (λ act. word.now ≡ order_text act) }
+    ensures with { IfSome result (λ act. HasRun run conn act) }
+{
+    let spawn = Act::Spawn { run, conn };
+    if word == order_name(spawn) {
+        return Some(spawn);
+    }
+    let term = Act::Term { run };
+    if word == order_name(term) {
+        return Some(term);
+    }
+    let kill = Act::Kill { run };
+    if word == order_name(kill) {
+        return Some(kill);
+    }
+    let close = Act::Close {
+        conn: conn.unwrap_or(0),
+    };
+    if word == order_name(close) {
+        return Some(close);
+    }
+    if word == order_name(Act::Gone) {
+        Some(Act::Gone)
+    } else {
+        None
+    }
+}
+
+fn wants_in(reasons: &mut Fields<'_>) -> Wants
+    ensures object { reasons.new.object ≡ reasons.old.object }
+    ensures kept { reasons.new.fault ≡ None → reasons.old.fault ≡ None }
+    ensures value { reasons.new.fault ≡ None → WantsAt (value_at (codes "wants") (object_of reasons.old)) result }
+{
     let mut wants = reasons.inside("wants");
     let told = Wants {
         demand: wants.flag("demand"),

@@ -38,6 +38,9 @@ pub struct LauncherStatus<'a> {
     /// How many seconds pass at most until the launcher renews the file's modification time. None also if a launcher of version 0.3.0 wrote the file:
     /// it renews it only if something happens.
     pub renewed_each: Option<u64>,
+    /// How many calls for its jobs the system refused since the launcher began: starts, signals, questions about exits, binds and path checks, and
+    /// clock readings. None also if a launcher of version 0.3.0 wrote the file.
+    pub failed_calls: Option<u64>,
     /// How many jobs are loaded, and so how many lines follow this one.
     pub jobs: u64,
 }

@@ -4,11 +4,11 @@ ghost use Rattle.std.specs.Prelude.{◌≡◌, ◌++◌, ◌∷◌, [], decimal}
 ghost use Rattle.json.specs.Token.{number};
 ghost use Rattle.std.specs.List.{flat_map};
 ghost use Rattle.status_file.specs.Lines.{Adds, Puts};
-ghost use Rattle.status_file.specs.Tokens.{awaited_tokens, calendar_tokens, child_pid, child_tokens, conditions_tokens, count_token, counts_tokens, demand_token, disabled_token, loaded_tokens, end_front_tokens, end_key, end_number, end_tokens, entry_tokens, front_tokens, held_tokens, job_tokens, keys_tokens, limits_tokens, moment_tokens, moments_tokens, name_tokens, note_tokens, order_conn, order_run, others_tokens, reasons_tokens, refused_tokens, run_end_tokens, start_front_tokens, start_tokens, times_tokens, token_in, wanted_tokens, wants_tokens};
+ghost use Rattle.status_file.specs.Tokens.{awaited_tokens, calendar_tokens, child_pid, child_tokens, conditions_tokens, count_token, counts_tokens, demand_token, disabled_token, loaded_tokens, end_front_tokens, end_key, end_number, end_tokens, entry_tokens, front_tokens, held_tokens, job_tokens, journal_tokens, keys_tokens, launcher_tokens, limits_tokens, moment_tokens, moments_tokens, name_tokens, note_tokens, order_conn, order_run, others_tokens, process_tokens, reasons_tokens, refused_tokens, run_end_tokens, start_front_tokens, start_tokens, tallies_tokens, times_tokens, token_in, wanted_tokens, wants_tokens};
 
 use crate::facts::JobFacts;
 use crate::line::Piece::{Close, CloseList, Count, Flag, Key, Null, Open, OpenList, Text};
-use crate::line::{Line, Piece, StatusText, count_piece, flag_piece, text_piece};
+use crate::line::{LineWriter, Piece, StatusText, count_piece, flag_piece, text_piece};
 use crate::names::{demand_name, disabled_name, order_name, state_name};
 use crate::status::{
     DisabledBy, JobKeys, JobNote, JobStatus, JournalStatus, LauncherStatus, RefusedStart, RunEnd,
@@ -21,13 +21,20 @@ use job_table::Moments;
 use std::alloc::Global;
 
 /// Adds the launcher's line, which is the first of a file.
-pub fn add_launcher(text: &mut StatusText, alloc: Global, launcher: &LauncherStatus<'_>) {
-    let (journal, reason) = match launcher.journal {
-        JournalStatus::None => ("none", None),
-        JournalStatus::Open => ("open", None),
-        JournalStatus::Closed(reason) => ("closed", Some(reason)),
-    };
+pub fn add_launcher(text: &mut StatusText, alloc: Global, launcher: &LauncherStatus<'_>)
+    ensures { Adds (launcher_tokens launcher.now) text.old text.new }
+{
     let mut line = text.begin(alloc);
+    put_process(&mut line, *launcher);
+    put_moment(&mut line, "at", Some(launcher.at));
+    put_journal(&mut line, launcher.journal);
+    put_tallies(&mut line, *launcher);
+    text.end(line);
+}
+
+fn put_process(line: &mut LineWriter, launcher: LauncherStatus<'_>)
+    ensures { Puts (process_tokens launcher.entry) line.old line.new }
+{
     line.put(&[
         Open,
         Key("launcher"),
@@ -35,28 +42,55 @@ pub fn add_launcher(text: &mut StatusText, alloc: Global, launcher: &LauncherSta
         Key("version"),
         Text(launcher.version),
         Key("pid"),
-        Count(launcher.pid as u64),
+        wide_piece(launcher.pid),
         Key("began"),
         Count(launcher.began),
         Key("header"),
         Text(launcher.header),
     ]);
-    put_moment(&mut line, "at", Some(launcher.at));
+}
+
+fn put_journal(line: &mut LineWriter, journal: JournalStatus<'_>)
+    ensures { Puts (journal_tokens journal.entry) line.old line.new }
+{
+    match journal {
+        JournalStatus::None => line.put(&[
+            Key("journal"),
+            Text("none"),
+            Key("journal_reason"),
+            Null,
+        ]),
+        JournalStatus::Open => line.put(&[
+            Key("journal"),
+            Text("open"),
+            Key("journal_reason"),
+            Null,
+        ]),
+        JournalStatus::Closed(reason) => line.put(&[
+            Key("journal"),
+            Text("closed"),
+            Key("journal_reason"),
+            Text(reason),
+        ]),
+    }
+}
+
+// What the store refused last, and the counts.
+fn put_tallies(line: &mut LineWriter, launcher: LauncherStatus<'_>)
+    ensures { Puts (tallies_tokens launcher.entry) line.old line.new }
+{
     line.put(&[
-        Key("journal"),
-        Text(journal),
-        Key("journal_reason"),
-        text_piece(reason),
         Key("store"),
         text_piece(launcher.store),
         Key("renewed_each"),
         count_piece(launcher.renewed_each),
+        Key("failed_calls"),
+        count_piece(launcher.failed_calls),
         Key("jobs"),
         Count(launcher.jobs),
         Close,
         Close,
     ]);
-    text.end(line);
 }
 
 /// Adds the line of a job, with the entries of its calendar.
@@ -91,7 +125,7 @@ fn disabled_piece(by: Option<DisabledBy>) -> Piece<'static>
     }
 }
 
-fn put_front(line: &mut Line, job: &JobStatus<'_>)
+fn put_front(line: &mut LineWriter, job: &JobStatus<'_>)
     ensures { Puts (front_tokens job.now) line.old line.new }
 {
     put_name(line, job.label, state_of(&job.facts.reasons));
@@ -107,7 +141,7 @@ fn put_front(line: &mut Line, job: &JobStatus<'_>)
     put_loaded(line, job.disabled, job.note.definition);
 }
 
-fn put_name(line: &mut Line, label: &str, state: JobState)
+fn put_name(line: &mut LineWriter, label: &str, state: JobState)
     ensures { Puts (name_tokens label.now state) line.old line.new }
 {
     line.put(&[
@@ -122,7 +156,7 @@ fn put_name(line: &mut Line, label: &str, state: JobState)
 }
 
 fn put_counts(
-    line: &mut Line,
+    line: &mut LineWriter,
     pid: Option<u64>,
     run: u64,
     starts: u64,
@@ -149,7 +183,7 @@ fn put_counts(
 }
 
 // By what its label is disabled, and the digest of its definition.
-fn put_loaded(line: &mut Line, by: Option<DisabledBy>, definition: Option<&str>)
+fn put_loaded(line: &mut LineWriter, by: Option<DisabledBy>, definition: Option<&str>)
     ensures { Puts (loaded_tokens by definition.entry) line.old line.new }
 {
     line.put(&[
@@ -171,7 +205,7 @@ fn end_parts(how: Ended) -> (&'static str, u64)
 }
 
 // A clock reading under its key.
-fn put_moment(line: &mut Line, name: &str, at: Option<Reading>)
+fn put_moment(line: &mut LineWriter, name: &str, at: Option<Reading>)
     ensures { Puts (moment_tokens name.now at) line.old line.new }
 {
     match at {
@@ -188,7 +222,7 @@ fn put_moment(line: &mut Line, name: &str, at: Option<Reading>)
     }
 }
 
-fn put_end(line: &mut Line, end: Option<RunEnd>)
+fn put_end(line: &mut LineWriter, end: Option<RunEnd>)
     ensures { Puts (end_tokens end) line.old line.new }
 {
     match end {
@@ -197,7 +231,7 @@ fn put_end(line: &mut Line, end: Option<RunEnd>)
     }
 }
 
-fn put_run_end(line: &mut Line, end: RunEnd)
+fn put_run_end(line: &mut LineWriter, end: RunEnd)
     ensures { Puts (run_end_tokens end) line.old line.new }
 {
     put_end_front(line, end);
@@ -206,7 +240,7 @@ fn put_run_end(line: &mut Line, end: RunEnd)
     line.put(&[Close]);
 }
 
-fn put_end_front(line: &mut Line, end: RunEnd)
+fn put_end_front(line: &mut LineWriter, end: RunEnd)
     ensures { Puts (end_front_tokens end) line.old line.new }
 {
     let (kind, number) = end_parts(end.how);
@@ -220,7 +254,7 @@ fn put_end_front(line: &mut Line, end: RunEnd)
     ]);
 }
 
-fn put_refused(line: &mut Line, refused: Option<RefusedStart<'_>>)
+fn put_refused(line: &mut LineWriter, refused: Option<RefusedStart<'_>>)
     ensures { Puts (refused_tokens refused.entry) line.old line.new }
 {
     match refused {
@@ -229,7 +263,7 @@ fn put_refused(line: &mut Line, refused: Option<RefusedStart<'_>>)
     }
 }
 
-fn put_start(line: &mut Line, start: RefusedStart<'_>)
+fn put_start(line: &mut LineWriter, start: RefusedStart<'_>)
     ensures { Puts (start_tokens start.entry) line.old line.new }
 {
     put_start_front(line, start.run, start.reason);
@@ -237,7 +271,7 @@ fn put_start(line: &mut Line, start: RefusedStart<'_>)
     line.put(&[Close]);
 }
 
-fn put_start_front(line: &mut Line, run: u64, reason: Option<&str>)
+fn put_start_front(line: &mut LineWriter, run: u64, reason: Option<&str>)
     ensures { Puts (start_front_tokens run reason.entry) line.old line.new }
 {
     line.put(&[
@@ -250,7 +284,7 @@ fn put_start_front(line: &mut Line, run: u64, reason: Option<&str>)
     ]);
 }
 
-fn put_note(line: &mut Line, note: &JobNote<'_>)
+fn put_note(line: &mut LineWriter, note: &JobNote<'_>)
     ensures { Puts (note_tokens note.now) line.old line.new }
 {
     put_moment(line, "since", Some(note.since));
@@ -263,7 +297,7 @@ fn put_note(line: &mut Line, note: &JobNote<'_>)
     put_moment(line, "disabled_at", note.disabled_at);
 }
 
-fn put_reasons(line: &mut Line, reasons: &Reasons)
+fn put_reasons(line: &mut LineWriter, reasons: &Reasons)
     ensures { Puts (reasons_tokens reasons.now) line.old line.new }
 {
     put_held(line, *reasons);
@@ -273,7 +307,7 @@ fn put_reasons(line: &mut Line, reasons: &Reasons)
     line.put(&[Close]);
 }
 
-fn put_held(line: &mut Line, reasons: Reasons)
+fn put_held(line: &mut LineWriter, reasons: Reasons)
     ensures { Puts (held_tokens reasons) line.old line.new }
 {
     line.put(&[
@@ -297,7 +331,7 @@ fn wide_piece(count: u32) -> Piece<'static>
     Count(count as u64)
 }
 
-fn put_child(line: &mut Line, child: Option<StandingChild>)
+fn put_child(line: &mut LineWriter, child: Option<StandingChild>)
     ensures { Puts (child_tokens child) line.old line.new }
 {
     match child {
@@ -331,7 +365,7 @@ fn order_parts(order: Act) -> (Option<u64>, Option<u64>)
     }
 }
 
-fn put_awaited(line: &mut Line, awaited: Option<Act>)
+fn put_awaited(line: &mut LineWriter, awaited: Option<Act>)
     ensures { Puts (awaited_tokens awaited) line.old line.new }
 {
     match awaited {
@@ -353,7 +387,7 @@ fn put_awaited(line: &mut Line, awaited: Option<Act>)
     }
 }
 
-fn put_wants(line: &mut Line, wants: Wants)
+fn put_wants(line: &mut LineWriter, wants: Wants)
     ensures { Puts (wants_tokens wants) line.old line.new }
 {
     line.put(&[
@@ -386,14 +420,14 @@ fn demand_piece(demand: Option<DemandKind>) -> Piece<'static>
     }
 }
 
-fn put_moments(line: &mut Line, facts: &JobFacts<'_>)
+fn put_moments(line: &mut LineWriter, facts: &JobFacts<'_>)
     ensures { Puts (moments_tokens facts.now) line.old line.new }
 {
     put_times(line, facts.moments, facts.spawns_from);
     put_wanted(line, facts.demand, facts.path);
 }
 
-fn put_times(line: &mut Line, moments: Moments, spawn: Option<u64>)
+fn put_times(line: &mut LineWriter, moments: Moments, spawn: Option<u64>)
     ensures { Puts (times_tokens moments spawn) line.old line.new }
 {
     line.put(&[
@@ -411,7 +445,7 @@ fn put_times(line: &mut Line, moments: Moments, spawn: Option<u64>)
     ]);
 }
 
-fn put_wanted(line: &mut Line, demand: Option<DemandKind>, path: Option<&str>)
+fn put_wanted(line: &mut LineWriter, demand: Option<DemandKind>, path: Option<&str>)
     ensures { Puts (wanted_tokens demand path.entry) line.old line.new }
 {
     line.put(&[
@@ -422,7 +456,7 @@ fn put_wanted(line: &mut Line, demand: Option<DemandKind>, path: Option<&str>)
     ]);
 }
 
-fn put_keys(line: &mut Line, keys: JobKeys<'_>)
+fn put_keys(line: &mut LineWriter, keys: JobKeys<'_>)
     ensures { Puts (keys_tokens keys.entry) line.old line.new }
 {
     put_conditions(line, keys);
@@ -430,7 +464,7 @@ fn put_keys(line: &mut Line, keys: JobKeys<'_>)
     put_others(line, keys);
 }
 
-fn put_conditions(line: &mut Line, keys: JobKeys<'_>)
+fn put_conditions(line: &mut LineWriter, keys: JobKeys<'_>)
     ensures { Puts (conditions_tokens keys.entry) line.old line.new }
 {
     line.put(&[
@@ -462,7 +496,7 @@ fn wide_piece_if(count: Option<u32>) -> Piece<'static>
     }
 }
 
-fn put_limits(line: &mut Line, keys: JobKeys<'_>)
+fn put_limits(line: &mut LineWriter, keys: JobKeys<'_>)
     ensures { Puts (limits_tokens keys.entry) line.old line.new }
 {
     line.put(&[
@@ -475,7 +509,7 @@ fn put_limits(line: &mut Line, keys: JobKeys<'_>)
     ]);
 }
 
-fn put_others(line: &mut Line, keys: JobKeys<'_>)
+fn put_others(line: &mut LineWriter, keys: JobKeys<'_>)
     ensures { Puts (others_tokens keys.entry) line.old line.new }
 {
     line.put(&[
@@ -504,7 +538,7 @@ fn short_piece(count: Option<u8>) -> Piece<'static>
     }
 }
 
-fn put_calendar(line: &mut Line, calendar: &[Entry])
+fn put_calendar(line: &mut LineWriter, calendar: &[Entry])
     ensures { Puts (calendar_tokens calendar.now) line.old line.new }
 {
     line.put(&[Key("calendar"), OpenList]);
@@ -512,7 +546,7 @@ fn put_calendar(line: &mut Line, calendar: &[Entry])
     line.put(&[CloseList, Close, Close]);
 }
 
-fn put_entries(line: &mut Line, calendar: &[Entry])
+fn put_entries(line: &mut LineWriter, calendar: &[Entry])
     ensures { Puts (flat_map entry_tokens calendar.now) line.old line.new }
 {
     for entry in calendar {
@@ -520,7 +554,7 @@ fn put_entries(line: &mut Line, calendar: &[Entry])
     }
 }
 
-fn put_entry(line: &mut Line, entry: Entry)
+fn put_entry(line: &mut LineWriter, entry: Entry)
     ensures { Puts (entry_tokens entry) line.old line.new }
 {
     line.put(&[

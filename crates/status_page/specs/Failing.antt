@@ -1,13 +1,22 @@
 -- Which jobs are reported as failing.
-use Rattle.std.specs.Prelude.{◌≡◌, ℕ, Bool, true, false, ◌||◌, ◌&&◌, not, nat_lt, Option, Some, None, is_some}
+use Rattle.std.specs.Option.{option_map}
+use Rattle.std.specs.Prelude.{◌≡◌, ◌==◌, ℕ, Bool, true, false, ◌||◌, ◌&&◌, not, nat_lt, Option, Some, None, is_some}
 use Rattle.history_model.specs.declared.Ended.{Ended}
 use Rattle.history_model.specs.declared.Ended.TheVariants as ends
 use Rattle.history_model.specs.declared.reasons.Reasons.{Reasons}
 use Rattle.history_model.specs.Levels.{is_crash_end}
 use Rattle.history_model.specs.Reasons.{some_want}
+use Rattle.status_file.specs.declared.status.JobNote.{JobNote}
 use Rattle.status_page.specs.declared.failing.Fault.{Fault}
 use Rattle.status_page.specs.declared.failing.Fault.TheVariants as faults
 use Rattle.status_page.specs.declared.failing.LastEnd.{LastEnd}
+
+-- How the last run of a job ended, by what its launcher knows of it. The end counts as ordered if a later start followed
+-- it, or if TERM or KILL was ordered.
+abbrev pub last_end_in : JobNote → Option LastEnd
+last_end_in note =
+    option_map (λ end. record { how = end.how; is_ordered = not (end.run == note.run) || is_some note.term || is_some note.kill })
+    note.last_end
 
 -- a run ended badly: with a code above 0, by a crash, or by a signal if its end was not ordered
 abbrev pub ends_badly : Bool → Ended → Bool

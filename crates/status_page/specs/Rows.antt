@@ -11,7 +11,7 @@ use Rattle.history_model.specs.Items.{History}
 use Rattle.history_model.specs.Search.{is_same_text}
 use Rattle.history_model.specs.NextRun.{looked_ahead}
 use Rattle.history_model.specs.Texts.{state_text}
-use Rattle.run_times.specs.declared.ink.Ink.{Ink}
+use Rattle.run_times.specs.declared.writer.TextWriter.{TextWriter}
 use Rattle.run_times.specs.Told.{IsTold}
 use Rattle.run_times.specs.Written.{Adds}
 use Rattle.status_file.specs.declared.facts.JobFacts.{JobFacts}
@@ -25,7 +25,7 @@ use Rattle.status_page.specs.declared.clocks.StartWhen.TheVariants as starts
 use Rattle.status_page.specs.declared.clocks.TheConstants.{FARTHEST}
 use Rattle.status_page.specs.declared.rows.Next.{Next}
 use Rattle.status_page.specs.declared.rows.Next.TheVariants.{Nothing, Clock, Event}
-use Rattle.status_page.specs.declared.rows.Row.{Row}
+use Rattle.status_page.specs.declared.rows.StatusRow.{StatusRow}
 use Rattle.status_page.specs.declared.rows.ShownState.{ShownState}
 use Rattle.status_page.specs.declared.rows.ShownState.TheVariants.{Is, Unknown}
 use Rattle.status_page.specs.declared.throttles.ThrottleEnd.{ThrottleEnd}
@@ -87,12 +87,12 @@ state_word (Is state) = state_text state
 state_word Unknown = codes "unknown"
 
 -- a line for each of the rows, in order: something of its label, the name of its state, and more
-abbrev pub AreRows : List Row → List ℕ → Type 0
+abbrev pub AreRows : List StatusRow → List ℕ → Type 0
 AreRows [] text = text ≡ []
 AreRows (row ∷ rows) text =
     (front : List ℕ) × (more : List ℕ) × (others : List ℕ) × AreRows rows others
     × (text ≡ front ++ (state_word row.state ++ (more ++ 10 ∷ others)))
 
 -- they follow what was written before
-abbrev pub TellsRows : List Row → Ink → Ink → Type 0
+abbrev pub TellsRows : List StatusRow → TextWriter → TextWriter → Type 0
 TellsRows rows old new = (text : List ℕ) × AreRows rows text × Adds text old new

@@ -1,4 +1,4 @@
--- What a monitor is told of a job.
+-- What a monitor reads of a job.
 use Rattle.std.specs.Prelude.{ℕ, Bool, true, false, Option, Some, None, ◌+◌}
 use Rattle.std.specs.Option.{option_map}
 use Rattle.job_metrics.specs.declared.JobSample.{JobSample}
@@ -37,7 +37,7 @@ journal_flag (journals.Closed reason) = Some false
 abbrev pub end_second : Option RunEnd → Option ℕ
 end_second end = option_map (λ it. it.ended.wall) end
 
--- the second at which a run last ended with code 0
+-- the second at which a run last exited with code 0
 abbrev pub success_second : Option Reading → Option ℕ
 success_second at = option_map (λ it. it.wall) at
 
@@ -50,7 +50,7 @@ end_number (ends.Signal signal) = 128 + signal
 abbrev pub exit_told : Option RunEnd → Option ℕ
 exit_told end = option_map (λ it. end_number it.how) end
 
--- the second that is told for the next start by the clocks alone, also for one that has been due since
+-- the second that is printed for the next scheduled start, also for one that is overdue
 abbrev pub next_told : Option ThrottleEnd → Next → Option ℕ
 next_told throttle Nothing = None
 next_told throttle (Clock Never) = None

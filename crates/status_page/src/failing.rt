@@ -3,7 +3,7 @@
 
 ghost use Rattle.std.specs.Prelude.{◌≡◌, is_some, IfSome};
 ghost use Rattle.history_model.specs.Levels.{is_crash_end};
-ghost use Rattle.status_page.specs.Failing.{ended_badly, is_failing, FaultHolds};
+ghost use Rattle.status_page.specs.Failing.{ended_badly, is_failing, last_end_in, FaultHolds};
 
 use crate::clocks::is_wanted;
 use history_model::{Ended, Reading, Reasons};
@@ -88,8 +88,11 @@ pub fn fault_of(
     }
 }
 
-/// How the last run of a job ended, by what its launcher knows of it.
-pub fn last_end_of(note: &JobNote<'_>) -> Option<LastEnd> {
+/// How the last run of a job ended, by what its launcher knows of it. The end counts as ordered if a later start followed it, or if TERM or
+/// KILL was ordered. None if no run of it ended.
+pub fn last_end_of(note: &JobNote<'_>) -> Option<LastEnd>
+    ensures { result ≡ last_end_in note.now }
+{
     let end = note.last_end?;
     let is_present = end.run == note.run;
     Some(LastEnd {

@@ -1,6 +1,6 @@
 //! Who the launcher of a status file is, whether it is running, and how old the file is.
 
-use crate::standing::Standing;
+use crate::standing::StatusRead;
 use history_model::SECOND;
 use launcher_life::Life;
 use run_times::Filling::{Moment, Number, Text, Time};
@@ -8,17 +8,17 @@ use run_times::Page;
 use status_file::{JournalStatus, LauncherStatus};
 
 /// Adds the report on the launcher at a second: as of when the file is, how old it is, whether its process is running, and what it could not write.
-pub fn add_head(page: &mut Page<'_>, standing: &Standing, second: u64) {
+pub fn add_head(page: &mut Page<'_>, standing: &StatusRead, second: u64) {
     let Some(launcher) = standing.launcher() else {
         return;
     };
     page.add("As of $, ", &[Moment(launcher.at.wall)]);
     if second < launcher.at.wall {
-        page.ink.put("which is later than the clock shows now. ");
+        page.writer.put("which is later than the clock shows now. ");
     } else {
         let age = (second - launcher.at.wall).saturating_mul(SECOND);
-        page.ink.put_span(age, false);
-        page.ink.put(" ago. ");
+        page.writer.put_span(age, false);
+        page.writer.put(" ago. ");
     }
     let (form, seconds) = match standing.seen.life {
         Life::Runs => (

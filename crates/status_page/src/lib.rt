@@ -29,9 +29,11 @@ pub use failing::{Failing, Fault, LastEnd, add_failing, fault_of, is_crash, last
 pub use head::add_head;
 pub use left_out::{add_left_out, is_told};
 pub use passed::{Down, passed_minute};
-pub use rows::{Next, Row, ShownState, last_refused, row_of};
+pub use rows::{Next, ShownState, StatusRow, last_refused, row_of};
 pub use samples::{journal_flag, sample_of, samples_text, up_flag, with_count};
-pub use standing::{Standing, Trouble, named_path, packages_file, read_standing, tell_trouble};
+pub use standing::{
+    Diagnostic, StatusRead, named_path, packages_file, print_diagnostic, read_standing,
+};
 pub use starts::{ToldStart, start_told};
 pub use table::{Look, is_asked, reading_of, table_text, told_as_of, told_row};
 pub use throttles::{ThrottleBy, ThrottleEnd, second_told, throttle_by, throttle_end};

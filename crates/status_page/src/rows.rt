@@ -33,7 +33,7 @@ pub enum Next {
 
 /// What a line says of a job.
 #[derive(Clone, Copy)]
-pub struct Row<'a> {
+pub struct StatusRow<'a> {
     pub label: &'a str,
     pub state: ShownState,
     pub process: Option<u32>,
@@ -63,7 +63,7 @@ pub fn row_of<'a>(
     may_live: bool,
     at: Reading,
     second: u64,
-) -> Row<'a>
+) -> StatusRow<'a>
     requires up { at.up ≤ MAX_UP }
     requires wall { at.wall ≤ MAX_WALL }
     ensures label { result.label ≡ job.now.label }
@@ -78,7 +78,7 @@ pub fn row_of<'a>(
     ensures throttle { EndsThrottle job.now at result.throttle }
 {
     let reasons = &job.facts.reasons;
-    Row {
+    StatusRow {
         label: job.label,
         state: state_of_row(may_live, reasons),
         process: process_of(may_live, reasons),

@@ -6,8 +6,8 @@ ghost use Rattle.status_page.specs.Samples.{end_second, exit_told, journal_flag,
 
 use crate::clocks::StartWhen;
 use crate::counts::{RunCount, RunCounts};
-use crate::rows::{Next, Row};
-use crate::standing::Standing;
+use crate::rows::{Next, StatusRow};
+use crate::standing::StatusRead;
 use crate::table::{reading_of, row_in, told_row};
 use crate::throttles::{ThrottleEnd, second_told};
 use crate::usage::{Usage, usage_of};
@@ -22,7 +22,7 @@ use std::alloc::{AllocError, Global};
 pub fn samples_text(
     host: &HostRuntime,
     alloc: Global,
-    standing: &Standing,
+    standing: &StatusRead,
     labels: &[Text],
     second: u64,
     counts: Option<&RunCounts>,
@@ -42,6 +42,7 @@ pub fn samples_text(
                     Some(counts) => Some(counts.since),
                     None => None,
                 },
+                failed_calls: launcher.failed_calls,
             };
             metrics(alloc, &sample, samples.as_slice())
         }
@@ -74,7 +75,7 @@ pub fn journal_flag(journal: JournalStatus<'_>) -> Option<bool>
 }
 
 /// The sample of a job, by its row, what was heard of its runs, and whether its label is disabled.
-pub fn sample_of<'a>(row: &Row<'a>, note: &JobNote<'_>, is_disabled: bool) -> JobSample<'a>
+pub fn sample_of<'a>(row: &StatusRow<'a>, note: &JobNote<'_>, is_disabled: bool) -> JobSample<'a>
     ensures label { result.label ≡ row.now.label }
     ensures running { result.is_running ≡ is_some row.now.process }
     ensures starts { result.starts ≡ row.now.starts }
@@ -146,7 +147,7 @@ fn success_second(at: Option<Reading>) -> Option<u64>
     }
 }
 
-// The exit code; of an end by a signal 128 and its number, as a shell tells it.
+// The exit code; for an exit by a signal 128 and its number, as a shell reports it.
 fn exit_told(end: Option<RunEnd>) -> Option<u64>
     ensures { result ≡ exit_told end }
 {
@@ -182,7 +183,7 @@ fn next_told(throttle: Option<ThrottleEnd>, next: Next) -> Option<u64>
 fn samples_of<'a>(
     host: &HostRuntime,
     alloc: Global,
-    standing: &'a Standing,
+    standing: &'a StatusRead,
     labels: &[Text],
     zone: &Zone,
     second: u64,
@@ -213,7 +214,7 @@ fn samples_of<'a>(
 fn sample_in<'a>(
     host: &HostRuntime,
     alloc: Global,
-    standing: &Standing,
+    standing: &StatusRead,
     line: &'a StatusLine,
     labels: &[Text],
     zone: &Zone,

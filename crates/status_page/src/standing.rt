@@ -13,7 +13,7 @@ use files_and_process::path_files::read_file;
 use history_model::Text;
 use launcher_life::{LauncherSeen, StatusFileAsked, file_life, foretells, mark_of, may_live};
 use run_times::telling::{tell_line, tell_of};
-use run_times::{Ink, utc};
+use run_times::{TextWriter, utc};
 use status_file::{LauncherStatus, LineRoom, StatusFault, StatusLine, read_line};
 use std::alloc::{AllocError, Global};
 use std::env::VarError;
@@ -33,7 +33,7 @@ const LONGEST: usize = 16_777_216;
 
 /// A status file that was read, as far as it is asked of.
 #[derive(Drop)]
-pub struct Standing {
+pub struct StatusRead {
     lines: Lines,
     /// What is seen of its launcher.
     pub seen: LauncherSeen,
@@ -53,7 +53,7 @@ struct Lines {
     count: u64,
 }
 
-impl Standing {
+impl StatusRead {
     /// Whether what it says of jobs may hold now.
     pub fn may_live(&self) -> bool {
         may_live(self.seen.life)
@@ -149,7 +149,7 @@ impl Standing {
 
 /// What keeps a status file from being read.
 #[derive(Drop)]
-pub enum Trouble {
+pub enum Diagnostic {
     NoMemory,
     Read(io::Error),
     /// It is longer than one may be.
@@ -192,11 +192,11 @@ pub fn read_standing(
     alloc: Global,
     path: &str,
     asked: &[Text],
-) -> Result<Standing, Trouble> {
+) -> Result<StatusRead, Diagnostic> {
     let bytes = match read_file(host, alloc, path, LONGEST) {
         Ok(Some(bytes)) => bytes,
-        Ok(None) => return Err(Trouble::Long),
-        Err(error) => return Err(Trouble::Read(error)),
+        Ok(None) => return Err(Diagnostic::Long),
+        Err(error) => return Err(Diagnostic::Read(error)),
     };
     let lines = lines_of(alloc, bytes.as_slice(), asked);
     drop(bytes);
@@ -209,27 +209,27 @@ fn standing_of(
     alloc: Global,
     path: &str,
     lines: Lines,
-) -> Result<Standing, Trouble> {
+) -> Result<StatusRead, Diagnostic> {
     let found = match lines.read.first() {
         Some(first) => match first.launcher() {
             Ok(launcher) if launcher.jobs.saturating_add(1) == lines.count => {
                 around_of(host, alloc, path, &launcher)
             }
-            Ok(_) => Err(Trouble::NotWhole),
-            Err(fault) => Err(Trouble::Line(1, fault)),
+            Ok(_) => Err(Diagnostic::NotWhole),
+            Err(fault) => Err(Diagnostic::Line(1, fault)),
         },
-        None => Err(Trouble::NotWhole),
+        None => Err(Diagnostic::NotWhole),
     };
     match found {
-        Ok((seen, boot)) => Ok(Standing {
+        Ok((seen, boot)) => Ok(StatusRead {
             lines,
             seen,
             renewed: mark_of(host, path),
             boot,
         }),
-        Err(trouble) => {
+        Err(diagnostic) => {
             drop(lines);
-            Err(trouble)
+            Err(diagnostic)
         }
     }
 }
@@ -240,7 +240,7 @@ fn around_of(
     alloc: Global,
     path: &str,
     launcher: &LauncherStatus<'_>,
-) -> Result<(LauncherSeen, Boot), Trouble> {
+) -> Result<(LauncherSeen, Boot), Diagnostic> {
     match boot_of(host, alloc, path, launcher) {
         Ok(boot) => {
             let asked = StatusFileAsked {
@@ -252,14 +252,14 @@ fn around_of(
             };
             Ok((file_life(host, alloc, asked), boot))
         }
-        Err(_) => Err(Trouble::NoMemory),
+        Err(_) => Err(Diagnostic::NoMemory),
     }
 }
 
 // The lines, each of which is the launcher's or a job's.
-fn lines_of(alloc: Global, bytes: &[u8], asked: &[Text]) -> Result<Lines, Trouble> {
+fn lines_of(alloc: Global, bytes: &[u8], asked: &[Text]) -> Result<Lines, Diagnostic> {
     let Some(whole) = bytes.strip_suffix(b"\n") else {
-        return Err(Trouble::NotWhole);
+        return Err(Diagnostic::NotWhole);
     };
     let mut room = LineRoom::new(alloc);
     let mut lines = Lines {
@@ -268,10 +268,10 @@ fn lines_of(alloc: Global, bytes: &[u8], asked: &[Text]) -> Result<Lines, Troubl
         count: 0,
     };
     for line in whole.split(|byte| *byte == b'\n') {
-        if let Err(trouble) = lines.add(alloc, line, asked, &mut room) {
+        if let Err(diagnostic) = lines.add(alloc, line, asked, &mut room) {
             drop(lines);
             drop(room);
-            return Err(trouble);
+            return Err(diagnostic);
         }
     }
     drop(room);
@@ -300,7 +300,7 @@ impl Lines {
         line: &[u8],
         asked: &[Text],
         room: &mut LineRoom,
-    ) -> Result<(), Trouble> {
+    ) -> Result<(), Diagnostic> {
         self.count = self.count.saturating_add(1);
         let is_first = self.count == 1;
         let passed = if is_first || asked.is_empty() {
@@ -312,14 +312,14 @@ impl Lines {
             Ok(Some(label)) => self.labels.push(label).is_ok(),
             Ok(None) => match line_of(alloc, line, is_first) {
                 Ok(line) => self.add_read(alloc, line, !asked.is_empty()),
-                Err(fault) => return Err(Trouble::Line(self.count, fault)),
+                Err(fault) => return Err(Diagnostic::Line(self.count, fault)),
             },
             Err(_) => false,
         };
         if is_added {
             Ok(())
         } else {
-            Err(Trouble::NoMemory)
+            Err(Diagnostic::NoMemory)
         }
     }
 
@@ -393,22 +393,22 @@ fn fault_in(alloc: Global, line: &StatusLine, is_first: bool) -> Option<StatusFa
 }
 
 /// Reports what keeps the file from being read, and returns the exit status. An error for want of memory.
-pub fn tell_trouble(host: &HostRuntime, path: &str, trouble: Trouble) -> io::Result<u8> {
-    let (number, key, words) = match trouble {
-        Trouble::NoMemory | Trouble::Line(_, StatusFault::NoMemory) => {
+pub fn print_diagnostic(host: &HostRuntime, path: &str, diagnostic: Diagnostic) -> io::Result<u8> {
+    let (number, key, words) = match diagnostic {
+        Diagnostic::NoMemory | Diagnostic::Line(_, StatusFault::NoMemory) => {
             return Err(io::Error::from(ErrorKind::OutOfMemory));
         }
-        Trouble::Read(error) => {
+        Diagnostic::Read(error) => {
             tell_of(host, path, &error);
             return Ok(BAD_FILE);
         }
-        Trouble::Long => (0, "", "longer than 16777216 bytes"),
-        Trouble::NotWhole => (0, "", "the status file is not complete"),
-        Trouble::Line(line, StatusFault::NotJson) => (line, "", "not a line of a status file"),
-        Trouble::Line(line, StatusFault::Missing(key)) => (line, key, " is missing"),
-        Trouble::Line(line, StatusFault::Wrong(key)) => (line, key, " is of another form"),
+        Diagnostic::Long => (0, "", "longer than 16777216 bytes"),
+        Diagnostic::NotWhole => (0, "", "the status file is not complete"),
+        Diagnostic::Line(line, StatusFault::NotJson) => (line, "", "not a line of a status file"),
+        Diagnostic::Line(line, StatusFault::Missing(key)) => (line, key, " is missing"),
+        Diagnostic::Line(line, StatusFault::Wrong(key)) => (line, key, " is of another form"),
     };
-    let mut told = Ink::new(host.alloc());
+    let mut told = TextWriter::new(host.alloc());
     told.put("jobscope: ");
     told.put_plain(path);
     told.put(": ");

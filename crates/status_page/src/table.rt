@@ -11,14 +11,14 @@ use crate::cells::cut_in_the_middle;
 use crate::clocks::{StartWhen, gone_on, within_limits};
 use crate::head::add_head;
 use crate::left_out::add_left_out;
-use crate::rows::{Next, Row, ShownState, row_of, word_of};
-use crate::standing::Standing;
+use crate::rows::{Next, ShownState, StatusRow, row_of, word_of};
+use crate::standing::StatusRead;
 use crate::throttles::second_told;
 use crate::usage::usage_of;
 use calendar_due::Zone;
 use history_model::{Ended, JobState, MAX_WALL, Reading, Text};
 use run_times::picture::columns_of;
-use run_times::{Ink, Page, time_text};
+use run_times::{Page, TextWriter, time_text};
 use status_file::StatusLine;
 use std::alloc::{AllocError, Global};
 
@@ -52,7 +52,7 @@ pub struct Look {
 pub fn table_text(
     host: &HostRuntime,
     alloc: Global,
-    standing: &Standing,
+    standing: &StatusRead,
     labels: &[Text],
     look: Look,
 ) -> Result<String, AllocError> {
@@ -78,7 +78,7 @@ fn has_room(columns: u16) -> bool {
     usize::from(columns) >= others_of(true).saturating_add(NARROWEST)
 }
 
-// How many columns there are behind the labels, with a space before each.
+// How many columns there are after the labels, with a space before each.
 fn others_of(has_taken: bool) -> usize {
     let mut others: usize = 0;
     for width in WIDTHS {
@@ -95,7 +95,12 @@ fn others_of(has_taken: bool) -> usize {
 }
 
 // Each row has what the process of its run takes.
-fn look_at_processes(host: &HostRuntime, alloc: Global, standing: &Standing, rows: &mut [Row<'_>]) {
+fn look_at_processes(
+    host: &HostRuntime,
+    alloc: Global,
+    standing: &StatusRead,
+    rows: &mut [StatusRow<'_>],
+) {
     let Some(launcher) = standing.launcher() else {
         return;
     };
@@ -112,12 +117,12 @@ fn look_at_processes(host: &HostRuntime, alloc: Global, standing: &Standing, row
     }
 }
 
-// The text of the rows, by the zone in which moments are shown.
+// The text of the rows, by the zone in which times are shown.
 fn shown_text(
     alloc: Global,
-    standing: &Standing,
+    standing: &StatusRead,
     labels: &[Text],
-    rows: &[Row<'_>],
+    rows: &[StatusRow<'_>],
     at: Reading,
     look: Look,
 ) -> Result<String, AllocError>
@@ -135,7 +140,7 @@ fn shown_text(
 }
 
 /// The launcher's clock reading, no later than one may be.
-pub fn reading_of(standing: &Standing) -> Reading
+pub fn reading_of(standing: &StatusRead) -> Reading
     ensures up { result.up ≤ MAX_UP }
     ensures wall { result.wall ≤ MAX_WALL }
 {
@@ -147,7 +152,7 @@ pub fn reading_of(standing: &Standing) -> Reading
 
 /// The clock reading as of which the file is reported at a second. Its clocks went on while its launcher wrote nothing. If the launcher does not run, or
 /// if that is not known, they stay where they were.
-pub fn told_as_of(standing: &Standing, at: Reading, second: u64) -> Reading
+pub fn told_as_of(standing: &StatusRead, at: Reading, second: u64) -> Reading
     requires up { at.up ≤ MAX_UP }
     requires wall { at.wall ≤ MAX_WALL }
 {
@@ -161,12 +166,12 @@ pub fn told_as_of(standing: &Standing, at: Reading, second: u64) -> Reading
 // The rows of the jobs that are asked for, in the order of the file.
 fn rows_of<'a>(
     alloc: Global,
-    standing: &'a Standing,
+    standing: &'a StatusRead,
     labels: &[Text],
     zone: &Zone,
     at: Reading,
     second: u64,
-) -> Result<Vec<Row<'a>>, AllocError>
+) -> Result<Vec<StatusRow<'a>>, AllocError>
     requires up { at.up ≤ MAX_UP }
     requires wall { at.wall ≤ MAX_WALL }
 {
@@ -182,7 +187,7 @@ fn rows_of<'a>(
 }
 
 /// The row, without what comes next if nothing may be foretold.
-pub fn told_row(mut row: Row<'_>, foretells: bool) -> Row<'_> {
+pub fn told_row(mut row: StatusRow<'_>, foretells: bool) -> StatusRow<'_> {
     if !foretells {
         row.next = Next::Nothing;
     }
@@ -198,7 +203,7 @@ pub(crate) fn row_in<'a>(
     may_live: bool,
     at: Reading,
     second: u64,
-) -> Result<Option<Row<'a>>, AllocError>
+) -> Result<Option<StatusRow<'a>>, AllocError>
     requires up { at.up ≤ MAX_UP }
     requires wall { at.wall ≤ MAX_WALL }
 {
@@ -230,7 +235,7 @@ fn is_named(labels: &[Text], label: &str) -> bool
 }
 
 // How many columns the labels have: what is left of the width, and no more than the longest has.
-fn label_columns(rows: &[Row<'_>], columns: u16) -> usize {
+fn label_columns(rows: &[StatusRow<'_>], columns: u16) -> usize {
     let mut wide: usize = "LABEL".len();
     for row in rows {
         wide = columns_of(row.label).max(wide);
@@ -241,7 +246,7 @@ fn label_columns(rows: &[Row<'_>], columns: u16) -> usize {
 
 /// What shows the times of a table: the zone, and the present time.
 #[derive(Clone, Copy)]
-struct Around<'a> {
+struct TimeContext<'a> {
     alloc: Global,
     zone: &'a Zone,
     now: &'a str,
@@ -250,130 +255,139 @@ struct Around<'a> {
     has_taken: bool,
 }
 
-fn add_rows(page: &mut Page<'_>, rows: &[Row<'_>], look: Look) {
+fn add_rows(page: &mut Page<'_>, rows: &[StatusRow<'_>], look: Look) {
     let columns = label_columns(rows, look.columns);
-    put_cell(&mut page.ink, "LABEL", columns);
-    page.ink.put(HEAD);
+    put_cell(&mut page.writer, "LABEL", columns);
+    page.writer.put(HEAD);
     let has_taken = has_room(look.columns);
-    page.ink.put(if has_taken { HEAD_TAKEN } else { "" });
-    page.ink.put("NEXT\n");
+    page.writer.put(if has_taken { HEAD_TAKEN } else { "" });
+    page.writer.put("NEXT\n");
     match time_text(page.alloc, page.zone, page.now.wall.min(MAX_WALL)) {
         Ok(now) => {
-            let around = Around {
+            let around = TimeContext {
                 alloc: page.alloc,
                 zone: page.zone,
                 now: now.as_str(),
                 has_colour: look.has_colour,
                 has_taken,
             };
-            add_lines(&mut page.ink, rows, columns, around);
+            add_lines(&mut page.writer, rows, columns, around);
             drop(now);
         }
-        Err(_) => page.ink.refuse(),
+        Err(_) => page.writer.refuse(),
     }
 }
 
 // A line for each of the rows, in order.
-fn add_lines(ink: &mut Ink, rows: &[Row<'_>], columns: usize, around: Around<'_>)
-    ensures { TellsRows rows.now ink.old ink.new }
+fn add_lines(
+    writer: &mut TextWriter,
+    rows: &[StatusRow<'_>],
+    columns: usize,
+    around: TimeContext<'_>,
+)
+    ensures { TellsRows rows.now writer.old writer.new }
 {
     for row in rows {
-        add_line(ink, row, columns, around);
+        add_line(writer, row, columns, around);
     }
 }
 
-fn add_line(ink: &mut Ink, row: &Row<'_>, columns: usize, around: Around<'_>)
-    ensures { (front : List ℕ) × (more : List ℕ) × Adds (front ++ (state_word row.now.state ++ (more ++ 10 ∷ []))) ink.old ink.new }
+fn add_line(writer: &mut TextWriter, row: &StatusRow<'_>, columns: usize, around: TimeContext<'_>)
+    ensures { (front : List ℕ) × (more : List ℕ) × Adds (front ++ (state_word row.now.state ++ (more ++ 10 ∷ []))) writer.old writer.new }
 {
-    ink.put_made(front_text(row, columns, around));
-    ink.put(word_of(row.state));
-    ink.put_made(end_text(row, around));
-    ink.put("\n");
+    writer.put_made(front_text(row, columns, around));
+    writer.put(word_of(row.state));
+    writer.put_made(end_text(row, around));
+    writer.put("\n");
 }
 
 // The label, and the colour of the state.
-fn front_text(row: &Row<'_>, columns: usize, around: Around<'_>) -> Result<String, AllocError> {
-    let mut ink = Ink::new(around.alloc);
+fn front_text(
+    row: &StatusRow<'_>,
+    columns: usize,
+    around: TimeContext<'_>,
+) -> Result<String, AllocError> {
+    let mut writer = TextWriter::new(around.alloc);
     let (front, between, end) = cut_in_the_middle(row.label, columns);
-    ink.put_plain(front);
-    ink.put(between);
-    ink.put_plain(end);
+    writer.put_plain(front);
+    writer.put(between);
+    writer.put_plain(end);
     let used = columns_of(front)
         .saturating_add(columns_of(between))
         .saturating_add(columns_of(end));
-    put_spaces(&mut ink, columns.saturating_sub(used).saturating_add(1));
-    ink.put(if around.has_colour {
+    put_spaces(&mut writer, columns.saturating_sub(used).saturating_add(1));
+    writer.put(if around.has_colour {
         colour_of(row)
     } else {
         ""
     });
-    ink.into_text()
+    writer.into_text()
 }
 
 // What comes after the state: the process, since when the job is in its state, and the last end. Then come the starts, how many of them were refused
 // or failed, and what comes next.
-fn end_text(row: &Row<'_>, around: Around<'_>) -> Result<String, AllocError> {
-    let mut ink = Ink::new(around.alloc);
-    ink.put(if around.has_colour { PLAIN } else { "" });
+fn end_text(row: &StatusRow<'_>, around: TimeContext<'_>) -> Result<String, AllocError> {
+    let mut writer = TextWriter::new(around.alloc);
+    writer.put(if around.has_colour { PLAIN } else { "" });
     let used = word_of(row.state).len();
-    put_spaces(&mut ink, WIDTHS[0].saturating_sub(used));
+    put_spaces(&mut writer, WIDTHS[0].saturating_sub(used));
     let process = match row.process {
         Some(process) => Some(u64::from(process)),
         None => None,
     };
-    put_count(&mut ink, process, WIDTHS[1]);
-    put_moment(&mut ink, around, row.since, WIDTHS[2]);
-    put_last(&mut ink, row, WIDTHS[3]);
-    put_count(&mut ink, Some(row.starts), WIDTHS[4]);
+    put_count(&mut writer, process, WIDTHS[1]);
+    put_moment(&mut writer, around, row.since, WIDTHS[2]);
+    put_last(&mut writer, row, WIDTHS[3]);
+    put_count(&mut writer, Some(row.starts), WIDTHS[4]);
     let failed = row.failures.saturating_add(row.refusals);
-    put_count(&mut ink, Some(failed), WIDTHS[5]);
+    put_count(&mut writer, Some(failed), WIDTHS[5]);
     if around.has_taken {
-        put_made_cell(&mut ink, memory_text(around.alloc, row), TAKEN[0]);
-        put_made_cell(&mut ink, processor_text(around.alloc, row), TAKEN[1]);
+        put_made_cell(&mut writer, memory_text(around.alloc, row), TAKEN[0]);
+        put_made_cell(&mut writer, processor_text(around.alloc, row), TAKEN[1]);
     }
-    put_next(&mut ink, around, row);
-    ink.into_text()
+    put_next(&mut writer, around, row);
+    writer.into_text()
 }
 
-fn put_next(ink: &mut Ink, around: Around<'_>, row: &Row<'_>) {
+fn put_next(writer: &mut TextWriter, around: TimeContext<'_>, row: &StatusRow<'_>) {
     let what = match row.next {
         Next::Clock(StartWhen::At(second)) => {
-            put_moment(ink, around, second_told(row.throttle, second), 0);
+            put_moment(writer, around, second_told(row.throttle, second), 0);
             return;
         }
         Next::Clock(StartWhen::Since(_)) => "due",
         Next::Event(what) => what,
         Next::Nothing | Next::Clock(StartWhen::Never) => "-",
     };
-    ink.put(" ");
-    ink.put(what);
+    writer.put(" ");
+    writer.put(what);
 }
 
-fn put_count(ink: &mut Ink, count: Option<u64>, width: usize) {
-    ink.put(" ");
+fn put_count(writer: &mut TextWriter, count: Option<u64>, width: usize) {
+    writer.put(" ");
     match count {
         Some(count) => {
-            ink.put_number(count);
-            put_spaces(ink, width.saturating_sub(digits_of(count)));
+            writer.put_number(count);
+            put_spaces(writer, width.saturating_sub(digits_of(count)));
         }
-        None => put_cell(ink, "-", width),
+        None => put_cell(writer, "-", width),
     }
 }
 
 // A space and the text, and spaces up to the width.
-fn put_made_cell(ink: &mut Ink, text: Result<String, AllocError>, width: usize) {
+fn put_made_cell(writer: &mut TextWriter, text: Result<String, AllocError>, width: usize) {
     match text {
         Ok(text) => {
-            ink.put(" ");
-            put_cell(ink, text.as_str(), width);
+            writer.put(" ");
+            put_cell(writer, text.as_str(), width);
             drop(text);
         }
-        Err(_) => ink.refuse(),
+        Err(_) => writer.refuse(),
     }
 }
 
 // How much memory its process has, in at most five columns.
-fn memory_text(alloc: Global, row: &Row<'_>) -> Result<String, AllocError> {
+fn memory_text(alloc: Global, row: &StatusRow<'_>) -> Result<String, AllocError> {
     let Some(usage) = row.usage else {
         return String::from_str(alloc, "-");
     };
@@ -395,7 +409,7 @@ fn memory_text(alloc: Global, row: &Row<'_>) -> Result<String, AllocError> {
 }
 
 // How much processor time it took: in tenths of a second, then in minutes and seconds, hours and minutes, days and hours.
-fn processor_text(alloc: Global, row: &Row<'_>) -> Result<String, AllocError> {
+fn processor_text(alloc: Global, row: &StatusRow<'_>) -> Result<String, AllocError> {
     let Some(usage) = row.usage else {
         return String::from_str(alloc, "-");
     };
@@ -416,31 +430,31 @@ fn processor_text(alloc: Global, row: &Row<'_>) -> Result<String, AllocError> {
 }
 
 // How its last run exited, or that its last start was refused.
-fn put_last(ink: &mut Ink, row: &Row<'_>, width: usize) {
+fn put_last(writer: &mut TextWriter, row: &StatusRow<'_>, width: usize) {
     if row.is_refused {
-        ink.put(" ");
-        put_cell(ink, "refused", width);
+        writer.put(" ");
+        put_cell(writer, "refused", width);
         return;
     }
     let (word, number) = match row.last {
         Some(Ended::Code(code)) => (" code ", u64::from(code)),
         Some(Ended::Signal(signal)) => (" signal ", u64::from(signal)),
         None => {
-            put_count(ink, None, width);
+            put_count(writer, None, width);
             return;
         }
     };
-    ink.put(word);
-    ink.put_number(number);
+    writer.put(word);
+    writer.put_number(number);
     let used = word
         .len()
         .saturating_sub(1)
         .saturating_add(digits_of(number));
-    put_spaces(ink, width.saturating_sub(used));
+    put_spaces(writer, width.saturating_sub(used));
 }
 
 // The time of the day; of another day the month, the day, the hour and the minute. Both times are as `time_text` has them.
-fn put_moment(ink: &mut Ink, around: Around<'_>, second: u64, width: usize) {
+fn put_moment(writer: &mut TextWriter, around: TimeContext<'_>, second: u64, width: usize) {
     match time_text(around.alloc, around.zone, second.min(MAX_WALL)) {
         Ok(text) => {
             let moment = text.as_str();
@@ -450,30 +464,30 @@ fn put_moment(ink: &mut Ink, around: Around<'_>, second: u64, width: usize) {
             } else {
                 (moment.get(5..10).unwrap_or(""), 20)
             };
-            ink.put(" ");
-            ink.put(day);
-            ink.put(if is_today { "" } else { " " });
+            writer.put(" ");
+            writer.put(day);
+            writer.put(if is_today { "" } else { " " });
             let used = if is_today { 0 } else { 6 };
             put_cell(
-                ink,
+                writer,
                 moment.get(15..until).unwrap_or(""),
                 width.saturating_sub(used),
             );
             drop(text);
         }
-        Err(_) => ink.refuse(),
+        Err(_) => writer.refuse(),
     }
 }
 
 // The text, and spaces up to the width.
-fn put_cell(ink: &mut Ink, text: &str, width: usize) {
-    ink.put(text);
-    put_spaces(ink, width.saturating_sub(columns_of(text)));
+fn put_cell(writer: &mut TextWriter, text: &str, width: usize) {
+    writer.put(text);
+    put_spaces(writer, width.saturating_sub(columns_of(text)));
 }
 
-fn put_spaces(ink: &mut Ink, count: usize) {
+fn put_spaces(writer: &mut TextWriter, count: usize) {
     for _ in 0..count {
-        ink.put(" ");
+        writer.put(" ");
     }
 }
 
@@ -490,7 +504,7 @@ fn digits_of(number: u64) -> usize {
 }
 
 // Green of what runs, yellow of what is on its way, red of what failed last; nothing of the others.
-fn colour_of(row: &Row<'_>) -> &'static str {
+fn colour_of(row: &StatusRow<'_>) -> &'static str {
     match (row.state, row.last) {
         (ShownState::Is(JobState::Running), _) => "\x1b[32m",
         (ShownState::Is(JobState::Idle), Some(Ended::Code(0)) | None) => "",

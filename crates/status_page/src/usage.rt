@@ -50,7 +50,7 @@ pub fn usage_of(
     })
 }
 
-// The text, as far as it is UTF-8: the name of a program may have any byte, and what is looked for is behind it.
+// The text, as far as it is UTF-8: the name of a program may have any byte, and what is looked for comes after it.
 fn text_of(bytes: &[u8]) -> &str {
     match str::from_utf8(bytes) {
         Ok(text) => text,
@@ -59,7 +59,7 @@ fn text_of(bytes: &[u8]) -> &str {
 }
 
 // The processor time of the process in this line of `/proc/PID/stat`, if it is a child of the launcher that began no earlier than
-// this moment, in milliseconds since the boot.
+// `ordered`, in milliseconds since the boot.
 fn processor_in(stat: &str, launcher: u32, ordered: u64) -> Option<u64> {
     let process = process_in(stat)?;
     let until = process.began.saturating_add(1).saturating_mul(TICK);
@@ -80,7 +80,7 @@ fn processor_in(stat: &str, launcher: u32, ordered: u64) -> Option<u64> {
     Some(ticks.saturating_mul(TICK))
 }
 
-// What `/proc/PID/status` says behind `VmRSS:`, in kB of 1024 bytes.
+// What `/proc/PID/status` says after `VmRSS:`, in kB of 1024 bytes.
 fn resident_in(status: &str) -> Option<u64> {
     for line in status.lines() {
         if let Some(rest) = line.strip_prefix("VmRSS:") {

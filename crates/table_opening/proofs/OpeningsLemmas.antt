@@ -44,7 +44,7 @@ bad_label at overrides is = go (list_all (λ setting. is_label setting.label) ov
   go true true is = cc
   go true false is = cc
 
--- and then for the reading alone
+-- and then for the clock reading alone
 pub bad_reading : (at : Reading) (overrides : List Setting) (r : Refusal) → opening_refusal at overrides ≡ Some r → (r ≡ BadRequest → ⊥) → is_clock_refused at at ≡ true
 bad_reading at overrides r is other = go (list_all (λ setting. is_label setting.label) overrides) (is_clock_refused at at) is where
   go : (b late : Bool) → refused_if (not b) BadRequest (refused_if late ClockRefused None) ≡ Some r → late ≡ true
@@ -59,13 +59,13 @@ file_or_none bytes ahead short is (inl long) = omega (arith, short, long)
 file_or_none bytes ahead short is (inr (inl unreadable)) = cc (is.read, unreadable.is_fault)
 file_or_none bytes ahead short is (inr (inr bad)) = agrees-not-bad is.table _ is.read is.agrees bad
 
--- what describes a clock is no missing zone
+-- what describes a clock is not a missing zone
 pub zone_or_none : (zone : ZoneText) (ahead : Offsets) → Describes zone ahead → IsNoZone zone → ⊥
 zone_or_none (Posix text) ahead is none = cc (is.read, none)
 zone_or_none (Offset seconds) ahead is none = none is.0
 zone_or_none (File bytes) ahead is none = file_or_none bytes ahead is.0 is.1 none
 
--- a header for which a table stands has a zone, and a reading within its limits
+-- a header that a table represents has a zone, and a clock reading within its limits
 pub stands_well : (header : Header) (table : Table) → StandsOpened header table → IsNoZone header.zone ⊎ (is_clock_refused header.reading header.reading ≡ true) → ⊥
 stands_well header table stands (inl none) = zone_or_none header.zone stands.opens.ahead stands.opens.describes none
 stands_well header table stands (inr late) = go (list_all (λ setting. is_label setting.label) header.overrides) (is_clock_refused header.reading header.reading) stands.admitted late where

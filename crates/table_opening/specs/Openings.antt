@@ -1,4 +1,4 @@
--- The zone that a header tells, and the machine that it opens.
+-- The zone that a header names, and the machine that it opens.
 use Rattle.std.specs.Prelude.{◌≡◌, ◌≤◌, true, false, length, Option, Some, None, Result, Ok, Err}
 use Rattle.std.specs.List.{list_all}
 use Rattle.jiff_core.specs.Calendar.{IsWithin}
@@ -34,13 +34,13 @@ IsNoZone (Posix text) = read_whole text ≡ None
 IsNoZone (Offset seconds) = ¬ IsWithin 86_399 seconds
 IsNoZone (File bytes) = IsBadFile bytes
 
--- the zone that the header tells, or why there is none
+-- the zone that the header names, or why there is none
 abbrev pub IsTold : ZoneText → Result Zone ZoneFault → Type 0
 IsTold text (Ok zone) = Describes text (offsets zone)
 IsTold text (Err zone_fault.NoMemory) = Unit {0}
 IsTold text (Err zone_fault.BadZone) = IsNoZone text
 
--- the zone that the header tells, if it tells one
+-- the zone that the header names, if it names one
 abbrev pub IsZoneOf : ZoneText → Option Zone → Type 0
 IsZoneOf text None = IsNoZone text
 IsZoneOf text (Some zone) = Describes text (offsets zone)
@@ -60,7 +60,7 @@ pub record OpensBy (header : Header) (s : State) : Type 0 where
   pub describes : Describes header.zone ahead
   pub state : s ≡ opened_by header ahead
 
--- a machine that the header opens, for which the table stands
+-- a machine that the header opens, which the table represents
 pub record StandsOpened (header : Header) (table : Table) : Type 0 where
   pub machine : State
   pub opens : OpensBy header machine

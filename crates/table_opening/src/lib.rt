@@ -1,4 +1,4 @@
-//! Opens the table of jobs that a journal's header tells.
+//! Opens the table of jobs for a journal's header.
 #![tactic(auto)]
 
 mod opening;

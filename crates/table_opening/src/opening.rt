@@ -16,13 +16,13 @@ pub enum OpeningFault {
     NoMemory,
     /// Its zone is none.
     BadZone,
-    /// A name among its settings is no label.
+    /// A name among its settings is not a label.
     BadLabel,
-    /// Its reading is past a limit.
+    /// Its clock reading is past a limit.
     BadReading,
 }
 
-/// The zone that a header tells, or why there is none.
+/// The zone that a header names, or why there is none.
 fn told(alloc: Global, zone: &ZoneText) -> Result<Zone, ZoneFault>
     ensures { IsTold zone.now result }
 {
@@ -36,7 +36,7 @@ fn told(alloc: Global, zone: &ZoneText) -> Result<Zone, ZoneFault>
     }
 }
 
-/// The zone that a header tells, or `None` if it tells none.
+/// The zone that a header names, or `None` if it names none.
 pub fn zone_of(alloc: Global, zone: &ZoneText) -> Result<Option<Zone>, AllocError>
     ensures { IfOk result (IsZoneOf zone.now) }
 {
@@ -47,7 +47,7 @@ pub fn zone_of(alloc: Global, zone: &ZoneText) -> Result<Option<Zone>, AllocErro
     }
 }
 
-/// The table of a header that tells this zone.
+/// The table of a header that names this zone.
 #[tactic(auto, using(crate::proofs::OpeningsLemmas::opened_in, crate::proofs::OpeningsLemmas::bad_label, crate::proofs::OpeningsLemmas::bad_reading))]
 fn table_in(alloc: Global, header: Header, zone: Zone) -> Result<JobTable, OpeningFault>
     requires { Describes header.zone (offsets zone) }
@@ -60,8 +60,8 @@ fn table_in(alloc: Global, header: Header, zone: Zone) -> Result<JobTable, Openi
     }
 }
 
-/// The table with no job that a header opens: with its reading, in its zone, with its settings, oldest first. Refused as
-/// `OpeningFault` says, the zone before the names and these before the reading.
+/// The table with no job that a header opens: with its clock reading, in its zone, with its settings, oldest first. Refused as
+/// `OpeningFault` says, the zone before the names and these before the clock reading.
 pub fn table_of(alloc: Global, header: Header) -> Result<JobTable, OpeningFault>
     ensures { OpensAs header result }
 {

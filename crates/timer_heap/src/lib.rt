@@ -1,7 +1,7 @@
-//! The next moment of each job by its number, and the least of them all, so that a reading of the clock need not ask each job.
-//! What it keeps is a tree of matches. Each job's timer is a leaf, each node above two others has the sooner of their timers,
-//! and so the root has the soonest of all. A change of one job plays the matches between its leaf and the root again: one
-//! match for each doubling of the room. Moments are milliseconds of `up`. Only `new` and `reserve` take memory.
+//! The next wake-up time of each job by its number, and the least of them all, so that a clock reading need not ask each job.
+//! What it keeps is a tree of matches. Each job's timer is a leaf, each node above two others has the sooner of their timers, and
+//! so the root has the soonest of all. A change of one job plays the matches between its leaf and the root again: one match for
+//! each doubling of the room. Times are milliseconds of `up`. Only `new` and `reserve` take memory.
 #![tactic(auto)]
 
 ghost use Rattle.std.specs.Prelude.{◌≡◌, ◌<◌, ◌≤◌, ◌+◌, ◌*◌, [], Some, None, IsOk, IfOk, OnOk, OnErr, OnSome};
@@ -13,8 +13,8 @@ use std::alloc::{AllocError, Global};
 use std::marker::Model;
 use tree::Tree;
 
-/// The moments of jobs: to a contract, a finite map from job numbers to moments, and beside it the room, a number. There is
-/// room for the job numbers below it.
+/// The wake-up times of jobs: to a contract, a finite map from job numbers to times, and the room, a number. There is room for
+/// the job numbers below it.
 #[derive(Drop)]
 pub struct TimerHeap {
     tree: Tree,
@@ -35,7 +35,7 @@ impl Model for TimerHeap {
 impl TimerHeap {
     ghost use Rattle.timer_heap.specs.Timers.{room, timer_count, Updates, KeepsMoments, IsLeast, IsPopped};
 
-    /// No moment, and no room. It takes no memory yet, so it is not refused.
+    /// No timer, and no room. It takes no memory yet, so it is not refused.
     pub fn new(alloc: Global) -> Result<TimerHeap, AllocError>
         ensures ok { IsOk result }
         ensures empty { IfOk result (λ heap. heap ≡ record { moments = [] }) }
@@ -45,8 +45,8 @@ impl TimerHeap {
         })
     }
 
-    /// Makes room for the job numbers below `numbers`. The moments stay, and the room is never less than before. The one
-    /// refusal is of memory, and it leaves the heap as it was. A heap that has the room takes no memory.
+    /// Makes room for the job numbers below `numbers`. The timers stay, and the room is never less than before. The one refusal
+    /// is of memory, and it leaves the heap as it was. A heap that has the room takes no memory.
     pub fn reserve(&mut self, alloc: Global, numbers: u32) -> Result<(), AllocError>
         ensures room { OnOk result (numbers ≤ room self.new) }
         ensures kept { KeepsMoments self.old self.new }
@@ -58,7 +58,7 @@ impl TimerHeap {
         self.tree.reserve(alloc, numbers as usize)
     }
 
-    /// Makes this the moment of the job, in place of an earlier one. The caller's condition: there is room for its number.
+    /// Makes this the wake-up time of the job, in place of an earlier one. The caller's condition: there is room for its number.
     pub fn set(&mut self, job: JobNo, moment: u64)
         requires { job < room self.old }
         ensures { Updates self.old self.new job (Some moment) }
@@ -66,14 +66,14 @@ impl TimerHeap {
         self.tree.set(job, moment);
     }
 
-    /// Takes the job's moment away, if it has one.
+    /// Takes the job's wake-up time away, if it has one.
     pub fn clear(&mut self, job: JobNo)
         ensures { Updates self.old self.new job None }
     {
         self.tree.clear(job);
     }
 
-    /// Makes this the moment of the job, or leaves it without one. If that is what it has already, no match is played. The
+    /// Makes this the wake-up time of the job, or leaves it without one. If it has that one already, no match is played. The
     /// caller's condition: there is room for its number.
     pub fn renew(&mut self, job: JobNo, moment: Option<u64>)
         requires { job < room self.old }
@@ -82,15 +82,15 @@ impl TimerHeap {
         self.tree.renew(job, moment);
     }
 
-    /// The job with the least moment, and that moment; of equal moments that of the least job number. None if no job has
-    /// a moment.
+    /// The job with the least wake-up time, and that time. If several jobs have it, it is the job of the least number. None if no
+    /// job has a timer.
     pub fn least(&self) -> Option<(JobNo, u64)>
         ensures { IsLeast self.now result }
     {
         self.tree.least()
     }
 
-    /// Takes out the moment that `least` tells, if it is at most `now`, and gives its job. None if each moment is later.
+    /// Takes out the timer that `least` returns, if it is at most `now`, and gives its job. None if each timer is later.
     pub fn pop_due(&mut self, now: u64) -> Option<JobNo>
         ensures popped { IsPopped now self.old result self.new }
         // What a loop over all that are due counts down.

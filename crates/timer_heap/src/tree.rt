@@ -1,4 +1,4 @@
-//! The tree of matches that finds the job with the soonest moment, as a list of nodes.
+//! The tree of matches that finds the job with the soonest timer, as a list of nodes.
 
 ghost use Rattle.std.specs.Prelude.{◌≡◌, ◌<◌, ◌≤◌, ◌+◌, ◌*◌, ◌^◌, true, Some, None, IsOk, IfOk, OnOk, OnErr};
 ghost use Rattle.std.specs.Option.{ForSome};
@@ -8,7 +8,7 @@ ghost use Rattle.timer_heap.specs.Nodes.{sooner_timer, is_timer_before, timers_o
 use history_model::JobNo;
 use std::alloc::{AllocError, Global};
 
-/// A job's moment, in milliseconds of `up`.
+/// A job's wake-up time, in milliseconds of `up`.
 #[derive(Clone, Copy)]
 pub struct Timer {
     pub moment: u64,
@@ -36,7 +36,7 @@ impl Tree {
         }
     }
 
-    /// A tree with so many leaves and no timer.
+    /// A tree with this number of leaves and no timer.
     fn with_leaves(alloc: Global, leaves: usize) -> Result<Tree, AllocError>
         requires { leaves < 2 ^ 34 }
         ensures sound { IfOk result IsTree }
@@ -71,7 +71,7 @@ impl Tree {
         Ok(())
     }
 
-    /// Makes this the moment of the job.
+    /// Makes this the wake-up time of the job.
     pub fn set(&mut self, job: JobNo, moment: u64)
         requires sound { IsTree self.old }
         requires place { job < room (timers_of self.old) }
@@ -81,7 +81,7 @@ impl Tree {
         self.put(job as usize, Some(Timer { moment, job }));
     }
 
-    /// Takes the job's moment away, if it has one.
+    /// Takes the job's wake-up time away, if it has one.
     pub fn clear(&mut self, job: JobNo)
         requires sound { IsTree self.old }
         ensures put { Updates (timers_of self.old) (timers_of self.new) job None }
@@ -93,7 +93,7 @@ impl Tree {
         }
     }
 
-    /// Makes this the moment of the job, or leaves it without one. It plays no match if the moment stays.
+    /// Makes this the wake-up time of the job, or leaves it without one. It plays no match if the time stays.
     pub fn renew(&mut self, job: JobNo, moment: Option<u64>)
         requires sound { IsTree self.old }
         requires place { job < room (timers_of self.old) }
@@ -109,7 +109,7 @@ impl Tree {
         }
     }
 
-    /// The job's moment, if it has one.
+    /// The job's wake-up time, if it has one.
     fn moment(&self, job: JobNo) -> Option<u64>
         requires { IsTree self.now }
         ensures { result ≡ moment_in (timers_of self.now) job }
@@ -155,7 +155,7 @@ impl Tree {
     }
 }
 
-/// The timer whose moment comes first; of equal moments that of the lesser job number.
+/// The timer whose time comes first; of equal times that of the lesser job number.
 fn sooner(left: Option<Timer>, right: Option<Timer>) -> Option<Timer>
     ensures { result ≡ sooner_timer left right }
 {
@@ -172,7 +172,7 @@ fn sooner(left: Option<Timer>, right: Option<Timer>) -> Option<Timer>
     }
 }
 
-/// Whether the two are the same moment, or both none.
+/// Whether the two are the same time, or both none.
 fn is_same(one: Option<u64>, other: Option<u64>) -> bool
     ensures { result ≡ true → one ≡ other }
 {

@@ -13,7 +13,7 @@ use anyhow::Result;
 pub enum Case {
     Exchange(&'static [exchange::Step]),
     Heap(&'static [heap::Step]),
-    Feed(&'static feed::Fed),
+    Feed(&'static feed::FeedCase),
     Offset(&'static zones::Offset),
     NoOffsets(&'static [i32]),
     Lines(lines::Kind, &'static str),

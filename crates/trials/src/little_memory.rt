@@ -3,28 +3,28 @@
 
 mod feeding;
 mod growing;
-mod hoard;
 mod looping;
+mod memory_hog;
 mod plain_calls;
 mod replaying;
 mod storing;
 mod trial;
 pub mod turning;
 
-use crate::little_memory::hoard::Hoard;
+use crate::little_memory::memory_hog::MemoryHog;
 use crate::little_memory::storing::{InMemory, OwnFile};
 use crate::memory_stage::Stage;
 use anyhow::Result;
 
 /// Tries each call. Memory must be limited already.
 pub fn try_all(rt: &HostRuntime) -> Result<()> {
-    let mut hoard = Hoard::new(rt.alloc())?;
-    let plain = plain_calls::try_all(rt, &mut hoard);
-    let opening = storing::try_all(rt, &mut hoard, OwnFile { rt }, storing::OPENING);
-    let storing = storing::try_all(rt, &mut hoard, InMemory {}, storing::CALLS);
-    let turning = turning::try_all::<Stage>(rt, &mut hoard);
-    let looping = looping::try_making(rt, &mut hoard);
-    drop(hoard);
+    let mut memory_hog = MemoryHog::new(rt.alloc())?;
+    let plain = plain_calls::try_all(rt, &mut memory_hog);
+    let opening = storing::try_all(rt, &mut memory_hog, OwnFile { rt }, storing::OPENING);
+    let storing = storing::try_all(rt, &mut memory_hog, InMemory {}, storing::CALLS);
+    let turning = turning::try_all::<Stage>(rt, &mut memory_hog);
+    let looping = looping::try_making(rt, &mut memory_hog);
+    drop(memory_hog);
     plain?;
     opening?;
     storing?;

@@ -1,4 +1,4 @@
-//! Rounds of the loop over an edge: refusals, and the ends of real children.
+//! Passes of the event loop over an edge: refusals, and the exits of real children.
 
 pub mod ends;
 pub mod refusals;

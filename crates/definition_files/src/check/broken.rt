@@ -1,10 +1,10 @@
 //! What is wrong where a text is not JSON.
 
-use crate::check::finding::Place;
-use crate::check::outline::{DEEPEST, Mark, MarkKind, Outline, begin_at};
+use crate::check::finding::Position;
+use crate::check::outline::{DEEPEST, MarkKind, Outline, OutlineMark, begin_at};
 use crate::check::place::place_at;
 use json_kinds::json_value;
-use run_times::Ink;
+use run_times::TextWriter;
 use std::alloc::Global;
 
 const XML: &str = "a property list in XML; write it as JSON with: jobscope plist FILE > FILE.json";
@@ -15,42 +15,42 @@ const BINARY: &str =
 /// Adds what is wrong at the first byte that is not JSON, and returns its place.
 pub(crate) fn put_broken(
     alloc: Global,
-    ink: &mut Ink,
+    writer: &mut TextWriter,
     bytes: &[u8],
     outline: &Outline,
-) -> Option<Place> {
+) -> Option<Position> {
     if bytes.starts_with(b"bplist") {
-        ink.put(BINARY);
+        writer.put(BINARY);
         return None;
     }
     let Ok(text) = std::str::from_utf8(bytes) else {
-        ink.put("the file is not UTF-8");
+        writer.put("the file is not UTF-8");
         return None;
     };
     if outline.depth > DEEPEST {
-        ink.put("the values are nested more than 127 levels deep");
+        writer.put("the values are nested more than 127 levels deep");
         return None;
     }
     let (at, told) = match outline.bad {
         Some(offset) => told_at(bytes, offset, begin_at(text, 0), outline.is_whole),
         None if outline.is_whole => (
-            number_in(alloc, ink, text, outline.marks.as_slice()),
+            number_in(alloc, writer, text, outline.marks.as_slice()),
             "a number that is too large",
         ),
         None => told_at(bytes, text.len(), begin_at(text, 0), false),
     };
-    ink.put(told);
+    writer.put(told);
     Some(place_at(text, at))
 }
 
 // Where the first number begins that by itself is not JSON: one past each bound.
-fn number_in(alloc: Global, ink: &mut Ink, text: &str, marks: &[Mark]) -> usize {
+fn number_in(alloc: Global, writer: &mut TextWriter, text: &str, marks: &[OutlineMark]) -> usize {
     for mark in marks {
         if let MarkKind::Plain = mark.kind {
             match json_value(alloc, number_at(text, mark.at).as_bytes()) {
                 Ok(Some(read)) => drop(read),
                 Ok(None) => return mark.at,
-                Err(_) => ink.refuse(),
+                Err(_) => writer.refuse(),
             }
         }
     }

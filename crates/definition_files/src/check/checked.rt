@@ -6,33 +6,33 @@ ghost use Rattle.job_defs.specs.Keys.{def_of};
 ghost use Rattle.definition_files.specs.Verdict.{IsVerdict};
 
 use crate::check::changes::Change;
-use crate::check::conduct::remarks_on;
-use crate::check::finding::{Place, Remark};
+use crate::check::conduct::findings_on;
+use crate::check::finding::{Finding, Position};
+use crate::check::finding_list::FindingList;
 use crate::check::mistakes::{Mistake, mistakes_in};
 use crate::check::outline::{Outline, outline_of};
 use crate::check::refusal::put_refusal;
-use crate::check::remarks::Remarks;
 use history_model::{KeyName, Reason};
 use job_defs::{Def, DefFault, read_def};
-use run_times::Ink;
+use run_times::TextWriter;
 use std::alloc::{AllocError, Global};
 
 /// What a load would say of a definition.
 #[derive(Drop)]
 pub enum Checked {
-    /// A load reads it, and it has these mistakes. The remarks are on them, and on what else may be wrong.
+    /// A load reads it, and it has these mistakes. The findings are on them, and on what else may be wrong.
     Loads {
         def: Def,
         mistakes: Vec<Mistake>,
-        remarks: Vec<Remark>,
+        finding_list: Vec<Finding>,
     },
-    /// A load refuses it for this reason, at this key; the text says so to people. The further remarks say what else is wrong.
+    /// A load refuses it for this reason, at this key; the text says so to people. The further findings say what else is wrong.
     Refused {
         reason: Reason,
         key: KeyName,
-        place: Option<Place>,
+        place: Option<Position>,
         text: String,
-        further: Vec<Remark>,
+        further: Vec<Finding>,
     },
 }
 
@@ -70,12 +70,12 @@ fn loads(
             return Err(error);
         }
     };
-    let remarks = Remarks::new(alloc, text, outline.marks.as_slice());
-    match remarks_on(&def, mistakes.as_slice(), changes, remarks) {
-        Ok(remarks) => Ok(Checked::Loads {
+    let finding_list = FindingList::new(alloc, text, outline.marks.as_slice());
+    match findings_on(&def, mistakes.as_slice(), changes, finding_list) {
+        Ok(finding_list) => Ok(Checked::Loads {
             def,
             mistakes,
-            remarks,
+            finding_list,
         }),
         Err(error) => {
             drop(mistakes);
@@ -96,10 +96,10 @@ fn refused(
 ) -> Result<Checked, AllocError>
     ensures { IfOk result (λ checked. def_of bytes.now ≡ Err (bad reason key) → IsVerdict bytes.now checked) }
 {
-    let mut ink = Ink::new(alloc);
-    let mut remarks = Remarks::new(alloc, text, outline.marks.as_slice());
-    let place = put_refusal(&mut ink, bytes, outline, reason, key, &mut remarks);
-    match (ink.into_text(), remarks.into_list()) {
+    let mut writer = TextWriter::new(alloc);
+    let mut finding_list = FindingList::new(alloc, text, outline.marks.as_slice());
+    let place = put_refusal(&mut writer, bytes, outline, reason, key, &mut finding_list);
+    match (writer.into_text(), finding_list.into_list()) {
         (Ok(text), Ok(further)) => Ok(Checked::Refused {
             reason,
             key,

@@ -1,15 +1,15 @@
 //! What may be wrong with the program and its arguments.
 
-use crate::check::finding::Grade;
+use crate::check::finding::Severity;
+use crate::check::finding_list::FindingList;
 use crate::check::foreground::add_leaving;
-use crate::check::place::Step;
-use crate::check::program::{Line, Run, base_of, program_of};
-use crate::check::remarks::Remarks;
+use crate::check::place::WayStep;
+use crate::check::program::{Run, ShellLine, base_of, program_of};
 use history_model::KeyName;
 use job_defs::Def;
 use json_kinds::key_name;
-use run_times::Ink;
 use run_times::Piece::Number;
+use run_times::TextWriter;
 use std::alloc::{AllocError, Global};
 
 /// The wrapper command that passes a TERM on to the process group of its program.
@@ -17,12 +17,12 @@ const GROUP: &str = "jobd-group";
 
 /// Adds the warnings on what is run: a command line in one argument, a program whose path is not from the root, and signs of a shell without a shell.
 /// It also looks at lines of shells, and at a program that leaves the foreground.
-pub(crate) fn add_command(def: &Def, remarks: &mut Remarks<'_>) {
+pub(crate) fn add_command(def: &Def, finding_list: &mut FindingList<'_>) {
     let program = def.program();
     let is_whole = program.starts_with('/');
     let is_alone = def.arguments().is_empty();
     if is_alone && (is_line(program) || (!is_whole && program.contains(' '))) {
-        return add_line(program, remarks);
+        return add_line(program, finding_list);
     }
     let told = if program.starts_with('~') {
         "the program begins with ~, which nothing expands here; write the absolute path"
@@ -33,65 +33,70 @@ pub(crate) fn add_command(def: &Def, remarks: &mut Remarks<'_>) {
     let goes_from_folder = def.working_directory().unwrap_or("").starts_with('/');
     let is_relative = !is_whole
         && (program.starts_with('~') || (program.contains('/') && !goes_from_folder));
-    remarks.add_if(is_relative, KeyName::Program, told);
-    add_signs(def, remarks);
-    match program_of(remarks.alloc, program, def.arguments()) {
+    finding_list.add_if(is_relative, KeyName::Program, told);
+    add_signs(def, finding_list);
+    match program_of(finding_list.alloc, program, def.arguments()) {
         Ok(run) => {
-            add_run(def, &run, remarks);
+            add_run(def, &run, finding_list);
             drop(run);
         }
-        Err(_) => remarks.refuse(),
+        Err(_) => finding_list.refuse(),
     }
 }
 
-fn add_run(def: &Def, run: &Run<'_>, remarks: &mut Remarks<'_>) {
+fn add_run(def: &Def, run: &Run<'_>, finding_list: &mut FindingList<'_>) {
     let is_grouped = run
         .programs
         .iter()
         .any(|started| base_of(started.path) == GROUP);
     for line in &run.lines {
-        add_shell_line(def, line, is_grouped, remarks);
+        add_shell_line(def, line, is_grouped, finding_list);
     }
     for started in &run.programs {
         if base_of(started.path) == "nohup" {
             let told =
                 "nohup: no HUP comes to a job, and the program stays in the foreground; leave it out";
-            remarks.add(Grade::Note, KeyName::Program, told, &[]);
+            finding_list.add(Severity::Note, KeyName::Program, told, &[]);
         }
     }
     if run.is_whole {
-        add_leaving(run.words.as_slice(), remarks);
+        add_leaving(run.words.as_slice(), finding_list);
     }
 }
 
 // Adds the warnings on the line of a shell. `is_grouped`: TERM reaches all processes of the run.
-fn add_shell_line(def: &Def, line: &Line<'_>, is_grouped: bool, remarks: &mut Remarks<'_>) {
+fn add_shell_line(
+    def: &Def,
+    line: &ShellLine<'_>,
+    is_grouped: bool,
+    finding_list: &mut FindingList<'_>,
+) {
     let is_kept = def.keep_alive() || def.successful_exit().is_some() || def.crashed().is_some();
     let is_plain_shell = matches!(base_of(line.shell), "sh" | "dash" | "ash");
     let is_cut = line.behind > 0 && !line.text.contains('$');
-    remarks.add_if(
+    finding_list.add_if(
         is_cut && (line.behind > 1 || !line.text.trim().contains(' ')),
         KeyName::Program,
         "the shell takes the one argument after -c as the whole line, and later ones as its arguments; write the line as one member",
     );
-    remarks.add_if(
+    finding_list.add_if(
         line.is_left,
         KeyName::Program,
         "the line ends with &, so its run ends at once and the program goes on without the launcher; leave out the &, and write exec before the program",
     );
-    remarks.add_if(
+    finding_list.add_if(
         is_kept && is_plain_shell && !is_grouped && !line.is_replaced && !line.is_left && !is_cut,
         KeyName::Program,
         "the shell waits for the last command of its line: TERM ends the shell alone, and the program goes on; write exec before it, or jobd-group before the shell",
     );
-    let is_given = match gives_below(remarks.alloc, line.text) {
+    let is_given = match gives_below(finding_list.alloc, line.text) {
         Ok(is_given) => is_given,
         Err(_) => {
-            remarks.refuse();
+            finding_list.refuse();
             false
         }
     };
-    remarks.add_if(
+    finding_list.add_if(
         is_given,
         KeyName::Program,
         "root's install -o follows a link that the folder's user may put there; convert the unit again with from-systemd, or have the user make it (setpriv)",
@@ -149,12 +154,14 @@ fn is_line(program: &str) -> bool {
     false
 }
 
-fn add_line(program: &str, remarks: &mut Remarks<'_>) {
-    let mut ink = Ink::new(remarks.alloc);
-    ink.put("the program is the single string ");
-    ink.put_quoted(program);
-    ink.put(", with its spaces; each argument of a command line is a member of ProgramArguments");
-    remarks.add_made(KeyName::Program, ink.into_text());
+fn add_line(program: &str, finding_list: &mut FindingList<'_>) {
+    let mut writer = TextWriter::new(finding_list.alloc);
+    writer.put("the program is the single string ");
+    writer.put_quoted(program);
+    writer.put(
+        ", with its spaces; each argument of a command line is a member of ProgramArguments",
+    );
+    finding_list.add_made(KeyName::Program, writer.into_text());
 }
 
 /// The last part of a path.
@@ -179,7 +186,7 @@ fn is_one(names: &[&str], word: &str) -> bool {
 
 // Adds a warning for the first argument that no program reads as it is written, unless the program or an argument may read such ones. An option and
 // its value in one argument is always such an argument.
-fn add_signs(def: &Def, remarks: &mut Remarks<'_>) {
+fn add_signs(def: &Def, finding_list: &mut FindingList<'_>) {
     let mut found = None;
     let mut is_read = is_one(READERS, def.program());
     for argument in def.arguments() {
@@ -203,7 +210,7 @@ fn add_signs(def: &Def, remarks: &mut Remarks<'_>) {
         before = word;
     }
     if let Some((index, told)) = found {
-        add_sign(index.saturating_add(1), told, def, remarks);
+        add_sign(index.saturating_add(1), told, def, finding_list);
     }
 }
 
@@ -266,20 +273,23 @@ static OF_FILES: &[&str] = &[
     "shred", "stat", "install",
 ];
 
-fn add_sign(member: usize, told: &str, def: &Def, remarks: &mut Remarks<'_>) {
+fn add_sign(member: usize, told: &str, def: &Def, finding_list: &mut FindingList<'_>) {
     let key = key_name(KeyName::ProgramArguments);
     let word = match def.arguments().get(member.saturating_sub(1)) {
         Some(argument) => argument.as_str(),
         None => "",
     };
-    let mut ink = Ink::new(remarks.alloc);
-    ink.fill(
+    let mut writer = TextWriter::new(finding_list.alloc);
+    writer.fill(
         "ProgramArguments: member $ is ",
         &[Number(member.saturating_add(1) as u64)],
     );
-    ink.put_quoted(word);
-    ink.put(told);
-    remarks.push_at(&[Step::Key(key), Step::Member(member)], ink.into_text());
+    writer.put_quoted(word);
+    writer.put(told);
+    finding_list.push_at(
+        &[WayStep::Key(key), WayStep::Member(member)],
+        writer.into_text(),
+    );
 }
 
 static SIGNS: &[&str] = &[

@@ -1,7 +1,7 @@
 //! Which values of a key have a fault.
 
-use crate::check::fit::{Around, fits};
-use crate::check::rules::{Fit, Inside, Rule, VARIABLE, inside_of, rule_of};
+use crate::check::fit::{RuleContext, fits, is_text, is_too_long};
+use crate::check::rules::{Fit, Inside, Rule, STATE, VARIABLE, inside_of, rule_of};
 use history_model::KeyName;
 use json_kinds::kinds::members_or_one_of;
 use serde_json::Value;
@@ -10,11 +10,12 @@ use std::alloc::Global;
 /// A value that has a fault: the rule that it breaks, and where it is below its key.
 #[derive(Clone, Copy, Drop)]
 pub(crate) struct Culprit<'a> {
-    /// How many of these steps lead to it: the key, the member, the key within, the socket, the key of that.
+    /// How many of these steps lead to it: the key, the member, the key within, the socket, the key of that or the path of `PathState`.
     pub(crate) steps: usize,
     pub(crate) member: usize,
     pub(crate) inside: &'a str,
     pub(crate) socket: usize,
+    pub(crate) name: &'a str,
     pub(crate) value: &'a Value,
     pub(crate) rule: Rule,
 }
@@ -40,29 +41,30 @@ pub(crate) fn whole_of(value: &Value, key: KeyName) -> Culprit<'_> {
         member: 0,
         inside: "",
         socket: 0,
+        name: "",
         value,
         rule: rule_of(key),
     }
 }
 
 // What the value of a key must be, given the other keys.
-fn rule_beside(key: KeyName, around: &Around) -> Rule {
+fn rule_beside(key: KeyName, around: &RuleContext) -> Rule {
     let rule = rule_of(key);
-    match key {
-        KeyName::InetdCompatibility if around.has_sockets => Rule {
-            fit: Fit::Waiting,
-            ..rule
-        },
-        _ => rule,
-    }
+    let fit = match key {
+        KeyName::InetdCompatibility if around.has_sockets => Fit::Waiting,
+        KeyName::WatchPaths => Fit::Array(around.room_for_watched()),
+        KeyName::QueueDirectories => Fit::Array(around.room_for_queues()),
+        _ => rule.fit,
+    };
+    Rule { fit, ..rule }
 }
 
-/// The values at or below the key's value that do not fit.
+/// The values at or below the key's value that do not fit. If there are too many of them, those that may stay are looked at as well.
 pub(crate) fn culprits_in<'a>(
     alloc: Global,
     value: &'a Value,
     key: KeyName,
-    around: &Around,
+    around: &RuleContext,
 ) -> Culprits<'a> {
     let mut culprits = Culprits {
         list: Vec::new(alloc),
@@ -75,7 +77,9 @@ pub(crate) fn culprits_in<'a>(
     let inside = inside_of(key, around);
     if !fits(whole.rule.fit, value) {
         culprits.add(whole);
-        return culprits;
+        if !is_too_long(whole.rule.fit, value) {
+            return culprits;
+        }
     }
     match key {
         KeyName::EnvironmentVariables => add_variables(whole, &mut culprits),
@@ -85,13 +89,10 @@ pub(crate) fn culprits_in<'a>(
     culprits
 }
 
-// Adds the items below the value that break a rule; the value itself, if it has too many.
+// Adds the items below the value that break a rule, of as many as it may have.
 fn add_items<'a>(of: Culprit<'a>, inside: &Inside, culprits: &mut Culprits<'a>) {
     let items = members_or_one_of(of.value);
-    if items.len() > inside.most && of.value.is_array() {
-        culprits.add(of);
-        return;
-    }
+    let items = items.get(..inside.most).unwrap_or(items);
     for (index, item) in items.iter().enumerate() {
         let rules = if index == 0 {
             inside.first
@@ -117,34 +118,62 @@ fn add_item<'a>(
         } else {
             item.get(rule.name)
         };
-        match found {
-            Some(value) if !fits(rule.fit, value) => {
-                culprits.add(below(of, index, value, *rule));
-                if is_own {
-                    return;
-                }
+        let Some(value) = found else {
+            continue;
+        };
+        let here = below(of, index, value, *rule);
+        if !fits(rule.fit, value) {
+            culprits.add(here);
+            if is_own {
+                return;
             }
-            _ => {}
+        }
+        if let Fit::States(_) = rule.fit {
+            add_states(here, culprits);
         }
     }
 }
 
-// The value below this one that breaks the rule.
+// Adds the paths of `PathState` that break the rule.
+fn add_states<'a>(states: Culprit<'a>, culprits: &mut Culprits<'a>) {
+    if let Value::Object(members) = states.value {
+        for (path, found) in members.iter() {
+            if !is_text(path.as_str(), 1, 1024) || !found.is_boolean() {
+                culprits.add(Culprit {
+                    steps: 5,
+                    name: path.as_str(),
+                    value: found,
+                    rule: STATE,
+                    ..states
+                });
+            }
+        }
+    }
+}
+
+// The value below this one that the rule is for.
 fn below<'a>(of: Culprit<'a>, index: usize, value: &'a Value, rule: Rule) -> Culprit<'a> {
     if of.steps == 3 {
         return Culprit {
-            steps: 5,
+            steps: if rule.name.is_empty() { 4 } else { 5 },
             socket: index,
+            name: rule.name,
             value,
             rule,
             ..of
         };
     }
+    let steps = match (rule.name.is_empty(), of.value.is_array()) {
+        (true, true) => 2,
+        (true, false) => 1,
+        (false, _) => 3,
+    };
     Culprit {
-        steps: if rule.name.is_empty() { 2 } else { 3 },
+        steps,
         member: index,
         inside: rule.name,
         socket: 0,
+        name: "",
         value,
         rule,
     }
@@ -154,7 +183,7 @@ fn below<'a>(of: Culprit<'a>, index: usize, value: &'a Value, rule: Rule) -> Cul
 fn add_variables<'a>(whole: Culprit<'a>, culprits: &mut Culprits<'a>) {
     if let Value::Object(members) = whole.value {
         for (name, found) in members.iter() {
-            let is_name = !name.is_empty() && name.len() <= 255 && !name.as_str().contains('=');
+            let is_name = is_text(name.as_str(), 1, 255) && !name.as_str().contains('=');
             if !is_name || (found.is_string() && !fits(VARIABLE.fit, found)) {
                 culprits.add(under(whole, name.as_str(), found, VARIABLE));
             }

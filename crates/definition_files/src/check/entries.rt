@@ -1,15 +1,15 @@
 //! What may be wrong with the entries of a calendar.
 
 use crate::check::changes::Change;
-use crate::check::finding::Grade;
+use crate::check::finding::Severity;
+use crate::check::finding_list::FindingList;
 use crate::check::mistakes::{Mistake, made_by};
-use crate::check::place::{Step, place_by};
-use crate::check::remarks::Remarks;
+use crate::check::place::{WayStep, place_by};
 use calendar_due::Calendar;
 use history_model::{CivilMinute, Entry, KeyName};
 use json_kinds::key_name;
-use run_times::Ink;
 use run_times::Piece::{Number, Text, TwoDigits};
+use run_times::TextWriter;
 
 const MONTHS: &[&str] = &[
     "January",
@@ -33,25 +33,29 @@ fn month_name(month: u8) -> &'static str {
     }
 }
 
-/// Adds the remarks on entries of an hour that the clock skips at a change, or shows twice.
-pub(crate) fn add_entries(entries: &[Entry], changes: &[Change], remarks: &mut Remarks<'_>) {
+/// Adds the findings on entries of an hour that the clock skips at a change, or shows twice.
+pub(crate) fn add_entries(
+    entries: &[Entry],
+    changes: &[Change],
+    finding_list: &mut FindingList<'_>,
+) {
     for (index, entry) in entries.iter().enumerate() {
         if entry.hour.is_some() && !made_by(Mistake::NeverMatches, entry) {
-            add_changed(&way_to(index), entry, changes, remarks);
+            add_changed(&way_to(index), entry, changes, finding_list);
         }
     }
 }
 
-fn way_to(index: usize) -> [Step<'static>; 2] {
+fn way_to(index: usize) -> [WayStep<'static>; 2] {
     let key = key_name(KeyName::StartCalendarInterval);
-    [Step::Key(key), Step::Member(index)]
+    [WayStep::Key(key), WayStep::Member(index)]
 }
 
 /// Adds a remark for each entry that makes this mistake.
-pub(crate) fn add_made_by(mistake: Mistake, entries: &[Entry], remarks: &mut Remarks<'_>) {
+pub(crate) fn add_made_by(mistake: Mistake, entries: &[Entry], finding_list: &mut FindingList<'_>) {
     for (index, entry) in entries.iter().enumerate() {
         if made_by(mistake, entry) {
-            let (grade, form) = form_for(mistake, entry);
+            let (severity, form) = form_for(mistake, entry);
             // Only the month is named before the number.
             let (number, first) = match mistake {
                 Mistake::NeverMatches => (entry.day, 0),
@@ -61,35 +65,35 @@ pub(crate) fn add_made_by(mistake: Mistake, entries: &[Entry], remarks: &mut Rem
             };
             let month = month_name(entry.month.unwrap_or(0));
             let pieces = [Text(month), Number(u64::from(number.unwrap_or(0)))];
-            let mut ink = Ink::new(remarks.alloc);
-            ink.fill(form, pieces.get(first..).unwrap_or(&[]));
-            let place = place_by(remarks.text, remarks.marks, &way_to(index), false);
-            remarks.push(place, grade, ink.into_text());
+            let mut writer = TextWriter::new(finding_list.alloc);
+            writer.fill(form, pieces.get(first..).unwrap_or(&[]));
+            let place = place_by(finding_list.text, finding_list.marks, &way_to(index), false);
+            finding_list.push(place, severity, writer.into_text());
         }
     }
 }
 
 // How grave it is, and the form. Its hole is for the hour, the minute or the day that is named. For an entry that never matches the month comes
 // first.
-fn form_for(mistake: Mistake, entry: &Entry) -> (Grade, &'static str) {
+fn form_for(mistake: Mistake, entry: &Entry) -> (Severity, &'static str) {
     match mistake {
         Mistake::NeverMatches => (
-            Grade::Warning,
+            Severity::Warning,
             "StartCalendarInterval: $ has no day $, so this entry never matches",
         ),
         Mistake::EachHour => (
-            Grade::Note,
+            Severity::Note,
             "StartCalendarInterval: Hour is absent: it starts in each of the 24 hours of the day, at minute $; is \"Hour\": 0 meant?",
         ),
         Mistake::ShortMonth => (
-            Grade::Note,
+            Severity::Note,
             "StartCalendarInterval: months without a day $ are left out",
         ),
         Mistake::EitherDay => (
-            Grade::Warning,
+            Severity::Warning,
             "StartCalendarInterval: of Day and Weekday either suffices, so it starts on each such day and on each such weekday",
         ),
-        _ => (Grade::Warning, each_minute_form(entry)),
+        _ => (Severity::Warning, each_minute_form(entry)),
     }
 }
 
@@ -104,10 +108,15 @@ fn each_minute_form(entry: &Entry) -> &'static str {
     }
 }
 
-fn add_changed(way: &[Step<'_>], entry: &Entry, changes: &[Change], remarks: &mut Remarks<'_>) {
+fn add_changed(
+    way: &[WayStep<'_>],
+    entry: &Entry,
+    changes: &[Change],
+    finding_list: &mut FindingList<'_>,
+) {
     for change in changes {
         if let Some(minute) = first_matched(entry, change.minutes.as_slice()) {
-            add_change(way, change.is_skipped, &minute, remarks);
+            add_change(way, change.is_skipped, &minute, finding_list);
         }
     }
 }
@@ -122,7 +131,12 @@ fn first_matched(entry: &Entry, minutes: &[CivilMinute]) -> Option<CivilMinute> 
     None
 }
 
-fn add_change(way: &[Step<'_>], is_skipped: bool, minute: &CivilMinute, remarks: &mut Remarks<'_>) {
+fn add_change(
+    way: &[WayStep<'_>],
+    is_skipped: bool,
+    minute: &CivilMinute,
+    finding_list: &mut FindingList<'_>,
+) {
     let form = if is_skipped {
         "StartCalendarInterval: the clock skips $:$ on $ $, $: this entry does not match then"
     } else {
@@ -135,5 +149,5 @@ fn add_change(way: &[Step<'_>], is_skipped: bool, minute: &CivilMinute, remarks:
         Number(u64::from(minute.day)),
         Number(minute.year.max(0) as u64),
     ];
-    remarks.add_at(way, form, &pieces);
+    finding_list.add_at(way, form, &pieces);
 }

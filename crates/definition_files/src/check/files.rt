@@ -4,14 +4,16 @@ ghost use Rattle.std.specs.Prelude.{◌≡◌, IfOk};
 ghost use Rattle.job_defs.specs.Keys.{def_of};
 ghost use Rattle.definition_files.specs.Reads.{AreVerdicts, IsCheckStatus, Reads, ReadsOne, load_verdict};
 
+use crate::check::finding_list::FindingList;
 use crate::check::lines::{Lines, lines_of};
 use crate::check::outline::outline_of;
 use crate::check::private::add_private;
-use crate::check::remarks::Remarks;
 use crate::check::sockets::add_sockets;
 use crate::check::there::add_missing;
-use crate::check::{Change, Checked, Grade, Place, Remark, changes_ahead, check_def, summary_of};
-use crate::files::{Asked, Contents, DefinitionSource};
+use crate::check::{
+    Change, Checked, Finding, Position, Severity, changes_ahead, check_def, summary_of,
+};
+use crate::files::{Contents, DefinitionQuery, DefinitionSource};
 use crate::folder::laid_out;
 use crate::lists::json_of_list;
 use crate::verdict::{Verdict, Verdicts};
@@ -19,15 +21,15 @@ use files_and_process::path_files::Found;
 use history_model::{KeyName, Reason};
 use job_defs::Def;
 use json_kinds::reason_name;
-use run_times::Ink;
 use run_times::Piece::Text;
+use run_times::TextWriter;
 use run_times::telling::Outcome;
 use std::alloc::{AllocError, Global};
 
 /// What was found so far, besides the verdicts.
 #[derive(Drop)]
 struct Findings {
-    ink: Ink,
+    writer: TextWriter,
     /// The labels so far, each with the file that has it.
     labels: Vec<(String, String)>,
     has_warnings: bool,
@@ -45,7 +47,7 @@ pub fn check_files<S: DefinitionSource>(
     alloc: Global,
     source: &mut S,
     files: &[Found],
-    of: &Asked<'_>,
+    of: &DefinitionQuery<'_>,
     is_strict: bool,
 ) -> Result<Outcome, AllocError>
     ensures status { IfOk result (λ outcome. Reads files.now
@@ -53,7 +55,7 @@ pub fn check_files<S: DefinitionSource>(
 {
     let changes = changes_ahead(alloc, of.zone, of.from)?;
     let mut findings = Findings {
-        ink: Ink::new(alloc),
+        writer: TextWriter::new(alloc),
         labels: Vec::new(alloc),
         has_warnings: false,
         has_calendars: false,
@@ -96,18 +98,18 @@ fn outcome_of(
     ensures { IfOk result (λ outcome. outcome.status ≡ status) }
 {
     let Findings {
-        ink,
+        writer,
         labels,
         has_calendars,
         is_json,
         ..
     } = findings;
     drop(labels);
-    let mut all = Ink::new(alloc);
+    let mut all = TextWriter::new(alloc);
     if has_calendars && !is_json {
         all.put(zone_line);
     }
-    all.put_made(ink.into_text());
+    all.put_made(writer.into_text());
     match all.into_text() {
         Ok(text) => Ok(Outcome { text, status }),
         Err(error) => Err(error),
@@ -175,11 +177,11 @@ fn check_bytes(
         Checked::Loads {
             def,
             mistakes,
-            remarks,
+            finding_list,
         } => {
             drop(mistakes);
-            let added = add_definition(host, alloc, path, bytes, &def, &remarks, findings);
-            drop(remarks);
+            let added = add_definition(host, alloc, path, bytes, &def, &finding_list, findings);
+            drop(finding_list);
             drop(def);
             match added {
                 Ok(()) => Ok(Verdict::Well),
@@ -194,7 +196,7 @@ fn check_bytes(
             ..
         } => {
             let lines = lines_of(alloc, path, bytes, findings.is_json);
-            put_refused(&lines, reason, place, text, further, &mut findings.ink);
+            put_refused(&lines, reason, place, text, further, &mut findings.writer);
             drop(lines);
             let added = match reason {
                 Reason::NotJson => add_list(host, alloc, path, bytes, changes, findings),
@@ -212,14 +214,14 @@ fn check_bytes(
 fn put_refused(
     lines: &Lines<'_>,
     reason: Reason,
-    place: Option<Place>,
+    place: Option<Position>,
     text: String,
-    further: Vec<Remark>,
-    ink: &mut Ink,
+    further: Vec<Finding>,
+    writer: &mut TextWriter,
 ) {
     let code = reason_name(reason);
-    lines.put(place, Grade::Error, code, text.as_str(), ink);
-    lines.put_all(further.as_slice(), ink);
+    lines.put(place, Severity::Error, code, text.as_str(), writer);
+    lines.put_all(further.as_slice(), writer);
     drop(text);
     drop(further);
 }
@@ -257,7 +259,7 @@ fn add_shown(
     changes: &[Change],
     findings: &mut Findings,
 ) -> Result<(), AllocError> {
-    let mut named = Ink::new(alloc);
+    let mut named = TextWriter::new(alloc);
     named.put_all(&[Text(path), Text(" as JSON")]);
     let named = named.into_text()?;
     let checked = check_def(alloc, shown, changes);
@@ -271,7 +273,7 @@ fn add_shown(
             Checked::Loads {
                 def,
                 mistakes,
-                remarks,
+                finding_list,
             },
         ) => {
             drop(mistakes);
@@ -281,10 +283,10 @@ fn add_shown(
                 named.as_str(),
                 shown,
                 &def,
-                &remarks,
+                &finding_list,
                 findings,
             );
-            drop(remarks);
+            drop(finding_list);
             drop(def);
             added
         }
@@ -298,7 +300,7 @@ fn add_shown(
             },
         ) => {
             let lines = lines_of(alloc, named.as_str(), shown, findings.is_json);
-            put_refused(&lines, reason, place, text, further, &mut findings.ink);
+            put_refused(&lines, reason, place, text, further, &mut findings.writer);
             drop(lines);
             Ok(())
         }
@@ -311,40 +313,53 @@ fn add_shown(
 // Adds what the JSON of a property list would come to.
 fn add_note(alloc: Global, path: &str, verdict: &'static str, findings: &mut Findings) {
     let lines = lines_of(alloc, path, &[], findings.is_json);
-    let mut told = Ink::new(alloc);
+    let mut told = TextWriter::new(alloc);
     told.put_all(&[
         Text("it is a property list in XML: as JSON (jobscope plist) it would be "),
         Text(verdict),
     ]);
     match told.into_text() {
         Ok(told) => {
-            lines.put(None, Grade::Note, "", told.as_str(), &mut findings.ink);
+            lines.put(
+                None,
+                Severity::Note,
+                "",
+                told.as_str(),
+                &mut findings.writer,
+            );
             drop(told);
         }
-        Err(_) => findings.ink.refuse(),
+        Err(_) => findings.writer.refuse(),
     }
     drop(lines);
 }
 
-// Adds what is found of a definition that loads, after the remarks on its text.
+// Adds what is found of a definition that loads, after the findings on its text.
 fn add_definition(
     host: &HostRuntime,
     alloc: Global,
     path: &str,
     bytes: &[u8],
     def: &Def,
-    remarks: &[Remark],
+    finding_list: &[Finding],
     findings: &mut Findings,
 ) -> Result<(), AllocError> {
     let lines = lines_of(alloc, path, bytes, findings.is_json);
-    let mut outside = Remarks::new(alloc, lines.text, lines.marks());
+    let mut outside = FindingList::new(alloc, lines.text, lines.marks());
     add_missing(host, def, &mut outside);
     add_sockets(host, def, &mut outside);
     add_private(host, path, def, &mut outside);
     add_label(alloc, path, def, findings, &mut outside);
     let told = match outside.into_list() {
         Ok(outside) => {
-            add_loading(alloc, def, &lines, remarks, outside.as_slice(), findings);
+            add_loading(
+                alloc,
+                def,
+                &lines,
+                finding_list,
+                outside.as_slice(),
+                findings,
+            );
             drop(outside);
             Ok(())
         }
@@ -360,18 +375,18 @@ fn add_label(
     path: &str,
     def: &Def,
     findings: &mut Findings,
-    remarks: &mut Remarks<'_>,
+    finding_list: &mut FindingList<'_>,
 ) {
     match path_with(findings.labels.as_slice(), def.label()) {
-        Some(other) => remarks.add(
-            Grade::Warning,
+        Some(other) => finding_list.add(
+            Severity::Warning,
             KeyName::Label,
             "Label: $ has this label too; only one of them can be loaded",
             &[Text(other)],
         ),
         None => {
             if keep_label(alloc, path, def.label(), findings).is_err() {
-                remarks.refuse();
+                finding_list.refuse();
             }
         }
     }
@@ -402,28 +417,28 @@ fn path_with<'a>(labels: &'a [(String, String)], label: &str) -> Option<&'a str>
     None
 }
 
-// Adds the lines of a definition that loads: its remarks, and that all is well if there is no warning.
+// Adds the lines of a definition that loads: its findings, and that all is well if there is no warning.
 fn add_loading(
     alloc: Global,
     def: &Def,
     lines: &Lines<'_>,
-    remarks: &[Remark],
-    outside: &[Remark],
+    finding_list: &[Finding],
+    outside: &[Finding],
     findings: &mut Findings,
 ) {
     findings.has_calendars = findings.has_calendars || !def.calendar().is_empty();
-    if has_warning(remarks) || has_warning(outside) {
+    if has_warning(finding_list) || has_warning(outside) {
         findings.has_warnings = true;
     } else {
-        lines.put_well(summary_of(alloc, def), &mut findings.ink);
+        lines.put_well(summary_of(alloc, def), &mut findings.writer);
     }
-    lines.put_all(remarks, &mut findings.ink);
-    lines.put_all(outside, &mut findings.ink);
+    lines.put_all(finding_list, &mut findings.writer);
+    lines.put_all(outside, &mut findings.writer);
 }
 
-fn has_warning(remarks: &[Remark]) -> bool {
-    for remark in remarks {
-        if let Grade::Warning = remark.grade {
+fn has_warning(finding_list: &[Finding]) -> bool {
+    for finding in finding_list {
+        if let Severity::Warning = finding.severity {
             return true;
         }
     }

@@ -3,19 +3,19 @@
 use history_model::Reading;
 use json_lines::{Field, Value, put_line};
 use run_times::Piece::{Number, Text};
-use run_times::{Ink, Page, utc};
+use run_times::{Page, TextWriter, utc};
 use std::alloc::{AllocError, Global};
 
 /// A place in a text: its line, and its character in the line, both from 1.
 #[derive(Clone, Copy, Drop)]
-pub struct Place {
+pub struct Position {
     pub line: usize,
     pub column: usize,
 }
 
 /// How grave a finding is.
 #[derive(Clone, Copy, Drop)]
-pub enum Grade {
+pub enum Severity {
     /// The definition is refused.
     Error,
     /// It would be refused for this too, if the first fault were mended.
@@ -28,19 +28,19 @@ pub enum Grade {
 
 /// A finding on a definition, besides why a load refuses it.
 #[derive(Drop)]
-pub struct Remark {
-    pub place: Option<Place>,
-    pub grade: Grade,
+pub struct Finding {
+    pub place: Option<Position>,
+    pub severity: Severity,
     pub text: String,
 }
 
 /// The name of a grade.
-pub(crate) fn grade_name(grade: Grade) -> &'static str {
-    match grade {
-        Grade::Error => "error",
-        Grade::Also => "also",
-        Grade::Warning => "warning",
-        Grade::Note => "note",
+pub(crate) fn severity_name(severity: Severity) -> &'static str {
+    match severity {
+        Severity::Error => "error",
+        Severity::Also => "also",
+        Severity::Warning => "warning",
+        Severity::Note => "note",
     }
 }
 
@@ -49,29 +49,29 @@ pub(crate) fn grade_name(grade: Grade) -> &'static str {
 pub fn finding_line(
     alloc: Global,
     file: &str,
-    place: Option<Place>,
+    place: Option<Position>,
     way: &str,
-    grade: Grade,
+    severity: Severity,
     text: &str,
 ) -> Result<String, AllocError> {
-    let word = grade_name(grade);
-    let mut ink = Ink::new(alloc);
-    ink.put_plain(file);
-    if let Some(Place { line, column }) = place {
-        ink.fill(":$:$", &[Number(line as u64), Number(column as u64)]);
+    let word = severity_name(severity);
+    let mut writer = TextWriter::new(alloc);
+    writer.put_plain(file);
+    if let Some(Position { line, column }) = place {
+        writer.fill(":$:$", &[Number(line as u64), Number(column as u64)]);
     }
     if !way.is_empty() {
-        ink.fill(" ($)", &[Text(way)]);
+        writer.fill(" ($)", &[Text(way)]);
     }
-    ink.fill(": $: $\n", &[Text(word), Text(text)]);
-    ink.into_text()
+    writer.fill(": $: $\n", &[Text(word), Text(text)]);
+    writer.into_text()
 }
 
 /// The object of a finding, or with the severity `ok`, that all is well. The code of an error is that of a load. Empty members are left out.
 pub(crate) fn finding_object<'x>(
     alloc: Global,
     file: &str,
-    place: Option<Place>,
+    place: Option<Position>,
     way: &'x str,
     severity: &'static str,
     code: &'static str,
@@ -80,7 +80,10 @@ pub(crate) fn finding_object<'x>(
     let zone = utc();
     let mut page = Page::new(alloc, &zone, Reading { up: 0, wall: 0 });
     let (line, column) = match place {
-        Some(Place { line, column }) => (Value::Number(line as u64), Value::Number(column as u64)),
+        Some(Position { line, column }) => (
+            Value::Number(line as u64),
+            Value::Number(column as u64),
+        ),
         None => (Value::Absent, Value::Absent),
     };
     let fields = [

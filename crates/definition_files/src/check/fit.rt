@@ -4,25 +4,63 @@ use crate::check::rules::Fit;
 use history_model::{KeyName, is_label};
 use json_kinds::key_name;
 use json_kinds::kinds::members_or_one_of;
-use json_kinds::names::{PATH_NAME, SERVICE_NAME, WAIT};
+use json_kinds::names::{PATH_NAME, PATH_STATE, SERVICE_NAME, WAIT};
 use serde_json::Value;
 
 /// What else is in a definition and decides what the value of a key must be.
 #[derive(Clone, Copy)]
-pub(crate) struct Around {
+pub(crate) struct RuleContext {
     pub(crate) has_program: bool,
+    /// Whether it has sockets, or something else in their place.
     pub(crate) has_sockets: bool,
+    /// How many paths `PathState` has.
+    states: usize,
+    /// How many paths `WatchPaths` has.
+    watched: usize,
+}
+
+/// The most paths of a definition: those of `PathState`, `WatchPaths` and `QueueDirectories` together.
+const MOST_PATHS: usize = 64;
+
+impl RuleContext {
+    /// How many paths `WatchPaths` may have.
+    pub(crate) fn room_for_watched(&self) -> usize {
+        MOST_PATHS.saturating_sub(self.states)
+    }
+
+    /// How many paths `QueueDirectories` may have.
+    pub(crate) fn room_for_queues(&self) -> usize {
+        self.room_for_watched().saturating_sub(self.watched)
+    }
 }
 
 /// What else a definition has that decides this.
-pub(crate) fn around_in(def: &Value) -> Around {
-    let sockets = match def.get(key_name(KeyName::Sockets)) {
-        Some(found) => sockets_in(found),
-        None => 0,
-    };
-    Around {
+pub(crate) fn around_in(def: &Value) -> RuleContext {
+    RuleContext {
         has_program: def.get(key_name(KeyName::Program)).is_some(),
-        has_sockets: sockets > 0,
+        has_sockets: match def.get(key_name(KeyName::Sockets)) {
+            Some(found) => !found.is_object() || sockets_in(found) > 0,
+            None => false,
+        },
+        states: states_in(def),
+        watched: watched_in(def),
+    }
+}
+
+fn states_in(def: &Value) -> usize {
+    match def.get(key_name(KeyName::KeepAlive)) {
+        Some(conditions) => match conditions.get(PATH_STATE) {
+            Some(Value::Object(paths)) => paths.len(),
+            _ => 0,
+        },
+        None => 0,
+    }
+}
+
+fn watched_in(def: &Value) -> usize {
+    match def.get(key_name(KeyName::WatchPaths)) {
+        Some(Value::Array(paths)) => paths.len(),
+        _ => 0,
     }
 }
 
@@ -40,7 +78,6 @@ pub(crate) fn sockets_in(value: &Value) -> usize {
 /// Whether the value is what it is to be.
 pub(crate) fn fits(fit: Fit, value: &Value) -> bool {
     let text = value.as_str().unwrap_or("");
-    let size = text.len();
     // Beyond each bound, if it is not a whole number.
     let number = value.as_u64().unwrap_or(u64::MAX);
     match fit {
@@ -49,21 +86,22 @@ pub(crate) fn fits(fit: Fit, value: &Value) -> bool {
         Fit::Flag => value.is_boolean(),
         Fit::Just(wanted) => value.as_bool() == Some(wanted),
         Fit::Number(low, high) => low <= number && number <= high,
-        Fit::Text(low, high) => {
-            value.is_string() && low <= size && size <= high && !text.as_bytes().contains(&0)
-        }
+        Fit::Text(low, high) => value.is_string() && is_text(text, low, high),
         Fit::Either(one, other) => text == one || text == other,
         Fit::Array(most) => match value.as_array() {
             Some(items) => items.len() <= most,
             None => false,
         },
-        Fit::Dictionary(most) => match value.as_object() {
+        Fit::Entries(most) => match value.as_array() {
+            Some(items) => items.len() <= most,
+            None => true,
+        },
+        Fit::Dictionary(most) | Fit::States(most) => match value.as_object() {
             Some(members) => members.len() <= most,
             None => false,
         },
         Fit::Label => value.is_string() && is_label(text),
         Fit::Conditions => value.is_boolean() || value.is_object(),
-        Fit::States => are_states(value),
         Fit::Sockets(most) => value.is_object() && sockets_in(value) <= most,
         Fit::Waiting => value.get(WAIT).is_some(),
         Fit::Address => value.get(PATH_NAME).is_some() || value.get(SERVICE_NAME).is_some(),
@@ -75,18 +113,19 @@ pub(crate) fn fits(fit: Fit, value: &Value) -> bool {
     }
 }
 
-// At most 64 paths of 1 to 1,024 bytes, none of them 0, each true or false.
-fn are_states(value: &Value) -> bool {
-    let Value::Object(members) = value else {
-        return false;
-    };
-    for (path, present) in members.iter() {
-        let is_path = !path.is_empty() && path.len() <= 1024 && !path.as_bytes().contains(&0);
-        if !is_path || !present.is_boolean() {
-            return false;
-        }
+/// Whether the text has at least `low` bytes and at most `high`, none of them 0.
+pub(crate) fn is_text(text: &str, low: usize, high: usize) -> bool {
+    let size = text.len();
+    low <= size && size <= high && !text.as_bytes().contains(&0)
+}
+
+/// Whether a value that does not fit is of the right kind, and only has too many members.
+pub(crate) fn is_too_long(fit: Fit, value: &Value) -> bool {
+    match fit {
+        Fit::Array(_) | Fit::Entries(_) => value.is_array(),
+        Fit::Dictionary(_) | Fit::Sockets(_) => value.is_object(),
+        _ => false,
     }
-    members.len() <= 64
 }
 
 fn is_host(text: &str) -> bool {

@@ -1,30 +1,30 @@
 //! Programs that leave the foreground: their first process ends at once, and with it the run.
 
 use crate::check::command::name_of;
-use crate::check::leaving::{FIFTH, FIRST, FOURTH, Row, SECOND, THIRD};
+use crate::check::finding_list::FindingList;
+use crate::check::leaving::{FIFTH, FIRST, FOURTH, LeavingProgram, SECOND, THIRD};
 use crate::check::program::{base_of, is_joined};
-use crate::check::remarks::Remarks;
 use history_model::KeyName;
-use run_times::Ink;
 use run_times::Piece::Text;
+use run_times::TextWriter;
 
 /// What the arguments say of the foreground.
 #[derive(Clone, Copy)]
-struct Said {
+struct ForegroundArguments {
     stays: bool,
     /// The argument that leads it away; empty, if none does.
     leaves: &'static str,
 }
 
 /// Adds a warning if the program leaves the foreground with this command line, which begins with its name.
-pub(crate) fn add_leaving(words: &[&str], remarks: &mut Remarks<'_>) {
+pub(crate) fn add_leaving(words: &[&str], finding_list: &mut FindingList<'_>) {
     let Some(path) = words.first() else {
         return;
     };
     let path: &str = *path;
     let rest = words.get(1..).unwrap_or(&[]);
     if let Some((advice, word)) = advice_for(base_of(path), rest) {
-        add_told(name_of(path), advice, word, remarks);
+        add_told(name_of(path), advice, word, finding_list);
     }
 }
 
@@ -59,7 +59,11 @@ fn in_fifth(name: &str, arguments: &[&str]) -> Option<(&'static str, &'static st
 }
 
 // The same only by these rows.
-fn advice_in(rows: &[Row], name: &str, arguments: &[&str]) -> Option<(&'static str, &'static str)> {
+fn advice_in(
+    rows: &[LeavingProgram],
+    name: &str,
+    arguments: &[&str],
+) -> Option<(&'static str, &'static str)> {
     for row in rows {
         if row.name == name {
             let advice = advice_of(row, arguments);
@@ -71,7 +75,7 @@ fn advice_in(rows: &[Row], name: &str, arguments: &[&str]) -> Option<(&'static s
     None
 }
 
-fn advice_of(row: &Row, arguments: &[&str]) -> Option<(&'static str, &'static str)> {
+fn advice_of(row: &LeavingProgram, arguments: &[&str]) -> Option<(&'static str, &'static str)> {
     let said = said_by(row, arguments);
     let is_led = row.leaves.is_empty() || !said.leaves.is_empty();
     if !is_led || said.stays {
@@ -83,18 +87,18 @@ fn advice_of(row: &Row, arguments: &[&str]) -> Option<(&'static str, &'static st
     }
 }
 
-fn add_told(name: &str, advice: &str, word: &str, remarks: &mut Remarks<'_>) {
-    let mut ink = Ink::new(remarks.alloc);
-    ink.fill(
+fn add_told(name: &str, advice: &str, word: &str, finding_list: &mut FindingList<'_>) {
+    let mut writer = TextWriter::new(finding_list.alloc);
+    writer.fill(
         "the program $ leaves the foreground, and its run ends at once$$",
         &[Text(name), Text(advice), Text(word)],
     );
-    remarks.add_made(KeyName::Program, ink.into_text());
+    finding_list.add_made(KeyName::Program, writer.into_text());
 }
 
 // Each argument is read as getopt(3) reads it: letters after one -, up to one that takes a value. The value of an option does not count as an option.
-fn said_by(row: &Row, arguments: &[&str]) -> Said {
-    let mut said = Said {
+fn said_by(row: &LeavingProgram, arguments: &[&str]) -> ForegroundArguments {
+    let mut said = ForegroundArguments {
         stays: false,
         leaves: "",
     };
@@ -116,7 +120,7 @@ fn said_by(row: &Row, arguments: &[&str]) -> Said {
 }
 
 // Whether the argument, with the next one, is one that a row names as a whole.
-fn is_known(row: &Row, given: &str, next: &str, said: &mut Said) -> bool {
+fn is_known(row: &LeavingProgram, given: &str, next: &str, said: &mut ForegroundArguments) -> bool {
     let stays = named_in(row.stays, given, next);
     let leaves = named_in(row.leaves, given, next);
     said.stays = said.stays || stays.is_some();
@@ -145,7 +149,7 @@ fn named_in(forms: &[&'static str], given: &str, next: &str) -> Option<&'static 
 }
 
 // Letters after one -. It returns whether the last of them takes the next argument.
-fn read_letters(row: &Row, given: &str, said: &mut Said) -> bool {
+fn read_letters(row: &LeavingProgram, given: &str, said: &mut ForegroundArguments) -> bool {
     let letters = given.as_bytes();
     if letters.first() != Some(&b'-') || letters.get(1) == Some(&b'-') {
         return false;

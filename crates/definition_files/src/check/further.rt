@@ -1,38 +1,38 @@
 //! What is wrong with a definition besides the fault for which a load refuses it.
 
 use crate::check::culprit::{Culprit, culprits_in};
-use crate::check::finding::{Grade, Place};
-use crate::check::fit::{Around, around_in};
+use crate::check::finding::{Position, Severity};
+use crate::check::finding_list::FindingList;
+use crate::check::fit::{RuleContext, around_in};
 use crate::check::names::add_ignored;
 use crate::check::outline::begin_at;
 use crate::check::place::place_at;
 use crate::check::refusal::{place_of_culprit, put_fault, put_missing};
-use crate::check::remarks::Remarks;
 use crate::check::twice::add_twice;
 use history_model::{KeyName, Reason};
 use json_kinds::key_name;
 use json_kinds::names::ALL;
-use run_times::Ink;
 use run_times::Piece::Number;
+use run_times::TextWriter;
 use serde_json::Value;
 
 /// Adds a remark for each further fault of the object, whose first fault is of this key, and for each of its ignored keys.
-pub(crate) fn add_further(value: &Value, first: KeyName, remarks: &mut Remarks<'_>) {
+pub(crate) fn add_further(value: &Value, first: KeyName, finding_list: &mut FindingList<'_>) {
     let around = around_in(value);
     for key in ALL.iter() {
         match value.get(key_name(*key)) {
-            Some(found) => add_faults(found, *key, *key == first, &around, remarks),
-            None => add_lacking(value, *key, *key == first, &around, remarks),
+            Some(found) => add_faults(found, *key, *key == first, &around, finding_list),
+            None => add_lacking(value, *key, *key == first, &around, finding_list),
         }
     }
     if let Value::Object(members) = value {
         for (name, _) in members.iter() {
             if !is_read(name.as_str()) {
-                add_ignored(remarks, name.as_str());
+                add_ignored(finding_list, name.as_str());
             }
         }
     }
-    add_twice(remarks);
+    add_twice(finding_list);
 }
 
 fn is_read(name: &str) -> bool {
@@ -49,50 +49,50 @@ fn add_faults(
     found: &Value,
     key: KeyName,
     is_first: bool,
-    around: &Around,
-    remarks: &mut Remarks<'_>,
+    around: &RuleContext,
+    finding_list: &mut FindingList<'_>,
 ) {
-    let culprits = culprits_in(remarks.alloc, found, key, around);
+    let culprits = culprits_in(finding_list.alloc, found, key, around);
     if culprits.is_refused {
-        remarks.refuse();
+        finding_list.refuse();
     }
     let mut is_told = is_first;
     for culprit in culprits.list.iter() {
         if is_told {
             is_told = false;
         } else {
-            add_fault(key, culprit, remarks);
+            add_fault(key, culprit, finding_list);
         }
     }
     drop(culprits);
     if !is_first && lacks_program(found, key, around) {
         let told = "ProgramArguments is empty: its first member is the program";
-        remarks.add(Grade::Also, key, told, &[]);
+        finding_list.add(Severity::Also, key, told, &[]);
     }
 }
 
 // There are no arguments, and no other key names the program.
-fn lacks_program(found: &Value, key: KeyName, around: &Around) -> bool {
+fn lacks_program(found: &Value, key: KeyName, around: &RuleContext) -> bool {
     match (key, found) {
         (KeyName::ProgramArguments, Value::Array(items)) => items.is_empty() && !around.has_program,
         _ => false,
     }
 }
 
-fn add_fault(key: KeyName, culprit: &Culprit<'_>, remarks: &mut Remarks<'_>) {
-    let mut ink = Ink::new(remarks.alloc);
-    put_fault(remarks.alloc, &mut ink, key, false, culprit);
-    let place = place_of_culprit(remarks, key, culprit);
-    remarks.push(place, Grade::Also, ink.into_text());
+fn add_fault(key: KeyName, culprit: &Culprit<'_>, finding_list: &mut FindingList<'_>) {
+    let mut writer = TextWriter::new(finding_list.alloc);
+    put_fault(finding_list.alloc, &mut writer, key, false, culprit);
+    let place = place_of_culprit(finding_list, key, culprit);
+    finding_list.push(place, Severity::Also, writer.into_text());
 }
 
-// Adds the remarks on a key that is absent and required.
+// Adds the findings on a key that is absent and required.
 fn add_lacking(
     value: &Value,
     key: KeyName,
     is_first: bool,
-    around: &Around,
-    remarks: &mut Remarks<'_>,
+    around: &RuleContext,
+    finding_list: &mut FindingList<'_>,
 ) {
     let is_wanted = match key {
         KeyName::Label => true,
@@ -101,14 +101,14 @@ fn add_lacking(
         _ => false,
     };
     if is_wanted && !is_first {
-        let mut ink = Ink::new(remarks.alloc);
-        put_missing(&mut ink, Reason::Missing, key);
-        let place = Some(begin_of(remarks));
-        remarks.push(place, Grade::Also, ink.into_text());
+        let mut writer = TextWriter::new(finding_list.alloc);
+        put_missing(&mut writer, Reason::Missing, key);
+        let place = Some(begin_of(finding_list));
+        finding_list.push(place, Severity::Also, writer.into_text());
     }
     match key {
-        KeyName::InetdCompatibility if is_wanted && value.is_object() => remarks.add(
-            Grade::Note,
+        KeyName::InetdCompatibility if is_wanted && value.is_object() => finding_list.add(
+            Severity::Note,
             KeyName::Sockets,
             "Sockets: the launcher passes no listening socket to a job; if the program listens by itself, leave Sockets out",
             &[],
@@ -117,12 +117,12 @@ fn add_lacking(
     }
 }
 
-fn begin_of(remarks: &Remarks<'_>) -> Place {
-    place_at(remarks.text, begin_at(remarks.text, 0))
+fn begin_of(finding_list: &FindingList<'_>) -> Position {
+    place_at(finding_list.text, begin_at(finding_list.text, 0))
 }
 
 /// Adds a note if the value is an array of objects: a file has one definition.
-pub(crate) fn add_several(value: &Value, remarks: &mut Remarks<'_>) {
+pub(crate) fn add_several(value: &Value, finding_list: &mut FindingList<'_>) {
     let Some(items) = value.as_array() else {
         return;
     };
@@ -133,12 +133,12 @@ pub(crate) fn add_several(value: &Value, remarks: &mut Remarks<'_>) {
         }
     }
     if count > 0 {
-        let place = Some(begin_of(remarks));
-        let mut ink = Ink::new(remarks.alloc);
-        ink.fill(
+        let place = Some(begin_of(finding_list));
+        let mut writer = TextWriter::new(finding_list.alloc);
+        writer.fill(
             "the array has $ definitions; a file has one, so write each to a file of its own",
             &[Number(count)],
         );
-        remarks.push(place, Grade::Note, ink.into_text());
+        finding_list.push(place, Severity::Note, writer.into_text());
     }
 }

@@ -3,7 +3,7 @@
 /// A program that leaves the foreground: by each of `leaves`, or of itself if there is none, unless one of `stays` is given. The value of
 /// each of `takes` is the next argument, or follows in the same one. A form with a blank, as `-g daemon off`, is an option and a part of
 /// its value. Nothing here depends on the content of a file that an option names: such an option is among `stays`.
-pub(crate) struct Row {
+pub(crate) struct LeavingProgram {
     pub(crate) name: &'static str,
     /// What to give it, so that it stays; empty, if what leads it away is to be left out.
     pub(crate) word: &'static str,
@@ -12,8 +12,8 @@ pub(crate) struct Row {
     pub(crate) takes: &'static [&'static str],
 }
 
-pub(crate) static FIRST: &[Row] = &[
-    Row {
+pub(crate) static FIRST: &[LeavingProgram] = &[
+    LeavingProgram {
         name: "acpid",
         word: "-f",
         stays: &[
@@ -44,7 +44,7 @@ pub(crate) static FIRST: &[Row] = &[
             "--lockfile",
         ],
     },
-    Row {
+    LeavingProgram {
         name: "apache",
         word: "-DFOREGROUND",
         stays: &[
@@ -66,7 +66,7 @@ pub(crate) static FIRST: &[Row] = &[
         leaves: &[],
         takes: &["-D", "-d", "-f", "-C", "-c", "-e", "-E", "-k"],
     },
-    Row {
+    LeavingProgram {
         name: "apachectl",
         word: "apache2 -DFOREGROUND",
         stays: &[
@@ -82,7 +82,7 @@ pub(crate) static FIRST: &[Row] = &[
         leaves: &["start", "-k start"],
         takes: &["-k", "-D", "-d", "-f"],
     },
-    Row {
+    LeavingProgram {
         name: "apcupsd",
         word: "-b",
         stays: &[
@@ -100,14 +100,14 @@ pub(crate) static FIRST: &[Row] = &[
         leaves: &[],
         takes: &["-d", "--debug", "-f", "--config-file", "-P", "--pid-file"],
     },
-    Row {
+    LeavingProgram {
         name: "atd",
         word: "-f",
         stays: &["-f", "-s", "-d"],
         leaves: &[],
         takes: &["-l", "-b"],
     },
-    Row {
+    LeavingProgram {
         name: "autossh",
         word: "",
         stays: &[],
@@ -117,7 +117,7 @@ pub(crate) static FIRST: &[Row] = &[
             "-O", "-o", "-p", "-Q", "-R", "-S", "-W", "-w",
         ],
     },
-    Row {
+    LeavingProgram {
         name: "chronyd",
         word: "-n",
         stays: &[
@@ -134,28 +134,28 @@ pub(crate) static FIRST: &[Row] = &[
         leaves: &[],
         takes: &["-f", "-l", "-L", "-P", "-r", "-s", "-t", "-u", "-F"],
     },
-    Row {
+    LeavingProgram {
         name: "collectd",
         word: "-f",
         stays: &["-f", "-t", "-T", "-h"],
         leaves: &[],
         takes: &["-C", "-P"],
     },
-    Row {
+    LeavingProgram {
         name: "cron",
         word: "-f",
         stays: &["-f", "--foreground"],
         leaves: &[],
         takes: &["-L", "-x"],
     },
-    Row {
+    LeavingProgram {
         name: "crond",
         word: "-f",
         stays: &["-n", "-f", "-d", "-x"],
         leaves: &[],
         takes: &["-m", "-L", "-l", "-c", "-b"],
     },
-    Row {
+    LeavingProgram {
         name: "dbus-daemon",
         word: "",
         stays: &[],
@@ -167,7 +167,7 @@ pub(crate) static FIRST: &[Row] = &[
             "--address",
         ],
     },
-    Row {
+    LeavingProgram {
         name: "dhcpd",
         word: "-f",
         stays: &["-f", "-d", "-t", "-T", "--version"],
@@ -178,8 +178,8 @@ pub(crate) static FIRST: &[Row] = &[
     },
 ];
 
-pub(crate) static SECOND: &[Row] = &[
-    Row {
+pub(crate) static SECOND: &[LeavingProgram] = &[
+    LeavingProgram {
         name: "dnsmasq",
         word: "-k",
         stays: &[
@@ -201,7 +201,7 @@ pub(crate) static SECOND: &[Row] = &[
             "-H", "-c", "-q", "-D",
         ],
     },
-    Row {
+    LeavingProgram {
         name: "dovecot",
         word: "-F",
         stays: &[
@@ -217,7 +217,7 @@ pub(crate) static SECOND: &[Row] = &[
         leaves: &[],
         takes: &["-c", "-i", "-o", "-p"],
     },
-    Row {
+    LeavingProgram {
         name: "fail2ban-client",
         word: "-f",
         stays: &["-f", "-h", "--help", "-V", "--version"],
@@ -236,7 +236,7 @@ pub(crate) static SECOND: &[Row] = &[
             "--timeout",
         ],
     },
-    Row {
+    LeavingProgram {
         name: "fail2ban-server",
         word: "-f",
         stays: &[
@@ -260,7 +260,7 @@ pub(crate) static SECOND: &[Row] = &[
             "--syslogsocket",
         ],
     },
-    Row {
+    LeavingProgram {
         name: "gunicorn",
         word: "",
         stays: &[],
@@ -290,7 +290,7 @@ pub(crate) static SECOND: &[Row] = &[
             "--timeout",
         ],
     },
-    Row {
+    LeavingProgram {
         name: "haproxy",
         word: "",
         stays: &["-db", "-d", "-W", "-Ws", "-c"],
@@ -299,28 +299,28 @@ pub(crate) static SECOND: &[Row] = &[
             "-f", "-C", "-L", "-N", "-n", "-m", "-p", "-S", "-x", "-sf", "-st", "-dM", "-dr", "-dt",
         ],
     },
-    Row {
+    LeavingProgram {
         name: "haveged",
         word: "-F",
         stays: &["-F", "--Foreground", "-n", "--number", "-h", "--help"],
         leaves: &[],
         takes: &["-b", "-d", "-f", "-i", "-o", "-p", "-r", "-v", "-w"],
     },
-    Row {
+    LeavingProgram {
         name: "hostapd",
         word: "",
         stays: &[],
         leaves: &["-B"],
         takes: &["-e", "-f", "-g", "-G", "-i", "-P"],
     },
-    Row {
+    LeavingProgram {
         name: "htcacheclean",
         word: "",
         stays: &[],
         leaves: &["-d"],
         takes: &["-d", "-l", "-L", "-p", "-P", "-R"],
     },
-    Row {
+    LeavingProgram {
         name: "httpd",
         word: "-DFOREGROUND",
         stays: &[
@@ -343,14 +343,14 @@ pub(crate) static SECOND: &[Row] = &[
         leaves: &[],
         takes: &["-D", "-d", "-C", "-c", "-e", "-E", "-k", "-p", "-u", "-r"],
     },
-    Row {
+    LeavingProgram {
         name: "inetd",
         word: "-i",
         stays: &["-i", "-d", "-E"],
         leaves: &[],
         takes: &["-q", "-R", "-p", "-a"],
     },
-    Row {
+    LeavingProgram {
         name: "irqbalance",
         word: "--foreground",
         stays: &[
@@ -366,7 +366,7 @@ pub(crate) static SECOND: &[Row] = &[
         leaves: &[],
         takes: &["-p", "-l", "-i", "-c", "-s", "-t", "-e", "-m"],
     },
-    Row {
+    LeavingProgram {
         name: "keepalived",
         word: "-n",
         stays: &[
@@ -393,14 +393,14 @@ pub(crate) static SECOND: &[Row] = &[
             "-i",
         ],
     },
-    Row {
+    LeavingProgram {
         name: "lighttpd",
         word: "-D",
         stays: &["-D", "-t", "-tt", "-1", "-p", "-v", "-V", "-h", "-i"],
         leaves: &[],
         takes: &["-f", "-m"],
     },
-    Row {
+    LeavingProgram {
         name: "lldpd",
         word: "-d",
         stays: &["-d", "-h", "-v"],
@@ -409,7 +409,7 @@ pub(crate) static SECOND: &[Row] = &[
             "-D", "-p", "-S", "-P", "-X", "-m", "-u", "-I", "-C", "-M", "-H", "-L", "-O",
         ],
     },
-    Row {
+    LeavingProgram {
         name: "memcached",
         word: "",
         stays: &[],
@@ -421,8 +421,8 @@ pub(crate) static SECOND: &[Row] = &[
     },
 ];
 
-pub(crate) static THIRD: &[Row] = &[
-    Row {
+pub(crate) static THIRD: &[LeavingProgram] = &[
+    LeavingProgram {
         name: "mongod",
         word: "",
         stays: &[],
@@ -438,14 +438,14 @@ pub(crate) static THIRD: &[Row] = &[
             "--replSet",
         ],
     },
-    Row {
+    LeavingProgram {
         name: "mosquitto",
         word: "",
         stays: &[],
         leaves: &["-d", "--daemon"],
         takes: &["-c", "-p"],
     },
-    Row {
+    LeavingProgram {
         name: "mysqld",
         word: "",
         stays: &[],
@@ -460,7 +460,7 @@ pub(crate) static THIRD: &[Row] = &[
             "--socket",
         ],
     },
-    Row {
+    LeavingProgram {
         name: "named",
         word: "-f",
         stays: &["-f", "-g", "-v", "-V", "-h"],
@@ -469,14 +469,14 @@ pub(crate) static THIRD: &[Row] = &[
             "-c", "-d", "-p", "-n", "-t", "-u", "-m", "-D", "-E", "-L", "-M", "-S", "-U", "-X",
         ],
     },
-    Row {
+    LeavingProgram {
         name: "netdata",
         word: "-D",
         stays: &["-D", "-h", "-v", "-V"],
         leaves: &[],
         takes: &["-c", "-P", "-i", "-p", "-s", "-t", "-u", "-W"],
     },
-    Row {
+    LeavingProgram {
         name: "nginx",
         word: "-g \"daemon off;\"",
         stays: &[
@@ -493,7 +493,7 @@ pub(crate) static THIRD: &[Row] = &[
         leaves: &[],
         takes: &["-p", "-e", "-g"],
     },
-    Row {
+    LeavingProgram {
         name: "ngircd",
         word: "-n",
         stays: &[
@@ -509,14 +509,14 @@ pub(crate) static THIRD: &[Row] = &[
         leaves: &[],
         takes: &["-f", "--config"],
     },
-    Row {
+    LeavingProgram {
         name: "nmbd",
         word: "--foreground",
         stays: &["--foreground", "-F", "-i", "--interactive", "-h", "-V"],
         leaves: &[],
         takes: &["-s", "-d", "-l", "-p", "-H", "-n", "-O", "-S"],
     },
-    Row {
+    LeavingProgram {
         name: "nscd",
         word: "-F",
         stays: &[
@@ -539,7 +539,7 @@ pub(crate) static THIRD: &[Row] = &[
         leaves: &[],
         takes: &["-f", "--config-file", "-S", "--secure", "-t", "--nthreads"],
     },
-    Row {
+    LeavingProgram {
         name: "nsd",
         word: "-d",
         stays: &["-d", "-v", "-h"],
@@ -549,7 +549,7 @@ pub(crate) static THIRD: &[Row] = &[
             "-V", "-x", "-X", "-z",
         ],
     },
-    Row {
+    LeavingProgram {
         name: "ntpd",
         word: "-n",
         stays: &[
@@ -570,7 +570,7 @@ pub(crate) static THIRD: &[Row] = &[
             "-V", "-w",
         ],
     },
-    Row {
+    LeavingProgram {
         name: "openvpn",
         word: "",
         stays: &[],
@@ -594,7 +594,7 @@ pub(crate) static THIRD: &[Row] = &[
             "--key",
         ],
     },
-    Row {
+    LeavingProgram {
         name: "pg_ctl",
         word: "the program postgres itself",
         stays: &[
@@ -624,14 +624,14 @@ pub(crate) static THIRD: &[Row] = &[
             "--timeout",
         ],
     },
-    Row {
+    LeavingProgram {
         name: "pm2",
         word: "--no-daemon",
         stays: &["--no-daemon"],
         leaves: &["start"],
         takes: &["--name", "-n", "--instances", "-i"],
     },
-    Row {
+    LeavingProgram {
         name: "php-fpm",
         word: "--nodaemonize",
         stays: &[
@@ -658,14 +658,14 @@ pub(crate) static THIRD: &[Row] = &[
             "--prefix",
         ],
     },
-    Row {
+    LeavingProgram {
         name: "pppd",
         word: "",
         stays: &["nodetach"],
         leaves: &["updetach"],
         takes: &[],
     },
-    Row {
+    LeavingProgram {
         name: "privoxy",
         word: "--no-daemon",
         stays: &["--no-daemon", "--help", "--version", "--config-test"],
@@ -674,8 +674,8 @@ pub(crate) static THIRD: &[Row] = &[
     },
 ];
 
-pub(crate) static FOURTH: &[Row] = &[
-    Row {
+pub(crate) static FOURTH: &[LeavingProgram] = &[
+    LeavingProgram {
         name: "proftpd",
         word: "--nodaemon",
         stays: &[
@@ -695,7 +695,7 @@ pub(crate) static FOURTH: &[Row] = &[
         leaves: &[],
         takes: &["-c", "-d", "-p", "-S", "-D", "-4", "-6"],
     },
-    Row {
+    LeavingProgram {
         name: "radvd",
         word: "-n",
         stays: &[
@@ -728,7 +728,7 @@ pub(crate) static FOURTH: &[Row] = &[
             "--username",
         ],
     },
-    Row {
+    LeavingProgram {
         name: "redis-server",
         word: "",
         stays: &[],
@@ -746,14 +746,14 @@ pub(crate) static FOURTH: &[Row] = &[
             "--unixsocket",
         ],
     },
-    Row {
+    LeavingProgram {
         name: "rpcbind",
         word: "-f",
         stays: &["-f", "-d"],
         leaves: &[],
         takes: &["-h"],
     },
-    Row {
+    LeavingProgram {
         name: "rsync",
         word: "--no-detach",
         stays: &["--no-detach", "--help", "--version"],
@@ -769,21 +769,21 @@ pub(crate) static FOURTH: &[Row] = &[
             "--sockopts",
         ],
     },
-    Row {
+    LeavingProgram {
         name: "rsyslogd",
         word: "-n",
         stays: &["-n", "-N", "-v", "-V"],
         leaves: &[],
         takes: &["-f", "-i", "-u", "-M", "-D", "-o", "-T"],
     },
-    Row {
+    LeavingProgram {
         name: "screen",
         word: "-D in place of -d",
         stays: &["-D", "-r", "-R", "-x", "-X"],
         leaves: &["-d"],
         takes: &["-c", "-e", "-h", "-p", "-s", "-S", "-t", "-T"],
     },
-    Row {
+    LeavingProgram {
         name: "slapd",
         word: "-d",
         stays: &["-d", "-V", "-VV", "-VVV", "-T"],
@@ -792,7 +792,7 @@ pub(crate) static FOURTH: &[Row] = &[
             "-f", "-F", "-h", "-l", "-n", "-o", "-r", "-s", "-S", "-t", "-u", "-g", "-c",
         ],
     },
-    Row {
+    LeavingProgram {
         name: "smartd",
         word: "-n",
         stays: &[
@@ -826,7 +826,7 @@ pub(crate) static FOURTH: &[Row] = &[
             "--savestates",
         ],
     },
-    Row {
+    LeavingProgram {
         name: "smbd",
         word: "--foreground",
         stays: &[
@@ -841,7 +841,7 @@ pub(crate) static FOURTH: &[Row] = &[
         leaves: &[],
         takes: &["-s", "-d", "-l", "-p", "-O", "-n", "-S"],
     },
-    Row {
+    LeavingProgram {
         name: "snmpd",
         word: "-f",
         stays: &["-f", "-H", "-h", "-v", "-V"],
@@ -850,14 +850,14 @@ pub(crate) static FOURTH: &[Row] = &[
             "-c", "-g", "-u", "-p", "-P", "-I", "-x", "-L", "-C", "-D", "-m", "-M", "-A", "-l",
         ],
     },
-    Row {
+    LeavingProgram {
         name: "squid",
         word: "--foreground",
         stays: &["--foreground", "-N", "-k", "-z", "-v", "-h"],
         leaves: &[],
         takes: &["-a", "-d", "-f", "-n", "-u"],
     },
-    Row {
+    LeavingProgram {
         name: "ssh",
         word: "",
         stays: &[],
@@ -867,7 +867,7 @@ pub(crate) static FOURTH: &[Row] = &[
             "-o", "-p", "-P", "-Q", "-R", "-S", "-W", "-w",
         ],
     },
-    Row {
+    LeavingProgram {
         name: "sshd",
         word: "-D",
         stays: &["-D", "-d", "-i", "-t", "-T", "-G", "-V"],
@@ -876,7 +876,7 @@ pub(crate) static FOURTH: &[Row] = &[
             "-b", "-C", "-c", "-E", "-f", "-g", "-h", "-k", "-o", "-p", "-u",
         ],
     },
-    Row {
+    LeavingProgram {
         name: "supervisord",
         word: "-n",
         stays: &[
@@ -897,8 +897,8 @@ pub(crate) static FOURTH: &[Row] = &[
     },
 ];
 
-pub(crate) static FIFTH: &[Row] = &[
-    Row {
+pub(crate) static FIFTH: &[LeavingProgram] = &[
+    LeavingProgram {
         name: "syslog-ng",
         word: "-F",
         stays: &[
@@ -914,14 +914,14 @@ pub(crate) static FIFTH: &[Row] = &[
         leaves: &[],
         takes: &["-f", "-p", "-c", "-R", "-C", "-u", "-g"],
     },
-    Row {
+    LeavingProgram {
         name: "systemd-udevd",
         word: "",
         stays: &[],
         leaves: &["-d", "--daemon"],
         takes: &[],
     },
-    Row {
+    LeavingProgram {
         name: "tmux",
         word: "the program itself",
         stays: &["-D"],
@@ -930,7 +930,7 @@ pub(crate) static FIFTH: &[Row] = &[
             "-c", "-e", "-f", "-F", "-L", "-n", "-s", "-S", "-t", "-x", "-y",
         ],
     },
-    Row {
+    LeavingProgram {
         name: "tor",
         word: "",
         stays: &[],
@@ -944,14 +944,14 @@ pub(crate) static FIFTH: &[Row] = &[
             "--ControlPort",
         ],
     },
-    Row {
+    LeavingProgram {
         name: "udevd",
         word: "",
         stays: &[],
         leaves: &["-d", "--daemon"],
         takes: &[],
     },
-    Row {
+    LeavingProgram {
         name: "udhcpc",
         word: "",
         stays: &["-f"],
@@ -960,7 +960,7 @@ pub(crate) static FIFTH: &[Row] = &[
             "-i", "-p", "-s", "-H", "-F", "-V", "-r", "-t", "-T", "-A", "-O", "-x",
         ],
     },
-    Row {
+    LeavingProgram {
         name: "ulogd",
         word: "",
         stays: &[],
@@ -978,14 +978,14 @@ pub(crate) static FIFTH: &[Row] = &[
             "--pidfile",
         ],
     },
-    Row {
+    LeavingProgram {
         name: "unbound",
         word: "-d",
         stays: &["-d", "-dd", "-c", "-h", "-V"],
         leaves: &[],
         takes: &["-p"],
     },
-    Row {
+    LeavingProgram {
         name: "uwsgi",
         word: "",
         stays: &[],
@@ -1005,7 +1005,7 @@ pub(crate) static FIFTH: &[Row] = &[
             "-p",
         ],
     },
-    Row {
+    LeavingProgram {
         name: "valkey-server",
         word: "",
         stays: &[],
@@ -1023,7 +1023,7 @@ pub(crate) static FIFTH: &[Row] = &[
             "--unixsocket",
         ],
     },
-    Row {
+    LeavingProgram {
         name: "varnishncsa",
         word: "",
         stays: &[],
@@ -1032,14 +1032,14 @@ pub(crate) static FIFTH: &[Row] = &[
             "-F", "-f", "-g", "-L", "-n", "-P", "-Q", "-q", "-r", "-R", "-t", "-w",
         ],
     },
-    Row {
+    LeavingProgram {
         name: "winbindd",
         word: "--foreground",
         stays: &["--foreground", "-F", "-i", "--interactive", "-h", "-V"],
         leaves: &[],
         takes: &["-s", "-d", "-l", "-n", "-S", "-O"],
     },
-    Row {
+    LeavingProgram {
         name: "wpa_supplicant",
         word: "",
         stays: &[],
@@ -1049,7 +1049,7 @@ pub(crate) static FIFTH: &[Row] = &[
             "-P",
         ],
     },
-    Row {
+    LeavingProgram {
         name: "xinetd",
         word: "-dontfork",
         stays: &["-dontfork", "-d", "-version", "-stayalive"],
@@ -1065,7 +1065,7 @@ pub(crate) static FIFTH: &[Row] = &[
             "-cc",
         ],
     },
-    Row {
+    LeavingProgram {
         name: "zabbix_agentd",
         word: "-f",
         stays: &[
@@ -1085,7 +1085,7 @@ pub(crate) static FIFTH: &[Row] = &[
         leaves: &[],
         takes: &["-c", "--config"],
     },
-    Row {
+    LeavingProgram {
         name: "zabbix_server",
         word: "-f",
         stays: &["-f", "--foreground", "-R", "--runtime-control", "-h", "-V"],

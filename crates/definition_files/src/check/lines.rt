@@ -1,9 +1,11 @@
 //! The lines of a file's findings.
 
-use crate::check::finding::{Grade, Place, Remark, finding_line, finding_object, grade_name};
-use crate::check::outline::{Mark, MarkKind, Outline, outline_of};
+use crate::check::finding::{
+    Finding, Position, Severity, finding_line, finding_object, severity_name,
+};
+use crate::check::outline::{MarkKind, Outline, OutlineMark, outline_of};
 use crate::check::place::{key_at, offset_at};
-use run_times::Ink;
+use run_times::TextWriter;
 use std::alloc::{AllocError, Global};
 
 /// Writes the findings of one file.
@@ -38,7 +40,7 @@ pub(crate) fn lines_of<'a>(
 
 impl Lines<'_> {
     /// The marks of the text; none, if there was no memory for them.
-    pub(crate) fn marks(&self) -> &[Mark] {
+    pub(crate) fn marks(&self) -> &[OutlineMark] {
         match &self.outline {
             Ok(outline) => outline.marks.as_slice(),
             Err(_) => &[],
@@ -49,16 +51,16 @@ impl Lines<'_> {
     /// object always has them.
     pub(crate) fn put(
         &self,
-        place: Option<Place>,
-        grade: Grade,
+        place: Option<Position>,
+        severity: Severity,
         code: &'static str,
         told: &str,
-        ink: &mut Ink,
+        writer: &mut TextWriter,
     ) {
         if self.outline.is_err() {
-            ink.refuse();
+            writer.refuse();
         }
-        let mut way = Ink::new(self.alloc);
+        let mut way = TextWriter::new(self.alloc);
         match place {
             Some(place) if self.is_one_line || self.is_json => self.put_way(&place, &mut way),
             _ => {}
@@ -66,7 +68,7 @@ impl Lines<'_> {
         match way.into_text() {
             Ok(way) => {
                 let line = if self.is_json {
-                    let severity = grade_name(grade);
+                    let severity = severity_name(severity);
                     finding_object(
                         self.alloc,
                         self.path,
@@ -77,48 +79,54 @@ impl Lines<'_> {
                         told,
                     )
                 } else {
-                    finding_line(self.alloc, self.path, place, way.as_str(), grade, told)
+                    finding_line(self.alloc, self.path, place, way.as_str(), severity, told)
                 };
                 drop(way);
-                ink.put_made(line);
+                writer.put_made(line);
             }
-            Err(_) => ink.refuse(),
+            Err(_) => writer.refuse(),
         }
     }
 
     /// Adds that all is well, and what the definition does.
-    pub(crate) fn put_well(&self, summary: Result<String, AllocError>, ink: &mut Ink) {
+    pub(crate) fn put_well(&self, summary: Result<String, AllocError>, writer: &mut TextWriter) {
         let Ok(summary) = summary else {
-            return ink.refuse();
+            return writer.refuse();
         };
         if self.is_json {
             let text = summary.as_str();
-            ink.put_made(finding_object(self.alloc, self.path, None, "", "ok", "", text));
+            writer.put_made(finding_object(self.alloc, self.path, None, "", "ok", "", text));
         } else {
-            ink.put_plain(self.path);
-            ink.put(": ");
-            ink.put(summary.as_str());
-            ink.put("\n");
+            writer.put_plain(self.path);
+            writer.put(": ");
+            writer.put(summary.as_str());
+            writer.put("\n");
         }
         drop(summary);
     }
 
-    /// Adds the lines of remarks.
-    pub(crate) fn put_all(&self, remarks: &[Remark], ink: &mut Ink) {
-        for remark in remarks {
-            self.put(remark.place, remark.grade, "", remark.text.as_str(), ink);
+    /// Adds the lines of findings.
+    pub(crate) fn put_all(&self, finding_list: &[Finding], writer: &mut TextWriter) {
+        for finding in finding_list {
+            self.put(
+                finding.place,
+                finding.severity,
+                "",
+                finding.text.as_str(),
+                writer,
+            );
         }
     }
 
     // Adds the keys that lead to the place, joined by dots.
-    fn put_way(&self, place: &Place, ink: &mut Ink) {
+    fn put_way(&self, place: &Position, writer: &mut TextWriter) {
         let offset = offset_at(self.text, place);
         for level in 1..MOST_LEVELS {
             let key = self.key_above(offset, level);
             if !key.is_empty() && level > 1 {
-                ink.put(".");
+                writer.put(".");
             }
-            ink.put(key);
+            writer.put(key);
         }
     }
 

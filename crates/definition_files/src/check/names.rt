@@ -1,16 +1,16 @@
 //! Ignored keys, and the key that is meant.
 
-use crate::check::finding::{Grade, Place};
+use crate::check::finding::{Position, Severity};
+use crate::check::finding_list::FindingList;
 use crate::check::foreign::{IDLE, KEYS};
-use crate::check::place::{Step, place_at, place_by, reached_by};
-use crate::check::remarks::Remarks;
+use crate::check::place::{WayStep, place_at, place_by, reached_by};
 use json_kinds::key_name;
 use json_kinds::names::{
     ALL, CRASHED, DAY, FAMILY, HOUR, MINUTE, MONTH, NODE_NAME, PASSIVE, PATH_NAME, PATH_STATE,
     PROTOCOL, SERVICE_NAME, SOCKET_TYPE, SUCCESSFUL_EXIT, WAIT, WEEKDAY,
 };
-use run_times::Ink;
 use run_times::Piece::Text;
+use run_times::TextWriter;
 use std::alloc::Global;
 use strsim::levenshtein;
 
@@ -35,26 +35,26 @@ const INNER: &[&str] = &[
 
 /// Adds the remark on an ignored key. The name of an inner key follows those of the objects around it. The table has what to write in place
 /// of a key of another launcher; for any other key the remark names the nearest one.
-pub(crate) fn add_ignored(remarks: &mut Remarks<'_>, name: &str) {
-    let mut ink = Ink::new(remarks.alloc);
-    ink.fill("$: key not supported, ignored", &[Text(name)]);
+pub(crate) fn add_ignored(finding_list: &mut FindingList<'_>, name: &str) {
+    let mut writer = TextWriter::new(finding_list.alloc);
+    writer.fill("$: key not supported, ignored", &[Text(name)]);
     let hint = hint_for(name);
     if hint.is_empty() {
-        let nearest = nearest_to(remarks.alloc, name);
+        let nearest = nearest_to(finding_list.alloc, name);
         if !name.as_bytes().ends_with(nearest.key.as_bytes()) {
-            ink.fill("; is $ meant?", &[Text(nearest.key)]);
+            writer.fill("; is $ meant?", &[Text(nearest.key)]);
         }
-        ink.is_refused = ink.is_refused || nearest.is_refused;
+        writer.is_refused = writer.is_refused || nearest.is_refused;
     } else {
-        ink.fill("; here: $", &[Text(hint)]);
+        writer.fill("; here: $", &[Text(hint)]);
     }
-    let place = key_place(remarks, name);
-    let grade = if IDLE.contains(&name) {
-        Grade::Note
+    let place = key_place(finding_list, name);
+    let severity = if IDLE.contains(&name) {
+        Severity::Note
     } else {
-        Grade::Warning
+        Severity::Warning
     };
-    remarks.push(place, grade, ink.into_text());
+    finding_list.push(place, severity, writer.into_text());
 }
 
 // What to write in place of a key of another launcher; empty, if none is known. Within KeepAlive the name follows a dot.
@@ -72,14 +72,19 @@ fn hint_for(name: &str) -> &'static str {
 const MOST_MEMBERS: usize = 64;
 
 // Where the key of this name is: one of the definition itself, or an inner one, in the first member that has it.
-fn key_place(remarks: &Remarks<'_>, name: &str) -> Option<Place> {
-    let own = place_by(remarks.text, remarks.marks, &[Step::Key(name)], true);
+fn key_place(finding_list: &FindingList<'_>, name: &str) -> Option<Position> {
+    let own = place_by(
+        finding_list.text,
+        finding_list.marks,
+        &[WayStep::Key(name)],
+        true,
+    );
     if own.is_some() {
         return own;
     }
     let (key, rest) = name.split_once('.').unwrap_or((name, ""));
     for index in 0..MOST_MEMBERS {
-        let place = inner_place(remarks, key, rest, index);
+        let place = inner_place(finding_list, key, rest, index);
         if place.is_some() {
             return place;
         }
@@ -89,29 +94,29 @@ fn key_place(remarks: &Remarks<'_>, name: &str) -> Option<Place> {
 
 // Where the inner key is in the member of this index. For a socket's key the socket's name comes between.
 fn inner_place<'a>(
-    remarks: &Remarks<'_>,
+    finding_list: &FindingList<'_>,
     key: &'a str,
     rest: &'a str,
     index: usize,
-) -> Option<Place> {
+) -> Option<Position> {
     let (inner, last, count) = match rest.rsplit_once('.') {
         Some((socket, last)) => (socket, last, 5),
         None => (rest, "", 3),
     };
     let way = [
-        Step::Key(key),
-        Step::Member(if count == 3 { index } else { 0 }),
-        Step::Key(inner),
-        Step::Member(index),
-        Step::Key(last),
+        WayStep::Key(key),
+        WayStep::Member(if count == 3 { index } else { 0 }),
+        WayStep::Key(inner),
+        WayStep::Member(index),
+        WayStep::Key(last),
     ];
     let reached = reached_by(
-        remarks.text,
-        remarks.marks,
+        finding_list.text,
+        finding_list.marks,
         way.get(..count).unwrap_or(&way),
     );
-    match remarks.marks.get(reached.key) {
-        Some(mark) if reached.gone == count => Some(place_at(remarks.text, mark.at)),
+    match finding_list.marks.get(reached.key) {
+        Some(mark) if reached.gone == count => Some(place_at(finding_list.text, mark.at)),
         _ => None,
     }
 }

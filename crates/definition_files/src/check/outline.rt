@@ -20,7 +20,7 @@ pub(crate) enum MarkKind {
 
 /// A key, a value or a closing bracket of a text: where it begins and ends, in bytes, and how many arrays and objects are open around it.
 #[derive(Clone, Copy)]
-pub(crate) struct Mark {
+pub(crate) struct OutlineMark {
     pub(crate) kind: MarkKind,
     pub(crate) at: usize,
     pub(crate) end: usize,
@@ -30,7 +30,7 @@ pub(crate) struct Mark {
 /// The marks of a text, in order.
 #[derive(Drop)]
 pub(crate) struct Outline {
-    pub(crate) marks: Vec<Mark>,
+    pub(crate) marks: Vec<OutlineMark>,
     /// How many arrays and objects are open.
     pub(crate) depth: usize,
     /// Whether a whole value was read.
@@ -59,7 +59,7 @@ impl Outline {
         let depth = self.depth;
         let is_kept = self
             .marks
-            .push(Mark {
+            .push(OutlineMark {
                 kind,
                 at,
                 end,

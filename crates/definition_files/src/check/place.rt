@@ -1,11 +1,11 @@
 //! The places of keys and values in a text of JSON.
 
-use crate::check::finding::Place;
-use crate::check::outline::{Mark, MarkKind};
+use crate::check::finding::Position;
+use crate::check::outline::{MarkKind, OutlineMark};
 
 /// A step of the way to a value, which begins at the whole definition.
 #[derive(Clone, Copy)]
-pub(crate) enum Step<'a> {
+pub(crate) enum WayStep<'a> {
     /// To the value of this key. If a key is there twice, to the value that counts, which is the last.
     Key(&'a str),
     /// To the member with this index; no step, if the value is not an array.
@@ -21,7 +21,7 @@ pub(crate) struct Reached {
 }
 
 /// The line and the character in it of a byte.
-pub(crate) fn place_at(text: &str, offset: usize) -> Place {
+pub(crate) fn place_at(text: &str, offset: usize) -> Position {
     let mut line: usize = 1;
     let mut column: usize = 1;
     let bytes = text.as_bytes();
@@ -33,17 +33,17 @@ pub(crate) fn place_at(text: &str, offset: usize) -> Place {
             column = column.saturating_add(1);
         }
     }
-    Place { line, column }
+    Position { line, column }
 }
 
 /// Where the value begins to which the way leads, as far as its steps can be taken; or the value's key, with `is_of_key`. None if the text
 /// is not an object or has no such key.
 pub(crate) fn place_by(
     text: &str,
-    marks: &[Mark],
-    way: &[Step<'_>],
+    marks: &[OutlineMark],
+    way: &[WayStep<'_>],
     is_of_key: bool,
-) -> Option<Place> {
+) -> Option<Position> {
     let reached = reached_by(text, marks, way);
     if reached.gone == 0 {
         return None;
@@ -60,7 +60,7 @@ pub(crate) fn place_by(
 }
 
 /// Where the way leads, as far as its steps can be taken.
-pub(crate) fn reached_by(text: &str, marks: &[Mark], way: &[Step<'_>]) -> Reached {
+pub(crate) fn reached_by(text: &str, marks: &[OutlineMark], way: &[WayStep<'_>]) -> Reached {
     let mut reached = Reached {
         gone: 0,
         key: 0,
@@ -68,8 +68,8 @@ pub(crate) fn reached_by(text: &str, marks: &[Mark], way: &[Step<'_>]) -> Reache
     };
     for step in way {
         let found = match step {
-            Step::Key(name) => key_in(text, marks, reached, name),
-            Step::Member(index) => member_in(marks, reached, *index),
+            WayStep::Key(name) => key_in(text, marks, reached, name),
+            WayStep::Member(index) => member_in(marks, reached, *index),
         };
         match found {
             Some(next) => reached = next,
@@ -80,14 +80,14 @@ pub(crate) fn reached_by(text: &str, marks: &[Mark], way: &[Step<'_>]) -> Reache
 }
 
 /// The text of the key at the mark, as it is between its quotes.
-pub(crate) fn key_at<'a>(text: &'a str, mark: &Mark) -> &'a str {
+pub(crate) fn key_at<'a>(text: &'a str, mark: &OutlineMark) -> &'a str {
     let begin = mark.at.saturating_add(1);
     let end = mark.end.saturating_sub(1);
     text.get(begin..end).unwrap_or("")
 }
 
 // The last key of this name in the object there.
-fn key_in(text: &str, marks: &[Mark], from: Reached, name: &str) -> Option<Reached> {
+fn key_in(text: &str, marks: &[OutlineMark], from: Reached, name: &str) -> Option<Reached> {
     let depth = depth_of(marks, from.value);
     let mut found = None;
     let mut index = from.value.saturating_add(1);
@@ -111,7 +111,7 @@ fn key_in(text: &str, marks: &[Mark], from: Reached, name: &str) -> Option<Reach
 }
 
 // The member of this index in the array there; what is there, if it is not an array.
-fn member_in(marks: &[Mark], from: Reached, wanted: usize) -> Option<Reached> {
+fn member_in(marks: &[OutlineMark], from: Reached, wanted: usize) -> Option<Reached> {
     let there = marks.get(from.value)?;
     let MarkKind::Array = there.kind else {
         return Some(Reached {
@@ -143,7 +143,7 @@ fn member_in(marks: &[Mark], from: Reached, wanted: usize) -> Option<Reached> {
     None
 }
 
-fn depth_of(marks: &[Mark], index: usize) -> usize {
+fn depth_of(marks: &[OutlineMark], index: usize) -> usize {
     match marks.get(index) {
         Some(mark) => mark.depth,
         None => 0,
@@ -151,7 +151,7 @@ fn depth_of(marks: &[Mark], index: usize) -> usize {
 }
 
 /// The byte at the place.
-pub(crate) fn offset_at(text: &str, place: &Place) -> usize {
+pub(crate) fn offset_at(text: &str, place: &Position) -> usize {
     let mut line: usize = 1;
     let mut column: usize = 0;
     let mut offset: usize = 0;

@@ -1,7 +1,7 @@
 //! Who may read the file of a definition, and who may write to it.
 
-use crate::check::place::Step;
-use crate::check::remarks::Remarks;
+use crate::check::finding_list::FindingList;
+use crate::check::place::WayStep;
 use history_model::KeyName;
 use job_defs::Def;
 use json_kinds::key_name;
@@ -11,38 +11,43 @@ use std::os::unix::fs::{MetadataExt, PermissionsExt};
 
 /// Adds a warning for each variable and argument that looks like a secret, if others may read the file. It adds one if a boot leaves the file out:
 /// the file is in a folder that jobd-run loads, and others may write to it or it is not root's.
-pub(crate) fn add_private(host: &HostRuntime, path: &str, def: &Def, remarks: &mut Remarks<'_>) {
+pub(crate) fn add_private(
+    host: &HostRuntime,
+    path: &str,
+    def: &Def,
+    finding_list: &mut FindingList<'_>,
+) {
     if let Ok(data) = metadata(host, path) {
         if data.is_file() {
-            add_modes(&data, path, def, remarks);
+            add_modes(&data, path, def, finding_list);
         }
     }
 }
 
-fn add_modes(data: &Metadata, path: &str, def: &Def, remarks: &mut Remarks<'_>) {
+fn add_modes(data: &Metadata, path: &str, def: &Def, finding_list: &mut FindingList<'_>) {
     let mode = data.permissions().mode();
     if mode & 0o004 != 0 {
         for variable in def.environment() {
             if is_secret(variable.name.as_str(), variable.value.as_str()) {
                 let key = key_name(KeyName::EnvironmentVariables);
                 let name = variable.name.as_str();
-                remarks.add_at(
-                    &[Step::Key(key), Step::Key(name)],
+                finding_list.add_at(
+                    &[WayStep::Key(key), WayStep::Key(name)],
                     "$: $ looks like a secret, and every user may read this file; chmod 600 it",
                     &[Text(key), Text(name)],
                 );
             }
         }
-        add_arguments(def, remarks);
+        add_arguments(def, finding_list);
     }
     // A folder that jobd-run loads.
     if path.contains("/etc/jobd/") || path.contains("/.config/jobd/") {
-        remarks.add_if(
+        finding_list.add_if(
             mode & 0o022 != 0,
             KeyName::Label,
             "others may write to this file, so jobd-run leaves it out; chmod go-w it",
         );
-        remarks.add_if(
+        finding_list.add_if(
             data.uid() != 0 && path.starts_with("/etc/jobd/"),
             KeyName::Label,
             "this file is not root's: root's jobd-run leaves it out; chown root it",
@@ -50,13 +55,13 @@ fn add_modes(data: &Metadata, path: &str, def: &Def, remarks: &mut Remarks<'_>) 
     }
 }
 
-fn add_arguments(def: &Def, remarks: &mut Remarks<'_>) {
+fn add_arguments(def: &Def, finding_list: &mut FindingList<'_>) {
     let key = key_name(KeyName::ProgramArguments);
     for (index, argument) in def.arguments().iter().enumerate() {
         if tells_password(argument.as_str()) {
             let member = index.saturating_add(1);
-            remarks.add_at(
-                &[Step::Key(key), Step::Member(member)],
+            finding_list.add_at(
+                &[WayStep::Key(key), WayStep::Member(member)],
                 "$: member $ looks like a secret, and every user may read this file; have the program read it from a file of its own",
                 &[Text(key), Number(member.saturating_add(1) as u64)],
             );

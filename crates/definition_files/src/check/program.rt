@@ -22,7 +22,7 @@ pub(crate) struct Started<'a> {
 
 /// The line of a shell.
 #[derive(Clone, Copy)]
-pub(crate) struct Line<'a> {
+pub(crate) struct ShellLine<'a> {
     pub(crate) shell: &'a str,
     pub(crate) text: &'a str,
     /// How many arguments follow it: the first is `$0`.
@@ -43,7 +43,7 @@ pub(crate) struct Run<'a> {
     /// Whether nothing on the way was unknown, so that these are all of the last program's name and arguments.
     pub(crate) is_whole: bool,
     /// The lines of the shells on the way.
-    pub(crate) lines: Vec<Line<'a>>,
+    pub(crate) lines: Vec<ShellLine<'a>>,
 }
 
 /// How many programs are started one by another at most.
@@ -168,7 +168,7 @@ impl<'a> Run<'a> {
         let behind = self.words.len().saturating_sub(at).saturating_sub(1);
         let hands_on = text.trim_end().ends_with(HANDED_ON);
         let last = last_of(text);
-        let mut line = Line {
+        let mut line = ShellLine {
             shell: now.path,
             text,
             behind,
@@ -218,15 +218,15 @@ fn wrapper_of(path: &str) -> Option<&'static Wrapper> {
 
 /// Where the command begins, the argument before it, and the folder in which it is started.
 #[derive(Clone, Copy)]
-struct Found<'a> {
+struct CommandFound<'a> {
     at: usize,
     before: &'a str,
     folder: Option<&'a str>,
 }
 
 // Where the command of the wrapper begins among its arguments; None, if an option is unknown.
-fn command_in<'a>(wrapper: &Wrapper, words: &[&'a str]) -> Option<Found<'a>> {
-    let mut found = Found {
+fn command_in<'a>(wrapper: &Wrapper, words: &[&'a str]) -> Option<CommandFound<'a>> {
+    let mut found = CommandFound {
         at: 1,
         before: "",
         folder: None,

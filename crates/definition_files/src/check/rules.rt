@@ -1,7 +1,7 @@
 //! What values must be: a rule for each key of a definition, and rules for what is within its value. The ranges are those of the table of
 //! keys.
 
-use crate::check::fit::Around;
+use crate::check::fit::RuleContext;
 use history_model::KeyName;
 use json_kinds::names::{
     CRASHED, DAY, FAMILY, HOUR, MINUTE, MONTH, NODE_NAME, PASSIVE, PATH_NAME, PATH_STATE, PROTOCOL,
@@ -26,13 +26,15 @@ pub(crate) enum Fit {
     Either(&'static str, &'static str),
     /// An array of at most this many members.
     Array(usize),
+    /// An array of at most this many entries, or another value, which is one entry.
+    Entries(usize),
     /// An object of at most this many keys.
     Dictionary(usize),
     Label,
     /// True, false, or an object.
     Conditions,
-    /// An object of paths, each true or false.
-    States,
+    /// An object of at most this many paths, each true or false.
+    States(usize),
     /// An object of at most this many sockets.
     Sockets(usize),
     /// An object with `Wait`.
@@ -51,8 +53,8 @@ pub(crate) struct Rule {
     pub(crate) wanted: &'static str,
 }
 
-/// The rules for the members of an array, of which there may be `most`, or for a value that is not an array. They are those for the first,
-/// and those for the others.
+/// The rules for the members of an array, of which the first `most` are looked at, or for a value that is not an array. They are those for
+/// the first, and those for the others.
 #[derive(Clone, Copy, Drop)]
 pub(crate) struct Inside {
     pub(crate) most: usize,
@@ -83,6 +85,13 @@ pub(crate) static VARIABLE: Rule = Rule {
     name: "",
     fit: Fit::Text(0, 4096),
     wanted: "a name of 1 to 255 bytes without =, and a string of at most 4096 bytes, both without NUL",
+};
+
+/// What a path of `PathState` and its value are to be.
+pub(crate) static STATE: Rule = Rule {
+    name: "",
+    fit: Fit::Flag,
+    wanted: "a path of 1 to 1024 bytes without NUL, and true or false",
 };
 
 /// The keys of an entry of a calendar.
@@ -119,7 +128,7 @@ const ENTRY: &[Rule] = &[
     },
 ];
 
-/// The keys of `KeepAlive`.
+/// The keys of `KeepAlive` in the order in which they are checked.
 const CONDITIONS: &[Rule] = &[
     Rule {
         name: CRASHED,
@@ -127,14 +136,14 @@ const CONDITIONS: &[Rule] = &[
         wanted: "true or false",
     },
     Rule {
+        name: PATH_STATE,
+        fit: Fit::States(64),
+        wanted: "an object of at most 64 paths of 1 to 1024 bytes, each true or false",
+    },
+    Rule {
         name: SUCCESSFUL_EXIT,
         fit: Fit::Flag,
         wanted: "true or false",
-    },
-    Rule {
-        name: PATH_STATE,
-        fit: Fit::States,
-        wanted: "an object of at most 64 paths of 1 to 1024 bytes, each true or false",
     },
 ];
 
@@ -157,7 +166,7 @@ const SOCKET: &[Rule] = &[
     Rule {
         name: "",
         fit: Fit::Dictionary(usize::MAX),
-        wanted: "a dictionary",
+        wanted: "an object",
     },
     Rule {
         name: SECURE_KEY,
@@ -235,7 +244,7 @@ pub(crate) fn rule_of(key: KeyName) -> Rule {
             "true, false, or an object of SuccessfulExit, Crashed (true or false) and PathState (at most 64 paths, each true or false)",
         ),
         KeyName::StartCalendarInterval => (
-            Fit::Any,
+            Fit::Entries(64),
             "an object of Minute, Hour, Day, Weekday and Month, or an array of at most 64",
         ),
         KeyName::Sockets => (
@@ -257,13 +266,13 @@ pub(crate) fn rule_of(key: KeyName) -> Rule {
 }
 
 /// What the value of a key must have within it; for `Sockets`, within a value under a name.
-pub(crate) fn inside_of(key: KeyName, around: &Around) -> Inside {
+pub(crate) fn inside_of(key: KeyName, around: &RuleContext) -> Inside {
     let (most, others) = match key {
         KeyName::StartCalendarInterval => (64, ENTRY),
         KeyName::Sockets => (8, SOCKET),
-        KeyName::KeepAlive => (0, CONDITIONS),
-        KeyName::InetdCompatibility if around.has_sockets => (0, INETD),
-        KeyName::InetdCompatibility => (0, INETD_ALONE),
+        KeyName::KeepAlive => (1, CONDITIONS),
+        KeyName::InetdCompatibility if around.has_sockets => (1, INETD),
+        KeyName::InetdCompatibility => (1, INETD_ALONE),
         KeyName::ProgramArguments => (256, ARGUMENTS),
         KeyName::WatchPaths | KeyName::QueueDirectories => (64, PATHS),
         _ => (0, NONE),

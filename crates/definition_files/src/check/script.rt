@@ -1,8 +1,8 @@
 //! Whether the system can start a program: a script by its interpreter, an ELF file by its processor, its loader and its length.
 
-use crate::check::there::{Found, found_at};
+use crate::check::there::{PathFound, found_at};
 use files_and_process::path_files::read_front;
-use run_times::Ink;
+use run_times::TextWriter;
 use std::alloc::Global;
 use std::fs::metadata;
 
@@ -11,17 +11,17 @@ const FRONT: usize = 4096;
 
 /// Adds why the system can't start the executable file at the path. It is a text without `#!`, its interpreter or its loader is missing, it
 /// is for another processor, or it is cut. It adds nothing if the file can't be read.
-pub(crate) fn add_script(host: &HostRuntime, alloc: Global, path: &str, ink: &mut Ink) {
+pub(crate) fn add_script(host: &HostRuntime, alloc: Global, path: &str, writer: &mut TextWriter) {
     let mut front = Vec::new(alloc);
     if read_front(host, path, FRONT, &mut front).is_ok() {
         let told = why_not(host, alloc, path, front.as_slice());
         if !told.is_empty() {
-            ink.put_plain(path);
-            ink.put(told);
+            writer.put_plain(path);
+            writer.put(told);
             match interpreter_in(front.as_slice()) {
                 Some(interpreter) if told.ends_with(' ') => {
-                    ink.put_plain(interpreter);
-                    ink.put(" is not there, or not executable");
+                    writer.put_plain(interpreter);
+                    writer.put(" is not there, or not executable");
                 }
                 _ => {}
             }
@@ -45,7 +45,7 @@ fn why_not(host: &HostRuntime, alloc: Global, path: &str, front: &[u8]) -> &'sta
         return " is a script with CR LF at the ends of its lines: the system takes the CR for a part of the interpreter's name; write LF alone";
     }
     match found_at(host, interpreter) {
-        Ok(Found::Program) => "",
+        Ok(PathFound::Program) => "",
         _ => " is a script whose interpreter ",
     }
 }

@@ -1,8 +1,8 @@
 //! What a definition that loads does, in one line.
 
 use job_defs::Def;
-use run_times::Ink;
 use run_times::Piece::{Number, Text};
+use run_times::TextWriter;
 use std::alloc::{AllocError, Global};
 
 /// The label, that it is well, and what starts the job: `org.example.web: ok, starts at load, kept alive`.
@@ -12,26 +12,26 @@ pub fn summary_of(alloc: Global, def: &Def) -> Result<String, AllocError> {
     } else {
         ""
     };
-    let mut ink = Ink::new(alloc);
+    let mut writer = TextWriter::new(alloc);
     let pieces = [Text(def.label()), Text(at_load), Text(keep_text(def))];
-    ink.fill("$: ok$$", &pieces);
+    writer.fill("$: ok$$", &pieces);
     if let Some(seconds) = def.start_interval() {
-        ink.fill(", starts each $ s", &[Number(u64::from(seconds))]);
+        writer.fill(", starts each $ s", &[Number(u64::from(seconds))]);
     }
     if !def.calendar().is_empty() {
-        ink.put(", starts by the calendar");
+        writer.put(", starts by the calendar");
     }
-    add_count(&mut ink, ", watches $ path$", def.watch_paths().len());
+    add_count(&mut writer, ", watches $ path$", def.watch_paths().len());
     add_count(
-        &mut ink,
+        &mut writer,
         ", serves $ queue folder$",
         def.queue_directories().len(),
     );
-    add_count(&mut ink, ", listens at $ socket$", def.sockets().len());
+    add_count(&mut writer, ", listens at $ socket$", def.sockets().len());
     if def.launch_only_once() {
-        ink.put(", once in each load");
+        writer.put(", once in each load");
     }
-    ink.into_text()
+    writer.into_text()
 }
 
 // How many conditions of `KeepAlive` the definition has.
@@ -58,9 +58,9 @@ fn keep_text(def: &Def) -> &'static str {
 }
 
 // Adds how many there are of what the form names, if there is one.
-fn add_count(ink: &mut Ink, form: &str, count: usize) {
+fn add_count(writer: &mut TextWriter, form: &str, count: usize) {
     if count > 0 {
         let plural = if count == 1 { "" } else { "s" };
-        ink.fill(form, &[Number(count as u64), Text(plural)]);
+        writer.fill(form, &[Number(count as u64), Text(plural)]);
     }
 }

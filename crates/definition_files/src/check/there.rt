@@ -1,14 +1,14 @@
 //! Whether what a definition names is there.
 
-use crate::check::finding::Grade;
+use crate::check::finding::Severity;
+use crate::check::finding_list::FindingList;
 use crate::check::program::{Run, program_of};
-use crate::check::remarks::Remarks;
 use crate::check::script::add_script;
 use history_model::KeyName;
 use job_defs::{Address, Def};
 use json_kinds::key_name;
-use run_times::Ink;
 use run_times::Piece::Text;
+use run_times::TextWriter;
 use run_times::telling::put_made;
 use std::alloc::{AllocError, Global};
 use std::fs::metadata;
@@ -35,7 +35,7 @@ enum Wanted {
 
 /// What is at a path.
 #[derive(Clone, Copy)]
-pub(crate) enum Found {
+pub(crate) enum PathFound {
     Folder,
     /// A plain file that can be executed.
     Program,
@@ -158,9 +158,9 @@ pub fn put_seen(host: &HostRuntime, alloc: Global, def: &Def) -> io::Result<()> 
 fn put_each(host: &HostRuntime, alloc: Global, keys: &[Named]) -> io::Result<bool> {
     let mut is_well = true;
     for (_, path, wanted) in keys {
-        let mut ink = Ink::new(alloc);
-        add_wrong(host, alloc, path.as_str(), *wanted, &mut ink);
-        match ink.into_text() {
+        let mut writer = TextWriter::new(alloc);
+        add_wrong(host, alloc, path.as_str(), *wanted, &mut writer);
+        match writer.into_text() {
             Ok(told) => {
                 let written = put_line(host, alloc, told.as_str());
                 is_well = is_well && told.is_empty();
@@ -178,32 +178,32 @@ fn put_line(host: &HostRuntime, alloc: Global, told: &str) -> io::Result<()> {
     if told.is_empty() {
         return Ok(());
     }
-    let mut ink = Ink::new(alloc);
-    ink.fill("  Now: $.\n", &[Text(told)]);
-    put_made(host, ink.into_text())
+    let mut writer = TextWriter::new(alloc);
+    writer.fill("  Now: $.\n", &[Text(told)]);
+    put_made(host, writer.into_text())
 }
 
 /// Adds a warning for each file or folder that the definition names by a path from the root, and that is missing, or is not what it must be.
-pub(crate) fn add_missing(host: &HostRuntime, def: &Def, remarks: &mut Remarks<'_>) {
-    match needed(remarks.alloc, def) {
+pub(crate) fn add_missing(host: &HostRuntime, def: &Def, finding_list: &mut FindingList<'_>) {
+    match needed(finding_list.alloc, def) {
         Ok(keys) => {
             for (key, path, wanted) in &keys {
-                add_of(host, *key, path.as_str(), *wanted, remarks);
+                add_of(host, *key, path.as_str(), *wanted, finding_list);
             }
             drop(keys);
         }
-        Err(_) => remarks.refuse(),
+        Err(_) => finding_list.refuse(),
     }
-    add_names(host, def, remarks);
+    add_names(host, def, finding_list);
     for path in def.queue_directories() {
         add_of(
             host,
             KeyName::QueueDirectories,
             path.as_str(),
             Wanted::Folder,
-            remarks,
+            finding_list,
         );
-        add_kept(host, path.as_str(), remarks);
+        add_kept(host, path.as_str(), finding_list);
     }
     for socket in def.sockets() {
         if let Address::Unix(path) = &socket.address {
@@ -212,7 +212,7 @@ pub(crate) fn add_missing(host: &HostRuntime, def: &Def, remarks: &mut Remarks<'
                 KeyName::Sockets,
                 path.as_str(),
                 Wanted::Socket,
-                remarks,
+                finding_list,
             );
         }
     }
@@ -222,66 +222,78 @@ pub(crate) fn add_missing(host: &HostRuntime, def: &Def, remarks: &mut Remarks<'
 static KEEPERS: &[&str] = &[".gitkeep", ".keep", ".gitignore", ".placeholder"];
 
 // Adds a warning if such a file is in the queue: it is then never empty.
-fn add_kept(host: &HostRuntime, folder: &str, remarks: &mut Remarks<'_>) {
+fn add_kept(host: &HostRuntime, folder: &str, finding_list: &mut FindingList<'_>) {
     for name in KEEPERS {
-        match format!(in remarks.alloc; "{folder}/{name}") {
+        match format!(in finding_list.alloc; "{folder}/{name}") {
             Ok(path) => {
-                if let Ok(Found::File | Found::Program) = found_at(host, path.as_str()) {
+                if let Ok(PathFound::File | PathFound::Program) = found_at(host, path.as_str()) {
                     let told =
                         "QueueDirectories: $ is a file too, so the queue is never empty and the job starts again and again";
                     let pieces = [Text(path.as_str())];
-                    remarks.add(Grade::Warning, KeyName::QueueDirectories, told, &pieces);
+                    finding_list.add(Severity::Warning, KeyName::QueueDirectories, told, &pieces);
                 }
                 drop(path);
             }
-            Err(_) => remarks.refuse(),
+            Err(_) => finding_list.refuse(),
         }
     }
 }
 
 // Adds a warning of what is wrong with the path of the key, if something is.
-fn add_of(host: &HostRuntime, key: KeyName, path: &str, wanted: Wanted, remarks: &mut Remarks<'_>) {
-    let mut ink = Ink::new(remarks.alloc);
-    add_wrong(host, remarks.alloc, path, wanted, &mut ink);
-    match ink.into_text() {
+fn add_of(
+    host: &HostRuntime,
+    key: KeyName,
+    path: &str,
+    wanted: Wanted,
+    finding_list: &mut FindingList<'_>,
+) {
+    let mut writer = TextWriter::new(finding_list.alloc);
+    add_wrong(host, finding_list.alloc, path, wanted, &mut writer);
+    match writer.into_text() {
         Ok(told) => {
             if !told.is_empty() {
-                add_told(key, wanted, told.as_str(), remarks);
+                add_told(key, wanted, told.as_str(), finding_list);
             }
             drop(told);
         }
-        Err(_) => remarks.refuse(),
+        Err(_) => finding_list.refuse(),
     }
 }
 
-fn add_told(key: KeyName, wanted: Wanted, told: &str, remarks: &mut Remarks<'_>) {
+fn add_told(key: KeyName, wanted: Wanted, told: &str, finding_list: &mut FindingList<'_>) {
     let (name, behind) = match (key, wanted) {
         (KeyName::Program, Wanted::Script) => ("the script", " "),
         (KeyName::Program, Wanted::Folder) => ("the folder", " "),
         (KeyName::Program, _) => ("the program", " "),
         (key, _) => (key_name(key), ": "),
     };
-    let mut ink = Ink::new(remarks.alloc);
-    ink.put_all(&[Text(name), Text(behind), Text(told)]);
-    remarks.add_made(key, ink.into_text());
+    let mut writer = TextWriter::new(finding_list.alloc);
+    writer.put_all(&[Text(name), Text(behind), Text(told)]);
+    finding_list.add_made(key, writer.into_text());
 }
 
 // Adds what is wrong with the path, if something is. Nothing is known of a path that is not from the root.
-fn add_wrong(host: &HostRuntime, alloc: Global, path: &str, wanted: Wanted, ink: &mut Ink) {
+fn add_wrong(
+    host: &HostRuntime,
+    alloc: Global,
+    path: &str,
+    wanted: Wanted,
+    writer: &mut TextWriter,
+) {
     if !path.starts_with('/') {
         return;
     }
     match (wanted, found_at(host, path)) {
-        (Wanted::Program, Ok(Found::Program)) => add_script(host, alloc, path, ink),
-        (Wanted::Output, Ok(Found::Nothing) | Err(_)) => add_folder(host, alloc, path, ink),
-        (Wanted::Socket, _) => add_folder(host, alloc, path, ink),
-        (wanted, found) => add_found(alloc, path, wanted, found, ink),
+        (Wanted::Program, Ok(PathFound::Program)) => add_script(host, alloc, path, writer),
+        (Wanted::Output, Ok(PathFound::Nothing) | Err(_)) => add_folder(host, alloc, path, writer),
+        (Wanted::Socket, _) => add_folder(host, alloc, path, writer),
+        (wanted, found) => add_found(alloc, path, wanted, found, writer),
     }
 }
 
-// Adds the remarks on each program that has no /: a warning if no folder of PATH has it. If one has it, only the first program gets a note.
-fn add_names(host: &HostRuntime, def: &Def, remarks: &mut Remarks<'_>) {
-    match program_of(remarks.alloc, def.program(), def.arguments()) {
+// Adds the findings on each program that has no /: a warning if no folder of PATH has it. If one has it, only the first program gets a note.
+fn add_names(host: &HostRuntime, def: &Def, finding_list: &mut FindingList<'_>) {
+    match program_of(finding_list.alloc, def.program(), def.arguments()) {
         Ok(run) => {
             for (index, started) in run.programs.iter().enumerate() {
                 let is_name = !started.path.contains('/') && !started.path.contains(' ');
@@ -289,12 +301,12 @@ fn add_names(host: &HostRuntime, def: &Def, remarks: &mut Remarks<'_>) {
                     && !started.is_in_line
                     && started.root.is_empty();
                 if is_name && is_sought && !started.path.starts_with('~') {
-                    add_name(host, started.path, index == 0, path_of(def), remarks);
+                    add_name(host, started.path, index == 0, path_of(def), finding_list);
                 }
             }
             drop(run);
         }
-        Err(_) => remarks.refuse(),
+        Err(_) => finding_list.refuse(),
     }
 }
 
@@ -315,72 +327,84 @@ fn add_name(
     name: &str,
     is_first: bool,
     folders: &str,
-    remarks: &mut Remarks<'_>,
+    finding_list: &mut FindingList<'_>,
 ) {
     let mut is_there = false;
     for folder in folders.split(':') {
-        match format!(in remarks.alloc; "{folder}/{name}") {
+        match format!(in finding_list.alloc; "{folder}/{name}") {
             Ok(path) => {
-                if let Ok(Found::Program) = found_at(host, path.as_str()) {
+                if let Ok(PathFound::Program) = found_at(host, path.as_str()) {
                     is_there = true;
                 }
                 drop(path);
             }
-            Err(_) => remarks.refuse(),
+            Err(_) => finding_list.refuse(),
         }
     }
     if !is_there {
         let told = "the program $ is in no folder of the job's PATH; write the absolute path";
-        remarks.add(Grade::Warning, KeyName::Program, told, &[Text(name)]);
+        finding_list.add(Severity::Warning, KeyName::Program, told, &[Text(name)]);
     } else if is_first {
         let told =
             "the program is looked for in the job's PATH, since it has no /; write the absolute path";
-        remarks.add(Grade::Note, KeyName::Program, told, &[]);
+        finding_list.add(Severity::Note, KeyName::Program, told, &[]);
     }
 }
 
-pub(crate) fn found_at(host: &HostRuntime, path: &str) -> io::Result<Found> {
+pub(crate) fn found_at(host: &HostRuntime, path: &str) -> io::Result<PathFound> {
     match metadata(host, path) {
-        Ok(data) if data.is_dir() => Ok(Found::Folder),
-        Ok(data) if data.file_type().is_fifo() => Ok(Found::Fifo),
-        Ok(data) if data.file_type().is_socket() => Ok(Found::Socket),
-        Ok(data) if !data.is_file() => Ok(Found::Other),
-        Ok(data) if data.permissions().mode() & 0o111 != 0 => Ok(Found::Program),
-        Ok(_) => Ok(Found::File),
-        Err(error) if error.kind() == ErrorKind::NotFound => Ok(Found::Nothing),
+        Ok(data) if data.is_dir() => Ok(PathFound::Folder),
+        Ok(data) if data.file_type().is_fifo() => Ok(PathFound::Fifo),
+        Ok(data) if data.file_type().is_socket() => Ok(PathFound::Socket),
+        Ok(data) if !data.is_file() => Ok(PathFound::Other),
+        Ok(data) if data.permissions().mode() & 0o111 != 0 => Ok(PathFound::Program),
+        Ok(_) => Ok(PathFound::File),
+        Err(error) if error.kind() == ErrorKind::NotFound => Ok(PathFound::Nothing),
         Err(error) => Err(error),
     }
 }
 
 // Adds what is wrong with what was found at the path; if it can't be looked at, what the system says.
-fn add_found(alloc: Global, path: &str, wanted: Wanted, found: io::Result<Found>, ink: &mut Ink) {
+fn add_found(
+    alloc: Global,
+    path: &str,
+    wanted: Wanted,
+    found: io::Result<PathFound>,
+    writer: &mut TextWriter,
+) {
     let wrong = match (found, wanted) {
         (Err(error), _) => {
-            ink.put_made(format!(in alloc; "{path}: {error}"));
+            writer.put_made(format!(in alloc; "{path}: {error}"));
             return;
         }
-        (Ok(Found::Nothing), _) => " is not there",
-        (Ok(Found::File), Wanted::Program) => " is not executable",
-        (Ok(Found::Program), Wanted::Program) => return,
+        (Ok(PathFound::Nothing), _) => " is not there",
+        (Ok(PathFound::File), Wanted::Program) => " is not executable",
+        (Ok(PathFound::Program), Wanted::Program) => return,
         (Ok(_), Wanted::Program) => " is not a plain file",
-        (Ok(Found::Folder), Wanted::Folder | Wanted::Socket) => return,
+        (Ok(PathFound::Folder), Wanted::Folder | Wanted::Socket) => return,
         (Ok(_), Wanted::Folder | Wanted::Socket) => " is not a folder",
-        (Ok(Found::Folder), _) => " is a folder",
-        (Ok(Found::Fifo), _) =>
+        (Ok(PathFound::Folder), _) => " is a folder",
+        (Ok(PathFound::Fifo), _) =>
             " is a FIFO: the start is refused, since its open may wait for ever",
-        (Ok(Found::Socket), _) =>
+        (Ok(PathFound::Socket), _) =>
             " is a socket: the start is refused, since it can't be opened as a file",
         _ => return,
     };
-    ink.put_plain(path);
-    ink.put(wrong);
+    writer.put_plain(path);
+    writer.put(wrong);
 }
 
 // Adds what is wrong with the folder in which the path's file is made.
-fn add_folder(host: &HostRuntime, alloc: Global, path: &str, ink: &mut Ink) {
+fn add_folder(host: &HostRuntime, alloc: Global, path: &str, writer: &mut TextWriter) {
     match path.rsplit_once('/') {
         Some((folder, _)) if !folder.is_empty() => {
-            add_found(alloc, folder, Wanted::Folder, found_at(host, folder), ink);
+            add_found(
+                alloc,
+                folder,
+                Wanted::Folder,
+                found_at(host, folder),
+                writer,
+            );
         }
         _ => {}
     }

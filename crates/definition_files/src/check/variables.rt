@@ -1,36 +1,36 @@
 //! What the text of a definition shows and its parsed form does not: variables that are not set or not expanded, and keys that are absent.
 
-use crate::check::finding::Grade;
-use crate::check::place::{Step, place_by};
-use crate::check::remarks::Remarks;
+use crate::check::finding::Severity;
+use crate::check::finding_list::FindingList;
+use crate::check::place::{WayStep, place_by};
 use history_model::KeyName;
 use json_kinds::names::{NODE_NAME, SERVICE_NAME};
 use json_kinds::{json_value, key_name};
-use run_times::Ink;
 use run_times::Piece::Text;
+use run_times::TextWriter;
 use serde_json::Value;
 
-/// Adds the remarks on variables of the environment whose values are not strings: they are left out.
-pub(crate) fn add_variables(remarks: &mut Remarks<'_>) {
-    match json_value(remarks.alloc, remarks.text.as_bytes()) {
+/// Adds the findings on variables of the environment whose values are not strings: they are left out.
+pub(crate) fn add_variables(finding_list: &mut FindingList<'_>) {
+    match json_value(finding_list.alloc, finding_list.text.as_bytes()) {
         Ok(Some(value)) => {
             if let Some(found) = value.get(key_name(KeyName::EnvironmentVariables)) {
-                add_from(found, remarks);
+                add_from(found, finding_list);
             }
             if let Some(found) = value.get(key_name(KeyName::ProgramArguments)) {
-                add_nameless(found, remarks);
+                add_nameless(found, finding_list);
             }
             if let Some(found) = value.get(key_name(KeyName::Sockets)) {
-                add_open(found, remarks);
+                add_open(found, finding_list);
             }
             drop(value);
         }
         Ok(None) => {}
-        Err(_) => remarks.refuse(),
+        Err(_) => finding_list.refuse(),
     }
 }
 
-fn add_from(found: &Value, remarks: &mut Remarks<'_>) {
+fn add_from(found: &Value, finding_list: &mut FindingList<'_>) {
     if let Value::Object(members) = found {
         for (name, found) in members.iter() {
             let form = match found.as_str() {
@@ -39,8 +39,8 @@ fn add_from(found: &Value, remarks: &mut Remarks<'_>) {
                 None => "$: the value of $ is not a string, so it is not set",
             };
             let key = key_name(KeyName::EnvironmentVariables);
-            let way = [Step::Key(key), Step::Key(name.as_str())];
-            remarks.add_at(&way, form, &[Text(key), Text(name.as_str())]);
+            let way = [WayStep::Key(key), WayStep::Key(name.as_str())];
+            finding_list.add_at(&way, form, &[Text(key), Text(name.as_str())]);
         }
     }
 }
@@ -69,15 +69,15 @@ fn is_unexpanded(name: &str, text: &str) -> bool {
 }
 
 // Adds a warning if the first of the arguments is an option: it takes the place of the program's name.
-fn add_nameless(found: &Value, remarks: &mut Remarks<'_>) {
+fn add_nameless(found: &Value, finding_list: &mut FindingList<'_>) {
     if let Some(Value::String(first)) = found.get(0) {
         let text = first.as_str();
         // The name of a shell that is to be one of a login begins so.
         let is_login = matches!(text, "-sh" | "-bash" | "-dash" | "-zsh" | "-ksh");
         if text.starts_with('-') && !is_login {
             let key = key_name(KeyName::ProgramArguments);
-            remarks.add_at(
-                &[Step::Key(key), Step::Member(0)],
+            finding_list.add_at(
+                &[WayStep::Key(key), WayStep::Member(0)],
                 "$: the first member is the program's name, and $ takes its place; put the name before it",
                 &[Text(key), Text(text)],
             );
@@ -86,34 +86,34 @@ fn add_nameless(found: &Value, remarks: &mut Remarks<'_>) {
 }
 
 // Adds a note for each socket with a port and without a host.
-fn add_open(found: &Value, remarks: &mut Remarks<'_>) {
+fn add_open(found: &Value, finding_list: &mut FindingList<'_>) {
     if let Value::Object(members) = found {
         for (name, socket) in members.iter() {
             match socket.as_array() {
                 Some(list) => {
                     for (index, one) in list.iter().enumerate() {
-                        add_if_open(name.as_str(), index, one, remarks);
+                        add_if_open(name.as_str(), index, one, finding_list);
                     }
                 }
-                None => add_if_open(name.as_str(), 0, socket, remarks),
+                None => add_if_open(name.as_str(), 0, socket, finding_list),
             }
         }
     }
 }
 
-fn add_if_open(name: &str, index: usize, socket: &Value, remarks: &mut Remarks<'_>) {
+fn add_if_open(name: &str, index: usize, socket: &Value, finding_list: &mut FindingList<'_>) {
     if socket.get(SERVICE_NAME).is_some() && socket.get(NODE_NAME).is_none() {
         let way = [
-            Step::Key(key_name(KeyName::Sockets)),
-            Step::Key(name),
-            Step::Member(index),
+            WayStep::Key(key_name(KeyName::Sockets)),
+            WayStep::Key(name),
+            WayStep::Member(index),
         ];
-        let place = place_by(remarks.text, remarks.marks, &way, false);
-        let mut ink = Ink::new(remarks.alloc);
-        ink.fill(
+        let place = place_by(finding_list.text, finding_list.marks, &way, false);
+        let mut writer = TextWriter::new(finding_list.alloc);
+        writer.fill(
             "Sockets: $ has no SockNodeName, so each address of the machine is open to the network; 127.0.0.1 is this machine alone",
             &[Text(name)],
         );
-        remarks.push(place, Grade::Note, ink.into_text());
+        finding_list.push(place, Severity::Note, writer.into_text());
     }
 }

@@ -1,7 +1,7 @@
 //! The command of a line, as Debian's cron passes it to the shell.
 
 use crate::cron::fault::{LineFault, told};
-use run_times::Ink;
+use run_times::TextWriter;
 use std::alloc::Global;
 
 /// The longest command, in bytes: no load takes a longer argument.
@@ -18,9 +18,9 @@ const NUL: &str = "the command has a NUL byte, which no program's argument may h
 /// The command that the text means: `\%` is the sign, `\\` is one backslash, and a backslash before any other letter stays. Refused: a `%`
 /// that is not escaped, a NUL byte, and more than 4,096 bytes.
 pub(crate) fn command_of(alloc: Global, text: &str) -> Result<String, LineFault> {
-    let mut ink = Ink::new(alloc);
-    let wrong = put_command(text, &mut ink);
-    let made = ink.into_text();
+    let mut writer = TextWriter::new(alloc);
+    let wrong = put_command(text, &mut writer);
+    let made = writer.into_text();
     match (wrong, made) {
         (None, Ok(command)) => Ok(command),
         (None, Err(_)) => Err(LineFault::NoMemory),
@@ -32,7 +32,7 @@ pub(crate) fn command_of(alloc: Global, text: &str) -> Result<String, LineFault>
 }
 
 // Adds the command, or says what is wrong with it.
-fn put_command(text: &str, ink: &mut Ink) -> Option<&'static str> {
+fn put_command(text: &str, writer: &mut TextWriter) -> Option<&'static str> {
     let mut is_escaped = false;
     for letter in text.chars() {
         if letter == '\0' {
@@ -40,21 +40,21 @@ fn put_command(text: &str, ink: &mut Ink) -> Option<&'static str> {
         }
         let is_sign = letter == '%' || letter == '\\';
         if is_escaped && !is_sign {
-            ink.put_char('\\');
+            writer.put_char('\\');
         }
         if letter == '%' && !is_escaped {
             return Some(PERCENT);
         }
         let begins = letter == '\\' && !is_escaped;
         if !begins {
-            ink.put_char(letter);
+            writer.put_char(letter);
         }
         is_escaped = begins;
     }
     if is_escaped {
-        ink.put_char('\\');
+        writer.put_char('\\');
     }
-    if ink.text.len() > LONGEST_COMMAND {
+    if writer.text.len() > LONGEST_COMMAND {
         Some(LONG)
     } else {
         None

@@ -10,13 +10,13 @@ use crate::cron::fault::{LineFault, told};
 use crate::cron::guard::guard_in;
 use crate::cron::line::When;
 use crate::cron::naming::name_of;
-use crate::cron::settings::Settings;
+use crate::cron::settings::CronVariables;
 use crate::cron::surroundings::Surroundings;
 use history_model::Entry;
 use job_defs::{DefFault, read_def};
 use json_kinds::{key_name, reason_name};
-use run_times::Ink;
 use run_times::Piece::{Number, Text};
+use run_times::TextWriter;
 use serde_json::Value;
 use std::alloc::{AllocError, Global};
 
@@ -28,7 +28,7 @@ const ROOT: &str = "root";
 
 /// A job that a line describes.
 #[derive(Drop)]
-pub struct Job<'a> {
+pub struct CronJob<'a> {
     /// The line's number.
     pub number: usize,
     /// The comment above the line; empty if there is none.
@@ -64,13 +64,13 @@ pub struct Made {
 /// something else, as for a variable that is too long.
 pub fn definition_of(
     alloc: Global,
-    job: Job<'_>,
-    settings: &Settings,
+    job: CronJob<'_>,
+    settings: &CronVariables,
     around: &Surroundings,
 ) -> Result<Made, LineFault>
     ensures loads { IfOk result (λ made. Loads (string_bytes made.text)) }
 {
-    let Job {
+    let CronJob {
         number,
         comment,
         when,
@@ -112,11 +112,11 @@ fn label_of(
     comment: &str,
     command: &str,
 ) -> Result<String, AllocError> {
-    let mut ink = Ink::new(alloc);
-    ink.put("cron.");
-    ink.put_number(number as u64);
-    ink.put_made(name_of(alloc, comment, command));
-    ink.into_text()
+    let mut writer = TextWriter::new(alloc);
+    writer.put("cron.");
+    writer.put_number(number as u64);
+    writer.put_made(name_of(alloc, comment, command));
+    writer.into_text()
 }
 
 // The label and the text of a definition, if a load takes the text.
@@ -174,7 +174,7 @@ fn text_of(
     label: &Result<String, AllocError>,
     when: &When,
     words: &Words<'_>,
-    settings: &Settings,
+    settings: &CronVariables,
     around: &Surroundings,
 ) -> Result<String, LineFault> {
     let Words {
@@ -182,22 +182,26 @@ fn text_of(
         guard,
         command,
     } = *words;
-    let mut ink = Ink::new(alloc);
-    ink.put("{\"Label\": ");
+    let mut writer = TextWriter::new(alloc);
+    writer.put("{\"Label\": ");
     match label {
-        Ok(label) => put_json(alloc, &mut ink, label.as_str()),
-        Err(_) => ink.refuse(),
+        Ok(label) => put_json(alloc, &mut writer, label.as_str()),
+        Err(_) => writer.refuse(),
     }
-    ink.put(", \"ProgramArguments\": [");
-    put_user(alloc, &mut ink, user, around);
-    put_guard(alloc, &mut ink, guard);
-    put_json(alloc, &mut ink, settings.value_of("SHELL").unwrap_or(SHELL));
-    put_line(alloc, &mut ink, command);
-    ink.put("]");
-    put_surroundings(alloc, &mut ink, user, settings, around);
-    put_logs(alloc, &mut ink, label, around);
-    let fault = put_start(alloc, &mut ink, when);
-    match (fault, ink.into_text()) {
+    writer.put(", \"ProgramArguments\": [");
+    put_user(alloc, &mut writer, user, around);
+    put_guard(alloc, &mut writer, guard);
+    put_json(
+        alloc,
+        &mut writer,
+        settings.value_of("SHELL").unwrap_or(SHELL),
+    );
+    put_line(alloc, &mut writer, command);
+    writer.put("]");
+    put_surroundings(alloc, &mut writer, user, settings, around);
+    put_logs(alloc, &mut writer, label, around);
+    let fault = put_start(alloc, &mut writer, when);
+    match (fault, writer.into_text()) {
         (None, Ok(text)) => Ok(text),
         (None, Err(_)) => Err(LineFault::NoMemory),
         (Some(fault), text) => {
@@ -208,60 +212,60 @@ fn text_of(
 }
 
 // Adds the shell of the test before the command, if there is a test.
-fn put_guard(alloc: Global, ink: &mut Ink, guard: &str) {
+fn put_guard(alloc: Global, writer: &mut TextWriter, guard: &str) {
     if !guard.is_empty() {
-        put_json(alloc, ink, SHELL);
-        put_line(alloc, ink, guard);
-        ink.put(", ");
+        put_json(alloc, writer, SHELL);
+        put_line(alloc, writer, guard);
+        writer.put(", ");
     }
 }
 
 // Adds the arguments by which a shell does what this text says.
-fn put_line(alloc: Global, ink: &mut Ink, text: &str) {
-    ink.put(", \"-c\", ");
-    put_json(alloc, ink, text);
+fn put_line(alloc: Global, writer: &mut TextWriter, text: &str) {
+    writer.put(", \"-c\", ");
+    put_json(alloc, writer, text);
 }
 
 // Adds the file that keeps the output, if there is a folder for it.
 fn put_logs(
     alloc: Global,
-    ink: &mut Ink,
+    writer: &mut TextWriter,
     label: &Result<String, AllocError>,
     around: &Surroundings,
 ) {
     if let (Ok(label), Some(folder)) = (label, around.logs.as_deref()) {
-        put_log(alloc, ink, label.as_str(), folder);
+        put_log(alloc, writer, label.as_str(), folder);
     }
 }
 
-fn put_log(alloc: Global, ink: &mut Ink, label: &str, folder: &str) {
-    let mut path = Ink::new(alloc);
+fn put_log(alloc: Global, writer: &mut TextWriter, label: &str, folder: &str) {
+    let mut path = TextWriter::new(alloc);
     path.fill("$/$.log", &[Text(folder), Text(label)]);
     match path.into_text() {
         Ok(path) => {
-            ink.put(", \"StandardOutPath\": ");
-            put_json(alloc, ink, path.as_str());
-            ink.put(", \"StandardErrorPath\": ");
-            put_json(alloc, ink, path.as_str());
+            writer.put(", \"StandardOutPath\": ");
+            put_json(alloc, writer, path.as_str());
+            writer.put(", \"StandardErrorPath\": ");
+            put_json(alloc, writer, path.as_str());
             drop(path);
         }
-        Err(_) => ink.refuse(),
+        Err(_) => writer.refuse(),
     }
 }
 
-fn put_json(alloc: Global, ink: &mut Ink, text: &str) {
+fn put_json(alloc: Global, writer: &mut TextWriter, text: &str) {
     match String::from_str(alloc, text) {
         Ok(text) => {
             let value = Value::String(text);
-            ink.put_made(value.to_string(alloc));
+            writer.put_made(value.to_string(alloc));
             drop(value);
         }
-        Err(_) => ink.refuse(),
+        Err(_) => writer.refuse(),
     }
 }
 
 // Adds the wrapper command that makes a program the user's, with the user's groups: setpriv(1). Nothing for root.
-fn put_user(alloc: Global, ink: &mut Ink, user: Option<&str>, around: &Surroundings) {
+fn put_user(alloc: Global, writer: &mut TextWriter, user: Option<&str>, around: &Surroundings) {
     let Some(name) = user else {
         return;
     };
@@ -272,32 +276,32 @@ fn put_user(alloc: Global, ink: &mut Ink, user: Option<&str>, around: &Surroundi
         Some(user) => user.group,
         None => name,
     };
-    ink.put("\"/usr/bin/setpriv\", ");
-    put_option(alloc, ink, "--reuid=", name);
-    put_option(alloc, ink, "--regid=", group);
-    ink.put("\"--init-groups\", \"--\", ");
+    writer.put("\"/usr/bin/setpriv\", ");
+    put_option(alloc, writer, "--reuid=", name);
+    put_option(alloc, writer, "--regid=", group);
+    writer.put("\"--init-groups\", \"--\", ");
 }
 
-fn put_option(alloc: Global, ink: &mut Ink, option: &str, value: &str) {
-    let mut word = Ink::new(alloc);
+fn put_option(alloc: Global, writer: &mut TextWriter, option: &str, value: &str) {
+    let mut word = TextWriter::new(alloc);
     word.put(option);
     word.put(value);
     match word.into_text() {
         Ok(word) => {
-            put_json(alloc, ink, word.as_str());
+            put_json(alloc, writer, word.as_str());
             drop(word);
         }
-        Err(_) => ink.refuse(),
+        Err(_) => writer.refuse(),
     }
-    ink.put(", ");
+    writer.put(", ");
 }
 
 // Adds the variables, those first that cron sets, and the working folder, which is the home folder.
 fn put_surroundings(
     alloc: Global,
-    ink: &mut Ink,
+    writer: &mut TextWriter,
     user: Option<&str>,
-    settings: &Settings,
+    settings: &CronVariables,
     around: &Surroundings,
 ) {
     let own = match user {
@@ -310,49 +314,55 @@ fn put_surroundings(
     let set = settings.value_of("HOME");
     let mut is_first = true;
     if settings.value_of("SHELL").is_none() {
-        put_variable(alloc, ink, &mut is_first, "SHELL", SHELL);
+        put_variable(alloc, writer, &mut is_first, "SHELL", SHELL);
     }
     if let (Some(home), None) = (own, set) {
-        put_variable(alloc, ink, &mut is_first, "HOME", home);
+        put_variable(alloc, writer, &mut is_first, "HOME", home);
     }
     let name = user.or(around.asker());
     if let Some(name) = name {
-        put_variable(alloc, ink, &mut is_first, "LOGNAME", name);
+        put_variable(alloc, writer, &mut is_first, "LOGNAME", name);
     }
     for (name, value) in settings.as_slice() {
-        put_variable(alloc, ink, &mut is_first, name.as_str(), value.as_str());
+        put_variable(alloc, writer, &mut is_first, name.as_str(), value.as_str());
     }
-    ink.put(if is_first { "" } else { "}" });
+    writer.put(if is_first { "" } else { "}" });
     if let Some(home) = set.or(own) {
-        ink.put(", \"WorkingDirectory\": ");
-        put_json(alloc, ink, home);
+        writer.put(", \"WorkingDirectory\": ");
+        put_json(alloc, writer, home);
     }
 }
 
-fn put_variable(alloc: Global, ink: &mut Ink, is_first: &mut bool, name: &str, value: &str) {
-    ink.put(if *is_first {
+fn put_variable(
+    alloc: Global,
+    writer: &mut TextWriter,
+    is_first: &mut bool,
+    name: &str,
+    value: &str,
+) {
+    writer.put(if *is_first {
         ", \"EnvironmentVariables\": {"
     } else {
         ", "
     });
     *is_first = false;
-    put_json(alloc, ink, name);
-    ink.put(": ");
-    put_json(alloc, ink, value);
+    put_json(alloc, writer, name);
+    writer.put(": ");
+    put_json(alloc, writer, value);
 }
 
 // Adds what starts the job, and the definition's end; or says why nothing does.
-fn put_start(alloc: Global, ink: &mut Ink, when: &When) -> Option<LineFault> {
+fn put_start(alloc: Global, writer: &mut TextWriter, when: &When) -> Option<LineFault> {
     let fields = match when {
         When::Boot => {
-            ink.put(", \"RunAtLoad\": true}\n");
+            writer.put(", \"RunAtLoad\": true}\n");
             return None;
         }
         When::Minutes(fields) => fields,
     };
     match entries_of(alloc, fields) {
         Ok(entries) => {
-            put_calendar(ink, entries.as_slice());
+            put_calendar(writer, entries.as_slice());
             drop(entries);
             None
         }
@@ -375,21 +385,21 @@ fn fault_of(alloc: Global, fault: EntriesFault) -> LineFault {
     told(alloc, form, &[Number(count as u64)])
 }
 
-fn put_calendar(ink: &mut Ink, entries: &[Entry]) {
+fn put_calendar(writer: &mut TextWriter, entries: &[Entry]) {
     let mut is_first = true;
     for entry in entries {
-        ink.put(if is_first {
+        writer.put(if is_first {
             ", \"StartCalendarInterval\": [{"
         } else {
             "}, {"
         });
-        put_entry(ink, entry);
+        put_entry(writer, entry);
         is_first = false;
     }
-    ink.put("}]}\n");
+    writer.put("}]}\n");
 }
 
-fn put_entry(ink: &mut Ink, entry: &Entry) {
+fn put_entry(writer: &mut TextWriter, entry: &Entry) {
     let parts = [
         ("\"Minute\": ", entry.minute),
         ("\"Hour\": ", entry.hour),
@@ -401,7 +411,7 @@ fn put_entry(ink: &mut Ink, entry: &Entry) {
     for (key, value) in parts.iter() {
         if let Some(value) = value {
             let before = if is_first { "" } else { ", " };
-            ink.put_all(&[Text(before), Text(*key), Number(u64::from(*value))]);
+            writer.put_all(&[Text(before), Text(*key), Number(u64::from(*value))]);
             is_first = false;
         }
     }

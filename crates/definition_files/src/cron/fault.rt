@@ -1,6 +1,6 @@
 //! What is wrong with a line.
 
-use run_times::{Ink, Piece};
+use run_times::{Piece, TextWriter};
 use std::alloc::{AllocError, Global};
 
 /// Why a line has no definition.
@@ -19,14 +19,14 @@ impl From<AllocError> for LineFault {
 
 /// The fault with the text of the form, whose holes the pieces fill, if there is memory for it.
 pub(crate) fn told(alloc: Global, form: &str, pieces: &[Piece<'_>]) -> LineFault {
-    let mut ink = Ink::new(alloc);
-    ink.fill(form, pieces);
-    refused(ink)
+    let mut writer = TextWriter::new(alloc);
+    writer.fill(form, pieces);
+    refused(writer)
 }
 
 /// The fault with the text that was written, if there was memory for it.
-pub(crate) fn refused(ink: Ink) -> LineFault {
-    match ink.into_text() {
+pub(crate) fn refused(writer: TextWriter) -> LineFault {
+    match writer.into_text() {
         Ok(text) => LineFault::Refused(text),
         Err(_) => LineFault::NoMemory,
     }

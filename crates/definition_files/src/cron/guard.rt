@@ -3,7 +3,7 @@
 use crate::cron::entries::MOST_ENTRIES;
 use crate::cron::fields::{Field, Fields};
 use crate::cron::line::When;
-use run_times::Ink;
+use run_times::TextWriter;
 use std::alloc::{AllocError, Global};
 
 // The time that is judged: that of the start by the clock, put back by the first minute of the entries, and by their first hour if they name
@@ -26,42 +26,45 @@ struct Judged<'a> {
 /// The shell script that runs the program only at the line's minutes, if no 64 entries say these, or a day and a weekday must both suit. A
 /// field that it judges is then as `*`. If entries say the minutes, the script is empty, and the fields stay as they were.
 pub(crate) fn guard_in(alloc: Global, when: &mut When) -> Result<String, AllocError> {
-    let mut ink = Ink::new(alloc);
+    let mut writer = TextWriter::new(alloc);
     if let When::Minutes(fields) = when {
         if is_both(fields) || has_many(fields) {
-            put_guard(alloc, &mut ink, fields);
+            put_guard(alloc, &mut writer, fields);
         }
     }
-    ink.into_text()
+    writer.into_text()
 }
 
-fn put_guard(alloc: Global, ink: &mut Ink, fields: &mut Fields) {
-    let mut cases = Ink::new(alloc);
+fn put_guard(alloc: Global, writer: &mut TextWriter, fields: &mut Fields) {
+    let mut cases = TextWriter::new(alloc);
     put_cases(&mut cases, fields);
     let hours = first_of(&fields.hours).saturating_mul(60);
-    ink.put(BEFORE_MINUTES);
-    ink.put_number(first_of(&fields.minutes).saturating_add(hours));
-    ink.put(BEHIND_MINUTES);
-    ink.put_made(cases.into_text());
-    ink.put(END);
+    writer.put(BEFORE_MINUTES);
+    writer.put_number(first_of(&fields.minutes).saturating_add(hours));
+    writer.put(BEHIND_MINUTES);
+    writer.put_made(cases.into_text());
+    writer.put(END);
 }
 
-fn put_cases(ink: &mut Ink, fields: &mut Fields) {
+fn put_cases(writer: &mut TextWriter, fields: &mut Fields) {
     if is_both(fields) {
-        put_case(ink, &[by_day(&fields.days)]);
+        put_case(writer, &[by_day(&fields.days)]);
         fields.days.is_every = true;
     }
     if has_many(fields) {
-        put_case(ink, &[by_hour(&fields.hours)]);
+        put_case(writer, &[by_hour(&fields.hours)]);
         fields.hours.is_every = true;
     }
     if has_many(fields) {
-        put_case(ink, &[by_day(&fields.days), by_weekday(&fields.weekdays)]);
+        put_case(
+            writer,
+            &[by_day(&fields.days), by_weekday(&fields.weekdays)],
+        );
         fields.days.is_every = true;
         fields.weekdays.is_every = true;
     }
     if has_many(fields) {
-        put_case(ink, &[by_month(&fields.months)]);
+        put_case(writer, &[by_month(&fields.months)]);
         fields.months.is_every = true;
     }
 }
@@ -100,25 +103,25 @@ fn by_month(field: &Field) -> Judged<'_> {
 }
 
 // Adds the test that one of the fields suits; nothing, if none has values.
-fn put_case(ink: &mut Ink, fields: &[Judged<'_>]) {
+fn put_case(writer: &mut TextWriter, fields: &[Judged<'_>]) {
     let mut is_first = true;
     for judged in fields {
-        put_values(ink, judged, &mut is_first);
+        put_values(writer, judged, &mut is_first);
     }
     if !is_first {
-        ink.put(") ;; *) exit;; esac; ");
+        writer.put(") ;; *) exit;; esac; ");
     }
 }
 
-fn put_values(ink: &mut Ink, judged: &Judged<'_>, is_first: &mut bool) {
+fn put_values(writer: &mut TextWriter, judged: &Judged<'_>, is_first: &mut bool) {
     if judged.field.is_every {
         return;
     }
     for value in judged.field.values.as_slice() {
-        ink.put(if *is_first { "case $1 in " } else { "|" });
-        ink.put(judged.before);
-        ink.put_number(u64::from(*value));
-        ink.put(judged.behind);
+        writer.put(if *is_first { "case $1 in " } else { "|" });
+        writer.put(judged.before);
+        writer.put_number(u64::from(*value));
+        writer.put(judged.behind);
         *is_first = false;
     }
 }

@@ -2,8 +2,8 @@
 
 use crate::cron::fault::{LineFault, refused};
 use crate::cron::kinds::{Kind, number_of, value_of};
-use run_times::Ink;
 use run_times::Piece::{Number, Text};
+use run_times::TextWriter;
 use std::alloc::Global;
 
 /// The values from the first to the last by this step, which is 1 at least.
@@ -96,15 +96,15 @@ fn most_of(kind: &Kind) -> u8 {
 }
 
 fn fault_of(alloc: Global, kind: &Kind, wrong: Wrong<'_>) -> LineFault {
-    let mut ink = Ink::new(alloc);
-    ink.put(kind.name);
+    let mut writer = TextWriter::new(alloc);
+    writer.put(kind.name);
     match wrong {
         Wrong::Value(text) => {
             let shown = if text.is_empty() { "empty" } else { text };
-            ink.fill(" is $, expected $", &[Text(shown), Text(kind.wanted)]);
+            writer.fill(" is $, expected $", &[Text(shown), Text(kind.wanted)]);
         }
-        Wrong::Backwards(span) => ink.fill(" is $, which runs backwards", &[Text(span)]),
-        Wrong::NoRange(span, step) => ink.fill(
+        Wrong::Backwards(span) => writer.fill(" is $, which runs backwards", &[Text(span)]),
+        Wrong::NoRange(span, step) => writer.fill(
             " is $/$, expected a range before the step, as $-$/$",
             &[
                 Text(span),
@@ -115,12 +115,12 @@ fn fault_of(alloc: Global, kind: &Kind, wrong: Wrong<'_>) -> LineFault {
             ],
         ),
         Wrong::Step(step) => {
-            ink.put(" has the step ");
-            ink.put_quoted(step);
-            ink.fill(", expected 1 to $", &[Number(u64::from(most_of(kind)))]);
+            writer.put(" has the step ");
+            writer.put_quoted(step);
+            writer.fill(", expected 1 to $", &[Number(u64::from(most_of(kind)))]);
         }
     }
-    refused(ink)
+    refused(writer)
 }
 
 // What comes before the first such letter, and what after it.

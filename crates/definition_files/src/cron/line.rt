@@ -18,7 +18,7 @@ pub enum When {
 
 /// What a line says.
 #[derive(Drop)]
-pub enum Line<'a> {
+pub enum CronLine<'a> {
     /// Nothing: it is empty.
     Nothing,
     /// It is a comment, which says this.
@@ -39,16 +39,20 @@ pub enum Line<'a> {
 /// What the line says, which has no newline; with `has_user` a user's field comes before the command. Refused: a field is invalid, the
 /// command or a field is absent, or the name after `@` is unknown. Refused too: the user's field can't be a user's name, or a command
 /// without such a field begins with `*`, as after six fields.
-pub fn read_line<'a>(alloc: Global, has_user: bool, text: &'a str) -> Result<Line<'a>, LineFault> {
+pub fn read_line<'a>(
+    alloc: Global,
+    has_user: bool,
+    text: &'a str,
+) -> Result<CronLine<'a>, LineFault> {
     let text = text.trim_start_matches(is_blank);
     if text.is_empty() {
-        return Ok(Line::Nothing);
+        return Ok(CronLine::Nothing);
     }
     if let Some(comment) = text.strip_prefix('#') {
-        return Ok(Line::Comment(comment));
+        return Ok(CronLine::Comment(comment));
     }
     if let Some((name, value)) = variable_in(text) {
-        return Ok(Line::Variable { name, value });
+        return Ok(CronLine::Variable { name, value });
     }
     let (when, rest) = timed(alloc, has_user, text)?;
     if has_user {
@@ -58,28 +62,28 @@ pub fn read_line<'a>(alloc: Global, has_user: bool, text: &'a str) -> Result<Lin
     }
 }
 
-fn by_owner<'a>(alloc: Global, when: When, command: &'a str) -> Result<Line<'a>, LineFault> {
+fn by_owner<'a>(alloc: Global, when: When, command: &'a str) -> Result<CronLine<'a>, LineFault> {
     if command.starts_with('*') {
         drop(when);
         let form =
             "the command begins with *; expected five fields before it, with none for the second";
         return Err(told(alloc, form, &[]));
     }
-    Ok(Line::Command {
+    Ok(CronLine::Command {
         when,
         user: None,
         command,
     })
 }
 
-fn by_user<'a>(alloc: Global, when: When, rest: &'a str) -> Result<Line<'a>, LineFault> {
+fn by_user<'a>(alloc: Global, when: When, rest: &'a str) -> Result<CronLine<'a>, LineFault> {
     let (user, command) = word_of(rest);
     let form = if !is_user_name(user) {
         "$ is not a user name, expected one between the fields and the command"
     } else if command.is_empty() {
         "expected a command after the user $"
     } else {
-        return Ok(Line::Command {
+        return Ok(CronLine::Command {
             when,
             user: Some(user),
             command,

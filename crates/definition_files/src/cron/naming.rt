@@ -1,6 +1,6 @@
 //! The name of a job, by the comment above its line or by its command.
 
-use run_times::Ink;
+use run_times::TextWriter;
 use std::alloc::{AllocError, Global};
 
 /// The longest name in a label, in bytes.
@@ -8,12 +8,12 @@ const LONGEST_NAME: usize = 64;
 
 /// A dot and the name of the job: the text of the comment, or else the name of the command's program. Nothing if neither has a letter.
 pub(crate) fn name_of(alloc: Global, comment: &str, command: &str) -> Result<String, AllocError> {
-    let mut ink = Ink::new(alloc);
-    put_words(&mut ink, comment);
-    if ink.text.is_empty() {
-        put_program(&mut ink, command);
+    let mut writer = TextWriter::new(alloc);
+    put_words(&mut writer, comment);
+    if writer.text.is_empty() {
+        put_program(&mut writer, command);
     }
-    ink.into_text()
+    writer.into_text()
 }
 
 /// Whether a comment says what the fields of the lines below are, as the first lines of most crontabs do, or is a line that was made one.
@@ -22,7 +22,7 @@ pub(crate) fn is_heading(comment: &str) -> bool {
 }
 
 // The letters and digits of the comment in small letters, with `-` for what is between them, as far as each whole part fits.
-fn put_words(ink: &mut Ink, comment: &str) {
+fn put_words(writer: &mut TextWriter, comment: &str) {
     let mut length: usize = 0;
     for word in comment.split(is_between) {
         let longer = length.saturating_add(word.len()).saturating_add(1);
@@ -31,16 +31,16 @@ fn put_words(ink: &mut Ink, comment: &str) {
         }
         if !word.is_empty() {
             let between = if length == 0 { '.' } else { '-' };
-            ink.put_char(between);
-            put_small(ink, word);
+            writer.put_char(between);
+            put_small(writer, word);
             length = longer;
         }
     }
 }
 
-fn put_small(ink: &mut Ink, word: &str) {
+fn put_small(writer: &mut TextWriter, word: &str) {
     for letter in word.chars() {
-        ink.put_char(letter.to_ascii_lowercase());
+        writer.put_char(letter.to_ascii_lowercase());
     }
 }
 
@@ -49,20 +49,20 @@ fn is_between(letter: char) -> bool {
 }
 
 // What follows the last `/` before the first blank, without letters that don't belong in a plain name.
-fn put_program(ink: &mut Ink, command: &str) {
+fn put_program(writer: &mut TextWriter, command: &str) {
     for letter in command.chars() {
         let is_mark = letter == '.' || letter == '_' || letter == '-';
         let is_blank = letter == ' ' || letter == '\t';
-        if is_blank || ink.text.len() > LONGEST_NAME {
+        if is_blank || writer.text.len() > LONGEST_NAME {
             break;
         }
         if letter == '/' {
-            ink.text.clear();
+            writer.text.clear();
         } else if letter.is_ascii_alphanumeric() || is_mark {
-            if ink.text.is_empty() {
-                ink.put_char('.');
+            if writer.text.is_empty() {
+                writer.put_char('.');
             }
-            ink.put_char(letter);
+            writer.put_char(letter);
         }
     }
 }

@@ -4,14 +4,14 @@ use std::alloc::{AllocError, Global};
 
 /// The variables, each once, in the order in which they were first set.
 #[derive(Drop)]
-pub struct Settings {
+pub struct CronVariables {
     variables: Vec<(String, String)>,
 }
 
-impl Settings {
+impl CronVariables {
     /// No variable is set.
-    pub fn new(alloc: Global) -> Settings {
-        Settings {
+    pub fn new(alloc: Global) -> CronVariables {
+        CronVariables {
             variables: Vec::new(alloc),
         }
     }

@@ -3,23 +3,23 @@
 ghost use Rattle.std.specs.Prelude.{◌≡◌, IfOk};
 ghost use Rattle.definition_files.specs.LineStatus.{AreLineVerdicts, Judges, crontab_status};
 
-use crate::cron::definition::{Job, Made, definition_of};
+use crate::cron::definition::{CronJob, Made, definition_of};
 use crate::cron::fault::LineFault;
 use crate::cron::keeper::LineKeeper;
-use crate::cron::line::{Line, read_line, word_of};
+use crate::cron::line::{CronLine, read_line, word_of};
 use crate::cron::naming::is_heading;
-use crate::cron::settings::Settings;
+use crate::cron::settings::CronVariables;
 use crate::cron::surroundings::Surroundings;
 use crate::cron::verdicts::LineVerdicts;
 use history_model::Text;
 use run_times::telling::{Outcome, tell_line};
-use run_times::{Ink, Piece};
+use run_times::{Piece, TextWriter};
 use std::alloc::{AllocError, Global};
 
 /// What the lines above a line say.
 #[derive(Drop)]
 struct Above {
-    settings: Settings,
+    settings: CronVariables,
     /// The comment right above; empty if there is none.
     comment: String,
     /// Cron would mail what a command writes.
@@ -43,7 +43,7 @@ pub fn definitions_of<K: LineKeeper>(
 {
     let mut text = String::new(alloc);
     let mut above = Above {
-        settings: Settings::new(alloc),
+        settings: CronVariables::new(alloc),
         comment: String::new(alloc),
         is_mailed: true,
         is_loss_told: false,
@@ -97,18 +97,18 @@ fn made_of(
     above: &mut Above,
 ) -> Result<Option<Made>, LineFault> {
     match read_line(alloc, around.has_user, line) {
-        Ok(Line::Nothing) => {
+        Ok(CronLine::Nothing) => {
             above.comment.clear();
             Ok(None)
         }
-        Ok(Line::Comment(comment)) => {
+        Ok(CronLine::Comment(comment)) => {
             above.comment.clear();
             if !is_heading(comment) {
                 above.comment.push_str(comment)?;
             }
             Ok(None)
         }
-        Ok(Line::Variable { name, value }) => {
+        Ok(CronLine::Variable { name, value }) => {
             if is_taken(name) {
                 above.settings.set(alloc, name, value)?;
             }
@@ -119,14 +119,14 @@ fn made_of(
             Ok(None)
         }
         Ok(
-            Line::Command {
+            CronLine::Command {
                 when,
                 user,
                 command,
             },
         ) => {
             tell_user(host, number, user, command, around);
-            let job = Job {
+            let job = CronJob {
                 number,
                 comment: above.comment.as_str(),
                 when,
@@ -228,7 +228,7 @@ fn tell_made(
 }
 
 fn tell_note<'a>(host: &HostRuntime, number: usize, name: &'a str, told: &'a str) {
-    let mut line = Ink::new(host.alloc());
+    let mut line = TextWriter::new(host.alloc());
     line.fill(
         "cron:$: note: $: $\n",
         &[

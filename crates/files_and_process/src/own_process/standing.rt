@@ -20,7 +20,7 @@ pub enum Signal {
 
 /// What the system says of this process. Where it says nothing, nothing is known.
 #[derive(Clone, Copy)]
-pub struct Standing {
+pub struct ProcessState {
     /// How many descriptors it may have open at a time.
     pub descriptors: Option<u64>,
     /// How many bytes a file may have that it writes.
@@ -31,10 +31,10 @@ pub struct Standing {
     ignored: u64,
 }
 
-impl Standing {
+impl ProcessState {
     /// Reads `limits` and `status` of `/proc/self`. What can't be read is not known; so is a limit that is none.
-    pub fn read<R: AllocGlobal + Files>(rt: &R) -> Standing {
-        let mut standing = Standing {
+    pub fn read<R: AllocGlobal + Files>(rt: &R) -> ProcessState {
+        let mut standing = ProcessState {
             descriptors: None,
             file_size: None,
             user: None,

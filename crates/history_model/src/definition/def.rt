@@ -20,7 +20,7 @@ struct Parts {
     not_acted_on: Vec<Text>,
 }
 
-// for the proof: who lets it go calls this, in place of letting each part go
+// for the proof: the owner that drops it calls this, in place of a drop of each part
 impl Drop for Parts {
     fn drop(self) {
         let Parts {
@@ -34,8 +34,8 @@ impl Drop for Parts {
     }
 }
 
-/// A job's definition, as `job_defs::read_def` reads it from JSON. The keys and their meaning are those of
-/// launchd.plist(5), but for what is said here. Its parts lie behind a pointer, so a definition is small, and quick to move.
+/// A job's definition, as `job_defs::read_def` reads it from JSON. The keys and their meaning are those of launchd.plist(5), but
+/// for what is said here. It holds a pointer to its parts, so a definition is small, and quick to move.
 #[derive(Drop)]
 pub struct Def {
     parts: Box<Parts>,
@@ -79,9 +79,9 @@ impl Model for Def {
 }
 
 impl Def {
-    /// The definition with these parts. The intervals are within their ranges: `StartInterval` 1 to 31,536,000, `ThrottleInterval` and
-    /// `ExitTimeOut` at most 86,400, all in seconds. `not_acted_on` are the keys that nothing acts on. `AllocError` if memory
-    /// for the pointer to them was refused.
+    /// The definition with these parts. The intervals are within their ranges: `StartInterval` 1 to 31,536,000,
+    /// `ThrottleInterval` and `ExitTimeOut` at most 86,400, all in seconds. `not_acted_on` are the keys that are not supported.
+    /// `AllocError` if memory for the pointer to them was refused.
     pub fn of(
         alloc: Global,
         launch: Launch,
@@ -162,16 +162,16 @@ impl Def {
         self.parts.demand.keep.always
     }
 
-    /// `KeepAlive.SuccessfulExit`: the job is wanted after an end with status 0 (`true`), or after any other end
-    /// (`false`). It implies `RunAtLoad`. Absent: it is no condition.
+    /// `KeepAlive.SuccessfulExit`: the job is wanted after an exit with status 0 (`true`), or after any other exit (`false`). It
+    /// implies `RunAtLoad`. If it is absent, it makes no condition.
     pub fn successful_exit(&self) -> Option<bool>
         ensures { result ≡ self.now.successful_exit }
     {
         self.parts.demand.keep.successful_exit
     }
 
-    /// `KeepAlive.Crashed`: the job is wanted after an end by a signal of a crash (`true`), or after any other end
-    /// (`false`). Absent: it is no condition.
+    /// `KeepAlive.Crashed`: the job is wanted after an exit by a signal of a crash (`true`), or after any other exit (`false`).
+    /// If it is absent, it makes no condition.
     pub fn crashed(&self) -> Option<bool>
         ensures { result ≡ self.now.crashed }
     {
@@ -200,7 +200,7 @@ impl Def {
         self.parts.demand.queue_directories.as_slice()
     }
 
-    /// `StartInterval`, in seconds: the job is started each time that so many are over, counted from the load. 1 to
+    /// `StartInterval`, in seconds: the job is started each time that this interval has passed, counted from the load. 1 to
     /// 31,536,000. Absent: never.
     pub fn start_interval(&self) -> Option<u32>
         ensures value { result ≡ self.now.start_interval }
@@ -236,8 +236,8 @@ impl Def {
         self.parts.pace.exit_time_out
     }
 
-    /// `EnvironmentVariables`, in byte order of the names: what the child's environment has beside the launcher's. A
-    /// value that is no string is left out. At most 128. Absent: none.
+    /// `EnvironmentVariables`, in byte order of the names: what the child's environment has besides the launcher's. A value that
+    /// is not a string is left out. At most 128. Absent: none.
     pub fn environment(&self) -> &[Variable]
         ensures { result.now ≡ self.now.environment }
     {
@@ -286,9 +286,9 @@ impl Def {
         !self.parts.sockets.is_empty()
     }
 
-    /// The keys of the definition that nothing acts on, in byte order and each once. A key of a dictionary has a dot
-    /// before it and the key that holds the dictionary, as in `KeepAlive.NetworkState`; of a socket the socket's name
-    /// stands between them.
+    /// The keys of the definition that are not supported, in byte order and each once. A key of an object is written after the
+    /// key that holds the object and a dot, as in `KeepAlive.NetworkState`. For a key of a socket, the socket's name comes
+    /// between them.
     pub fn not_acted_on(&self) -> &[Text]
         ensures { result.now ≡ self.now.not_acted_on }
     {

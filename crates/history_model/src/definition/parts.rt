@@ -48,7 +48,7 @@ pub struct Launch {
     pub disabled: bool,
 }
 
-// for the proof: who lets it go calls this, in place of letting each part go
+// for the proof: the owner that drops it calls this, in place of a drop of each part
 impl Drop for Launch {
     fn drop(self) {
         let Launch {
@@ -79,7 +79,7 @@ pub struct Demand {
     pub calendar: Vec<Entry>,
 }
 
-// for the proof: who lets it go calls this, in place of letting each part go
+// for the proof: the owner that drops it calls this, in place of a drop of each part
 impl Drop for Demand {
     fn drop(self) {
         let Demand {
@@ -108,7 +108,7 @@ pub struct Surroundings {
     pub standard_error_path: Option<Text>,
 }
 
-// for the proof: who lets it go calls this, in place of letting each part go
+// for the proof: the owner that drops it calls this, in place of a drop of each part
 impl Drop for Surroundings {
     fn drop(self) {
         let Surroundings {

@@ -111,7 +111,7 @@ impl Job {
         Ok(())
     }
 
-    /// A start was asked. It makes a demand, unless a run that nobody stops stands already; with the flag then too.
+    /// A start was asked. It makes a start request, unless there is a run already that nobody stops; with the flag then too.
     fn started(&mut self, again: bool, kind: DemandKind)
         ensures { facts self.new
             ≡ fired_by (again || (not (is_busy_by (facts self.old)) || (facts self.old).is_stopping))
@@ -122,7 +122,7 @@ impl Job {
         }
     }
 
-    /// A demand of this kind came.
+    /// A start request of this kind came.
     fn fired(&mut self, kind: DemandKind)
         ensures { facts self.new ≡ fired_by true kind (facts self.old) }
     {

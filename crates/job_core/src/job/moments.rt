@@ -7,14 +7,15 @@ ghost use Rattle.history_model.specs.NextMomentByFacts.{has_come, coming_period}
 use super::Job;
 use history_model::MAX_UP;
 
-/// The moments of a job, in milliseconds of `up`, if nothing but readings happens. While the answer to an order is awaited none is given.
+/// The times at which the clock alone makes an order of a job due, in milliseconds of `up`. While the answer to an order is
+/// awaited none is given.
 #[derive(Clone, Copy)]
 pub struct Moments {
-    /// From when on TERM is due for the run that lives: if its end was asked for, and by no `kickstart -k`. A moment that is
-    /// over is one, too; none if TERM or KILL was sent.
+    /// From when on TERM is due for the child's run: if its end was asked for, and not by a `kickstart -k`. It may be a time that
+    /// is over; none if TERM or KILL was sent.
     pub term: Option<u64>,
-    /// From when on KILL is due for the run that lives: at once if a `kickstart -k` asked for its end, else `ExitTimeOut` after
-    /// the first TERM. None if KILL was sent, or if none follows.
+    /// From when on KILL is due for the child's run: at once if a `kickstart -k` asked for its end, else `ExitTimeOut` after the
+    /// first TERM. None if KILL was sent, or if none follows.
     pub kill: Option<u64>,
     /// The next end of its interval.
     pub interval: Option<u64>,
@@ -23,7 +24,7 @@ pub struct Moments {
 impl Job {
     ghost use Rattle.job_core.specs.JobFields.{facts};
 
-    /// The moments after which it is asked for, at this one of `up`.
+    /// These times, at this one of `up`.
     pub fn moments(&self, up: u64) -> Moments
         requires { up ≤ MAX_UP }
         ensures term { (at : ℕ) → has_come result.term at ≡ may_term_by (facts self.now) at }

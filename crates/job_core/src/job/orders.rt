@@ -30,7 +30,7 @@ impl Job {
         up < self.throttle.free_at()
     }
 
-    /// Whether a demand is pending, a connection waits, or a level holds.
+    /// Whether a start request is pending, a connection waits, or a level holds.
     pub fn is_wanted(&self) -> bool
         ensures { result ≡ is_wanted_by (facts self.now) }
     {
@@ -111,7 +111,7 @@ impl Job {
         Some(act)
     }
 
-    /// The next moment at which time alone may make an order due.
+    /// The next time at which the clock alone may make an order due.
     pub fn next_moment(&self, up: u64) -> Option<u64>
         requires { up ≤ MAX_UP }
         ensures { result ≡ next_by (facts self.now) up }
@@ -127,7 +127,7 @@ impl Job {
     }
 }
 
-/// Whether a moment is there, and is over.
+/// Whether there is a time, and it is over.
 fn has_come(moment: Option<u64>, up: u64) -> bool
     ensures { result ≡ has_come moment up }
 {

@@ -27,7 +27,7 @@ impl Job {
         }
     }
 
-    /// What made the pending demand.
+    /// What made the pending start request.
     pub fn latest_demand(&self) -> Option<DemandKind>
         ensures { result ≡ (facts self.now).demand }
     {
@@ -95,7 +95,7 @@ impl Job {
             || self.runs >= MAX_RUNS
     }
 
-    /// The moment from which a reading makes the spawn due, if nothing else happens and no calendar entry fires.
+    /// The time from which a clock reading makes the spawn due, if nothing else happens and no calendar entry fires.
     pub fn spawns_from(&self, up: u64) -> Option<u64>
         requires { up ≤ MAX_UP }
         ensures { result ≡ spawns_from_by (facts self.now) up }

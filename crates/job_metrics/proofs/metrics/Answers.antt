@@ -8,11 +8,11 @@ use Rattle.job_metrics.proofs.metrics.Goals as goal
 
 pub returns : goal.returns
 returns c =
-    let a = c.new-ink.result in
-    let b = c.put_launcher.new.ink in
-    let d = c.put_families.new.ink in
+    let a = c.new-writer.result in
+    let b = c.put_launcher.new.writer in
+    let d = c.put_families.new.writer in
     let one = launcher_samples c.args.launcher.now in
     let other = families_text c.args.jobs.now (Running ∷ Starts ∷ Failures ∷ Refusals ∷ LastEnd ∷ NextStart ∷ LastSuccess ∷ LastExit ∷ Resident ∷ Processor ∷ Disabled ∷ []) in
     let all : Adds (one ++ other) a d = adds_on one other a b d c.put_launcher.ensures c.put_families.ensures in
-    let written : d.is_refused ≡ false → string_bytes d.text ≡ one ++ other = λ well. all.added well ∙ ap (λ text. text ++ (one ++ other)) c.new-ink.ensures.empty in
+    let written : d.is_refused ≡ false → string_bytes d.text ≡ one ++ other = λ well. all.added well ∙ ap (λ text. text ++ (one ++ other)) c.new-writer.ensures.empty in
     grind (arith, written, c.into_text.ensures.value, c.into_text.ensures.succeeds)

@@ -4,4 +4,4 @@ use Rattle.job_metrics.proofs.put_family.Goals as goal
 
 pub returns : goal.returns
 returns c =
-    adds_on (head_text c.args.family) (samples_text c.args.family c.args.jobs.now) c.args.ink.now c.put_head.new.ink c.put_samples.new.ink c.put_head.ensures c.put_samples.ensures
+    adds_on (head_text c.args.family) (samples_text c.args.family c.args.jobs.now) c.args.writer.now c.put_head.new.writer c.put_samples.new.writer c.put_head.ensures c.put_samples.ensures

@@ -8,14 +8,14 @@ use Rattle.job_metrics.proofs.SamplesLemmas.{adds_more}
 use Rattle.job_metrics.proofs.put_label.Goals as goal
 
 pub loop-c-init : goal.loop-c-init
-loop-c-init c = adds_none c.args.ink.now
+loop-c-init c = adds_none c.args.writer.now
 
 pub loop-c-preserved : goal.loop-c-preserved
 loop-c-preserved c =
-    adds_more label_char c.loop-c.yielded c.in-Some.c c.args.ink.now c.loop-c.ink c.put_label_char.new.ink c.loop-c.invariant c.put_label_char.ensures
+    adds_more label_char c.loop-c.yielded c.in-Some.c c.args.writer.now c.loop-c.writer c.put_label_char.new.writer c.loop-c.invariant c.put_label_char.ensures
 
 pub returns : goal.returns
 returns c =
     let done = YieldsList-end (YieldsList-from_chars c.args.label.now c.utf8.label cc) c.loop-c.yielded _ c.loop-c.yielded_by _ _ c.in-None.is c.next.ensures.steps in
     let all : c.loop-c.yielded ≡ chars c.args.label.now = sym (map-id c.loop-c.yielded) ∙ done.0 in
-    subst (λ cs. Adds (label_text cs) c.args.ink.now c.loop-c.ink) all c.loop-c.invariant
+    subst (λ cs. Adds (label_text cs) c.args.writer.now c.loop-c.writer) all c.loop-c.invariant

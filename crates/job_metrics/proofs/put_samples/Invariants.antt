@@ -4,4 +4,4 @@ use Rattle.job_metrics.specs.Samples.{samples_text}
 use Rattle.job_metrics.proofs.put_samples.Given as goal
 
 abbrev pub invariant-loop-job : goal.invariant-loop-job
-invariant-loop-job l = Adds (samples_text l.family (take l.job-index l.jobs)) l.fn.ink l.ink
+invariant-loop-job l = Adds (samples_text l.family (take l.job-index l.jobs)) l.fn.writer l.writer

@@ -11,9 +11,9 @@ use Rattle.json_lines.proofs.put_member.Goals as goal
 pub returns-in-Text : goal.returns-in-Text
 returns-in-Text c =
     let key = c.args.key.now in
-    let a = c.args.page.now.ink in
-    let b = c.put_value-in-Text.new.ink in
-    let d = c.put_quoted.new.ink in
+    let a = c.args.page.now.writer in
+    let b = c.put_value-in-Text.new.writer in
+    let d = c.put_quoted.new.writer in
     let front = front_of key [] in
     let told = quoted c.in-Text.text.now in
     subst (λ value. TellsMember key value a d) (sym c.in-Text.is)
@@ -22,11 +22,11 @@ returns-in-Text c =
 pub returns-in-Moment : goal.returns-in-Moment
 returns-in-Moment c =
     let key = c.args.key.now in
-    let a = c.args.page.now.ink in
-    let b = c.put_value-in-Moment.new.ink in
-    let d = c.put_clock.new.ink in
+    let a = c.args.page.now.writer in
+    let b = c.put_value-in-Moment.new.writer in
+    let d = c.put_clock.new.writer in
     let e = c.put.new.self in
-    let f = c.put_number-in-Moment.new.ink in
+    let f = c.put_number-in-Moment.new.writer in
     let front = front_of key (codes "\"") in
     let number = codes ",\"" ++ (key ++ (codes "_seconds" ++ (codes "\":" ++ decimal c.in-Moment.second))) in
     let (shown, is, grown) = c.put_clock.ensures in

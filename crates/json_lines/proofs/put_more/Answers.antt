@@ -8,13 +8,13 @@ use Rattle.json_lines.proofs.MembersLemmas.{adds_next}
 use Rattle.json_lines.proofs.put_more.Goals as goal
 
 pub loop-text-init : goal.loop-text-init
-loop-text-init c = adds_none c.args.ink.now
+loop-text-init c = adds_none c.args.writer.now
 
 pub loop-text-preserved : goal.loop-text-preserved
 loop-text-preserved c =
-    adds_next more_text c.args.texts.now c.loop-text.text-index _ c.args.ink.now c.loop-text.ink c.put_behind.new.ink c.loop-text-test.true c.loop-text.invariant c.put_behind.ensures
+    adds_next more_text c.args.texts.now c.loop-text.text-index _ c.args.writer.now c.loop-text.writer c.put_behind.new.writer c.loop-text-test.true c.loop-text.invariant c.put_behind.ensures
 
 pub returns : goal.returns
 returns c =
-    subst (λ texts. Adds (flat_map more_text texts) c.args.ink.now c.loop-text.ink)
+    subst (λ texts. Adds (flat_map more_text texts) c.args.writer.now c.loop-text.writer)
     (take_all c.loop-text.text-index c.args.texts.now c.loop-text-test.false) c.loop-text.invariant

@@ -5,10 +5,10 @@ use Rattle.json_lines.proofs.put_object.Goals as goal
 
 pub returns : goal.returns
 returns c =
-    let a = c.args.page.now.ink in
-    let b = c.put_front.new.ink in
-    let d = c.put_quoted.new.ink in
-    let e = c.put_members.new.page.ink in
+    let a = c.args.page.now.writer in
+    let b = c.put_front.new.writer in
+    let d = c.put_quoted.new.writer in
+    let e = c.put_members.new.page.writer in
     let f = c.put.new.self in
     let front = codes "{\"" ++ (c.args.key.now ++ codes "\":") in
     let name = quoted c.args.name.now in

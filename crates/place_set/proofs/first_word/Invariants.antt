@@ -1,4 +1,4 @@
--- No word that was passed has a bit.
+-- No number that was passed has a bit.
 use Rattle.std.proofs.Common.{◌≡◌, ◌<◌, ◌-◌, ℕ, length, slice_index_or}
 use Rattle.place_set.proofs.first_word.Given as goal
 

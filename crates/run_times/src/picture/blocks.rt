@@ -1,15 +1,15 @@
 //! The chart in lines of a terminal: bars of block characters, and a line of marks under a row that has some.
 
-use crate::ink::Ink;
-use crate::ink::Piece::{Number, Text};
 use crate::page::Filling::Moment;
 use crate::page::Page;
 use crate::picture::axis::Axis;
-use crate::picture::chart::{Bar, Chart, Mark, Row, grade};
+use crate::picture::chart::{Bar, Chart, ChartMark, ChartRow, grade};
 use crate::picture::piece::NO_READING;
 use crate::picture::svg::has_band;
 use crate::picture::ticks::{Tick, ticks};
 use crate::picture::words::{columns_of, cut, missing};
+use crate::writer::Piece::{Number, Text};
+use crate::writer::TextWriter;
 use calendar_due::Zone;
 use std::alloc::{AllocError, Global};
 
@@ -43,7 +43,7 @@ pub fn blocks_text(
     let mut page = Page::new(alloc, zone, NO_READING);
     page.add("$\tto $\n", &[Moment(axis.from), Moment(axis.until)]);
     let ticks = ticks(&mut page, axis, u64::from(axis.places / 11).max(1));
-    put_lines(alloc, &mut page.ink, &layout, chart, ticks.as_slice());
+    put_lines(alloc, &mut page.writer, &layout, chart, ticks.as_slice());
     drop(ticks);
     match page.into_text() {
         Ok(text) => {
@@ -72,16 +72,16 @@ fn layout_of(chart: &Chart, width: u16) -> Layout {
 
 // The lines without the spaces at their ends; those that are too wide, in several.
 fn fitted(alloc: Global, text: &str, width: usize) -> Result<String, AllocError> {
-    let mut ink = Ink::new(alloc);
+    let mut writer = TextWriter::new(alloc);
     for line in text.lines() {
-        put_fitted(&mut ink, line.trim_end_matches(' '), width);
+        put_fitted(&mut writer, line.trim_end_matches(' '), width);
     }
-    ink.into_text()
+    writer.into_text()
 }
 
 // Adds a line. If it has tabs, they part it, and the parts get two spaces between them; else blanks part it. A part that does not fit in
 // the width begins a new line.
-fn put_fitted(ink: &mut Ink, line: &str, width: usize) {
+fn put_fitted(writer: &mut TextWriter, line: &str, width: usize) {
     let (between, gap) = if line.contains('\t') {
         ('\t', "  ")
     } else {
@@ -100,64 +100,70 @@ fn put_fitted(ink: &mut Ink, line: &str, width: usize) {
         } else {
             ""
         };
-        ink.put_all(&[Text(before), Text(part)]);
+        writer.put_all(&[Text(before), Text(part)]);
         used = if has_room { behind } else { wide };
     }
-    ink.put("\n");
+    writer.put("\n");
 }
 
-fn put_lines(alloc: Global, ink: &mut Ink, layout: &Layout, chart: &Chart, ticks: &[Tick]) {
+fn put_lines(
+    alloc: Global,
+    writer: &mut TextWriter,
+    layout: &Layout,
+    chart: &Chart,
+    ticks: &[Tick],
+) {
     let mut cells = Vec::new(alloc);
     if cells.resize(usize::from(layout.axis.places), ' ').is_err() {
-        ink.refuse();
+        writer.refuse();
     }
     for (at, row) in chart.rows.iter().enumerate() {
         if has_band(at) {
-            put_axis(ink, layout, cells.as_mut_slice(), ticks);
+            put_axis(writer, layout, cells.as_mut_slice(), ticks);
         }
-        put_row(ink, layout, cells.as_mut_slice(), row);
+        put_row(writer, layout, cells.as_mut_slice(), row);
     }
-    put_axis(ink, layout, cells.as_mut_slice(), ticks);
+    put_axis(writer, layout, cells.as_mut_slice(), ticks);
     drop(cells);
-    ink.put(LEGEND);
+    writer.put(LEGEND);
     for (sentence, one, other) in missing(chart).iter() {
         if (*one | *other) > 0 {
-            ink.fill(*sentence, &[Number(*one), Number(*other)]);
-            ink.put("\n");
+            writer.fill(*sentence, &[Number(*one), Number(*other)]);
+            writer.put("\n");
         }
     }
 }
 
-// Adds a line: the label in its column, cut if it is longer and as `Ink::put_plain` writes it, a space, and the cells. The axis has a cell
+// Adds a line: the label in its column, cut if it is longer and as `TextWriter::put_plain` writes it, a space, and the cells. The axis has a cell
 // for each place. They are empty then.
-fn put_line(ink: &mut Ink, column: usize, cells: &mut [char], label: &str) {
+fn put_line(writer: &mut TextWriter, column: usize, cells: &mut [char], label: &str) {
     let (front, rest) = cut(label, column);
-    ink.put_plain(front);
-    ink.put(rest);
+    writer.put_plain(front);
+    writer.put(rest);
     let used = columns_of(front).saturating_add(columns_of(rest));
     for _ in used..column.saturating_add(1) {
-        ink.put(" ");
+        writer.put(" ");
     }
     for c in cells.iter() {
-        ink.put_char(*c);
+        writer.put_char(*c);
     }
-    ink.put("\n");
+    writer.put("\n");
     cells.fill(' ');
 }
 
 // A row's bars, and below them its marks, if it has some. In one place a graver one is shown instead of the others.
-fn put_row(ink: &mut Ink, layout: &Layout, cells: &mut [char], row: &Row) {
+fn put_row(writer: &mut TextWriter, layout: &Layout, cells: &mut [char], row: &ChartRow) {
     let axis = &layout.axis;
     for (grave, block) in BLOCKS.iter().enumerate() {
         set_bars(cells, axis, row.bars.as_slice(), grave, *block);
     }
-    put_line(ink, layout.column, cells, row.label.as_str());
+    put_line(writer, layout.column, cells, row.label.as_str());
     set_marks(cells, axis, row.demands.as_slice(), 'v');
     set_marks(cells, axis, row.throttles.as_slice(), '~');
     set_marks(cells, axis, row.refusals.as_slice(), 'x');
     let marks = row.demands.len() | row.throttles.len() | row.refusals.len();
     if marks > 0 {
-        put_line(ink, layout.column, cells, "");
+        put_line(writer, layout.column, cells, "");
     }
 }
 
@@ -173,7 +179,7 @@ fn set_bars(cells: &mut [char], axis: &Axis, bars: &[Bar], grave: usize, block: 
     }
 }
 
-fn set_marks(cells: &mut [char], axis: &Axis, marks: &[Mark], sign: char) {
+fn set_marks(cells: &mut [char], axis: &Axis, marks: &[ChartMark], sign: char) {
     for mark in marks {
         let (place, _) = axis.filled(mark.at, mark.at);
         set(cells, usize::from(place), sign);
@@ -181,11 +187,11 @@ fn set_marks(cells: &mut [char], axis: &Axis, marks: &[Mark], sign: char) {
 }
 
 // The ticks: a line with their texts, and one with the texts below them. They come below the rows, and again above each 25th.
-fn put_axis(ink: &mut Ink, layout: &Layout, cells: &mut [char], ticks: &[Tick]) {
+fn put_axis(writer: &mut TextWriter, layout: &Layout, cells: &mut [char], ticks: &[Tick]) {
     set_ticks(cells, &layout.axis, ticks, false);
-    put_line(ink, layout.column, cells, "");
+    put_line(writer, layout.column, cells, "");
     set_ticks(cells, &layout.axis, ticks, true);
-    put_line(ink, layout.column, cells, "");
+    put_line(writer, layout.column, cells, "");
 }
 
 fn set_ticks(cells: &mut [char], axis: &Axis, ticks: &[Tick], is_below: bool) {

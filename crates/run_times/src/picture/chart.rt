@@ -46,26 +46,26 @@ pub enum MarkKind {
 
 /// A time that matters, or several of one place.
 #[derive(Clone, Copy)]
-pub struct Mark {
+pub struct ChartMark {
     pub at: u64,
     pub count: u32,
 }
 
 /// A job's runs and marks, in the order in which they came.
 #[derive(Drop)]
-pub struct Row {
+pub struct ChartRow {
     pub label: String,
     pub bars: Vec<Bar>,
-    pub demands: Vec<Mark>,
-    pub throttles: Vec<Mark>,
-    pub refusals: Vec<Mark>,
+    pub demands: Vec<ChartMark>,
+    pub throttles: Vec<ChartMark>,
+    pub refusals: Vec<ChartMark>,
 }
 
 /// The rows over their axis, and what was too much to keep.
 #[derive(Drop)]
 pub struct Chart {
     pub axis: Axis,
-    pub rows: Vec<Row>,
+    pub rows: Vec<ChartRow>,
     /// How many runs, and how many marks, are older than what is kept.
     pub missing_runs: u64,
     pub missing_marks: u64,
@@ -176,7 +176,7 @@ fn add_bars(bars: &mut Vec<Bar>, axis: &Axis, others: &[Bar]) -> Result<(), Allo
 }
 
 // Adds a mark; marks of one place are kept together.
-fn add_mark(marks: &mut Vec<Mark>, axis: &Axis, mark: Mark) -> Result<(), AllocError> {
+fn add_mark(marks: &mut Vec<ChartMark>, axis: &Axis, mark: ChartMark) -> Result<(), AllocError> {
     if let Some(last) = marks.last_mut() {
         if axis.place(last.at) == axis.place(mark.at) {
             last.count = last.count.saturating_add(mark.count);
@@ -187,19 +187,23 @@ fn add_mark(marks: &mut Vec<Mark>, axis: &Axis, mark: Mark) -> Result<(), AllocE
 }
 
 // Adds each of the marks.
-fn add_marks(marks: &mut Vec<Mark>, axis: &Axis, others: &[Mark]) -> Result<(), AllocError> {
+fn add_marks(
+    marks: &mut Vec<ChartMark>,
+    axis: &Axis,
+    others: &[ChartMark],
+) -> Result<(), AllocError> {
     for mark in others {
         add_mark(marks, axis, *mark)?;
     }
     Ok(())
 }
 
-impl Row {
+impl ChartRow {
     /// A row of the label, with nothing in it.
-    pub fn new(alloc: Global, label: String) -> Row
+    pub fn new(alloc: Global, label: String) -> ChartRow
         ensures { result.bars.items ≡ [] }
     {
-        Row {
+        ChartRow {
             label,
             bars: Vec::new(alloc),
             demands: Vec::new(alloc),
@@ -218,7 +222,7 @@ impl Row {
     }
 
     /// Adds a mark. Marks of one kind and one place are kept together.
-    pub fn mark(&mut self, axis: &Axis, kind: MarkKind, mark: Mark) -> Result<(), AllocError> {
+    pub fn mark(&mut self, axis: &Axis, kind: MarkKind, mark: ChartMark) -> Result<(), AllocError> {
         match kind {
             MarkKind::Demand => add_mark(&mut self.demands, axis, mark),
             MarkKind::Throttle => add_mark(&mut self.throttles, axis, mark),
@@ -227,7 +231,7 @@ impl Row {
     }
 
     /// Adds the bars and the marks of another row, each as by `add` and `mark`: no run is lost.
-    pub fn add_all(&mut self, axis: &Axis, other: &Row) -> Result<(), AllocError>
+    pub fn add_all(&mut self, axis: &Axis, other: &ChartRow) -> Result<(), AllocError>
         ensures runs { OnOk result (runs_in self.new.bars.items ≡ runs_in self.old.bars.items + runs_in other.now.bars.items) }
     {
         add_marks(&mut self.demands, axis, other.demands.as_slice())?;

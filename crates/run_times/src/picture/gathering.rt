@@ -4,7 +4,7 @@ ghost use Rattle.std.specs.Prelude.{◌≡◌, OnOk};
 ghost use Rattle.run_times.specs.Bars.{runs_in};
 
 use crate::picture::axis::Axis;
-use crate::picture::chart::{Bar, Mark, MarkKind, Row};
+use crate::picture::chart::{Bar, ChartMark, ChartRow, MarkKind};
 use history_model::MAX_WALL;
 use std::alloc::{AllocError, Global};
 use std::mem;
@@ -20,7 +20,7 @@ const FINE: u16 = 65_535;
 pub struct Gathered {
     /// The number by which the caller gave it.
     pub job: u64,
-    pub row: Row,
+    pub row: ChartRow,
 }
 
 /// The runs and marks of jobs. Those in one place of an axis are kept together. The axis begins fine. Its places grow longer if it must reach
@@ -81,7 +81,7 @@ impl Gathering {
         let place = self.place_for(job)?;
         if let Some(of) = self.rows.get_mut(place) {
             let before = of.row.size();
-            of.row.mark(&axis, kind, Mark { at, count: 1 })?;
+            of.row.mark(&axis, kind, ChartMark { at, count: 1 })?;
             let more = of.row.size().saturating_sub(before);
             self.kept = self.kept.saturating_add(more);
         }
@@ -133,7 +133,7 @@ impl Gathering {
             None => false,
         };
         if !has_row {
-            let row = Row::new(self.alloc, String::new(self.alloc));
+            let row = ChartRow::new(self.alloc, String::new(self.alloc));
             self.rows.insert(place, Gathered { job, row })?;
         }
         Ok(place)
@@ -141,10 +141,10 @@ impl Gathering {
 }
 
 // Joins what is in one place of the axis: no run is lost.
-fn join(alloc: Global, axis: &Axis, row: &mut Row) -> Result<(), AllocError>
+fn join(alloc: Global, axis: &Axis, row: &mut ChartRow) -> Result<(), AllocError>
     ensures { OnOk result (runs_in row.new.bars.items ≡ runs_in row.old.bars.items) }
 {
-    let mut joined = Row::new(alloc, String::new(alloc));
+    let mut joined = ChartRow::new(alloc, String::new(alloc));
     let added = joined.add_all(axis, row);
     drop(mem::replace(row, joined));
     added

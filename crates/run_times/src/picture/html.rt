@@ -75,18 +75,18 @@ pre { margin: 0; padding: 0.75rem; background: #f4f6f8; border-radius: 6px; whit
 
 /// Adds what is between the heading and the chart: what is failing, and the coming starts.
 pub(crate) fn put_front(page: &mut Page<'_>, beside: &Beside<'_>) {
-    page.ink.put("<h2>What is failing</h2>\n");
+    page.writer.put("<h2>What is failing</h2>\n");
     if beside.failing.is_empty() {
-        page.ink.put("<p>Nothing.</p>\n");
+        page.writer.put("<p>Nothing.</p>\n");
     } else {
-        page.ink.put("<pre>");
+        page.writer.put("<pre>");
         for line in beside.failing.lines() {
             put_failing(page, line);
         }
-        page.ink.put("</pre>\n");
+        page.writer.put("</pre>\n");
     }
     put_coming(page, beside.coming);
-    page.ink.put("<h2>The runs</h2>\n<figure>\n");
+    page.writer.put("<h2>The runs</h2>\n<figure>\n");
 }
 
 // A line of what is failing. The label that it begins with is isolated.
@@ -102,24 +102,25 @@ fn put_failing(page: &mut Page<'_>, line: &str) {
 /// Adds the names of the chart's rows, and what is below the chart. The last text is escaped line by line, so that its newlines stay.
 pub(crate) fn put_rest(page: &mut Page<'_>, chart: &Chart, beside: &Beside<'_>) {
     put_names(page, chart);
-    page.ink.put(
+    page.writer.put(
         "</figure>\n<h2>What the runs came to</h2>\n<p>Times are in seconds.</p>\n<div class=\"wide\"><table>\n",
     );
     put_table(page, beside.table);
-    page.ink
+    page.writer
         .put("</table></div>\n<h2>Why each job runs or not</h2>\n<pre>");
     for line in beside.why.split('\n') {
         put_why(page, line);
     }
-    page.ink.put("</pre>\n</main>\n</body>\n</html>\n");
+    page.writer.put("</pre>\n</main>\n</body>\n</html>\n");
 }
 
 // The labels of the rows, in order, which a narrow window shows in the place of those in the chart. A reader of the page aloud passes them over.
 fn put_names(page: &mut Page<'_>, chart: &Chart) {
-    page.ink.put("<ol class=\"names\" aria-hidden=\"true\">\n");
+    page.writer
+        .put("<ol class=\"names\" aria-hidden=\"true\">\n");
     for (at, row) in chart.rows.iter().enumerate() {
         if has_band(at) {
-            page.ink.put("<li class=\"band\"></li>\n");
+            page.writer.put("<li class=\"band\"></li>\n");
         }
         let form = if row.is_idle() {
             "<li class=\"idle\"><bdi>$</bdi></li>\n"
@@ -128,7 +129,7 @@ fn put_names(page: &mut Page<'_>, chart: &Chart) {
         };
         page.add(form, &[Escaped(row.label.as_str())]);
     }
-    page.ink.put("</ol>\n");
+    page.writer.put("</ol>\n");
 }
 
 // A line on why the jobs are in their states. If a label begins it, the label is isolated.
@@ -152,7 +153,7 @@ fn put_table(page: &mut Page<'_>, table: &str) {
 // The first cell of a row is a label, and is isolated.
 fn put_cells(page: &mut Page<'_>, line: &str, is_head: bool) {
     let mut is_label = !is_head;
-    page.ink.put("<tr>");
+    page.writer.put("<tr>");
     for part in line.split('\t') {
         let cell = match (is_head, is_label) {
             (true, _) => "<th>$</th>",
@@ -162,12 +163,12 @@ fn put_cells(page: &mut Page<'_>, line: &str, is_head: bool) {
         page.add(cell, &[Escaped(part)]);
         is_label = false;
     }
-    page.ink.put("</tr>\n");
+    page.writer.put("</tr>\n");
 }
 
 // The coming starts, below their heading.
 fn put_coming(page: &mut Page<'_>, coming: &[Coming]) {
-    page.ink.put("<h2>Coming starts by the clock</h2>\n");
+    page.writer.put("<h2>Coming starts by the clock</h2>\n");
     let (before, behind) = if coming.is_empty() {
         ("<p>None.</p>\n", "")
     } else {
@@ -176,7 +177,7 @@ fn put_coming(page: &mut Page<'_>, coming: &[Coming]) {
             "</table></div>\n",
         )
     };
-    page.ink.put(before);
+    page.writer.put(before);
     for start in coming {
         let holes = [
             Moment(start.at),
@@ -188,5 +189,5 @@ fn put_coming(page: &mut Page<'_>, coming: &[Coming]) {
             &holes,
         );
     }
-    page.ink.put(behind);
+    page.writer.put(behind);
 }

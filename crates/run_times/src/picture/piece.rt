@@ -23,10 +23,12 @@ pub fn picture_piece(
     let mut page = Page::new(alloc, zone, NO_READING);
     match beside {
         Some(beside) if index == 0 => {
-            page.ink.put(HEAD);
+            page.writer.put(HEAD);
             put_front(&mut page, beside);
         }
-        None if index == 0 => page.ink.put("<?xml version=\"1.0\" encoding=\"UTF-8\"?>\n"),
+        None if index == 0 => page
+            .writer
+            .put("<?xml version=\"1.0\" encoding=\"UTF-8\"?>\n"),
         _ => {}
     }
     put_figure(&mut page, chart, index);

@@ -3,7 +3,7 @@
 use crate::page::Filling::{Escaped, Moment, Number, Text};
 use crate::page::Page;
 use crate::picture::axis::Axis;
-use crate::picture::chart::{Bar, Chart, Mark, Row, grade};
+use crate::picture::chart::{Bar, Chart, ChartMark, ChartRow, grade};
 use crate::picture::ticks::{Tick, ticks};
 use crate::picture::words::{cut, missing};
 
@@ -206,7 +206,7 @@ pub(crate) fn has_band(row: usize) -> bool {
     row > 0 && row % AGAIN == 0
 }
 
-// Where so many rows end.
+// Where this number of rows ends.
 fn below_rows(chart: &Chart, rows: usize) -> u64 {
     let mut bottom = HEAD;
     for (at, row) in chart.rows.iter().enumerate() {
@@ -244,7 +244,7 @@ fn put_ticks(page: &mut Page<'_>, axis: &Axis, ticks: &[Tick], bottom: u64) {
     }
 }
 
-// What is written at the ticks, from this height on. Near the edges it stands within the chart.
+// What is written at the ticks, from this height on. Near the edges it stays within the chart.
 fn put_texts(page: &mut Page<'_>, axis: &Axis, top: u64) {
     let ticks = ticks(page, axis, MOST_TICKS);
     for tick in &ticks {
@@ -270,7 +270,7 @@ fn put_texts(page: &mut Page<'_>, axis: &Axis, top: u64) {
     drop(ticks);
 }
 
-fn put_row(page: &mut Page<'_>, axis: &Axis, row: &Row, top: u64) {
+fn put_row(page: &mut Page<'_>, axis: &Axis, row: &ChartRow, top: u64) {
     let label = row.label.as_str();
     let (front, rest) = cut(label, LABEL);
     let base = if row.is_idle() { IDLE } else { ROW };
@@ -288,7 +288,7 @@ fn put_row(page: &mut Page<'_>, axis: &Axis, row: &Row, top: u64) {
     put_marks(page, axis, DEMAND, row.demands.as_slice(), above);
     put_marks(page, axis, THROTTLE, row.throttles.as_slice(), above);
     put_marks(page, axis, REFUSAL, row.refusals.as_slice(), above);
-    page.ink.put("</g>\n");
+    page.writer.put("</g>\n");
 }
 
 // The bars whose upper edge is there, and over them what marks the ends of single runs, so that a bar which follows at once does not hide an end.
@@ -339,7 +339,7 @@ fn put_bar(page: &mut Page<'_>, axis: &Axis, bar: &Bar, top: u64) {
         ];
         page.add(SHARE, &holes);
     }
-    page.ink.put("</g>\n");
+    page.writer.put("</g>\n");
 }
 
 // How high the share of the failed runs is, rounded up.
@@ -351,7 +351,7 @@ fn share_of(bar: &Bar) -> u64 {
 }
 
 // The marks of a kind whose upper edge is there.
-fn put_marks(page: &mut Page<'_>, axis: &Axis, form: &str, marks: &[Mark], top: u64) {
+fn put_marks(page: &mut Page<'_>, axis: &Axis, form: &str, marks: &[ChartMark], top: u64) {
     for mark in marks {
         let count = u64::from(mark.count);
         let holes = [
@@ -384,9 +384,9 @@ fn put_foot(page: &mut Page<'_>, chart: &Chart, bottom: u64) {
         if (*one | *other) > 0 {
             page.add(LEFT_OUT, &[Number(line)]);
             page.add(*sentence, &[Number(*one), Number(*other)]);
-            page.ink.put("</text>\n");
+            page.writer.put("</text>\n");
             line = line.saturating_add(LINE);
         }
     }
-    page.ink.put("</svg>\n");
+    page.writer.put("</svg>\n");
 }

@@ -30,7 +30,7 @@ pub(crate) struct Tick {
 
 /// What is between two ticks.
 #[derive(Clone, Copy)]
-enum Step {
+enum TickStep {
     /// How many seconds: a part of a day.
     Seconds(u64),
     Day,
@@ -41,45 +41,45 @@ enum Step {
 }
 
 /// The steps, and how many seconds each has at least.
-const STEPS: [(u64, Step); 27] = [
-    (1, Step::Seconds(1)),
-    (2, Step::Seconds(2)),
-    (5, Step::Seconds(5)),
-    (10, Step::Seconds(10)),
-    (15, Step::Seconds(15)),
-    (30, Step::Seconds(30)),
-    (60, Step::Seconds(60)),
-    (120, Step::Seconds(120)),
-    (300, Step::Seconds(300)),
-    (600, Step::Seconds(600)),
-    (900, Step::Seconds(900)),
-    (1800, Step::Seconds(1800)),
-    (HOUR, Step::Seconds(HOUR)),
-    (7200, Step::Seconds(7200)),
-    (10_800, Step::Seconds(10_800)),
-    (21_600, Step::Seconds(21_600)),
-    (43_200, Step::Seconds(43_200)),
-    (82_800, Step::Day),
-    (601_200, Step::Week),
-    (2_419_200, Step::Months(1)),
-    (7_776_000, Step::Months(3)),
-    (15_638_400, Step::Months(6)),
-    (31_536_000, Step::Months(12)),
-    (157_766_400, Step::Months(60)),
-    (315_532_800, Step::Months(120)),
-    (3_155_673_600, Step::Months(1200)),
-    (31_556_908_800, Step::Months(12_000)),
+const STEPS: [(u64, TickStep); 27] = [
+    (1, TickStep::Seconds(1)),
+    (2, TickStep::Seconds(2)),
+    (5, TickStep::Seconds(5)),
+    (10, TickStep::Seconds(10)),
+    (15, TickStep::Seconds(15)),
+    (30, TickStep::Seconds(30)),
+    (60, TickStep::Seconds(60)),
+    (120, TickStep::Seconds(120)),
+    (300, TickStep::Seconds(300)),
+    (600, TickStep::Seconds(600)),
+    (900, TickStep::Seconds(900)),
+    (1800, TickStep::Seconds(1800)),
+    (HOUR, TickStep::Seconds(HOUR)),
+    (7200, TickStep::Seconds(7200)),
+    (10_800, TickStep::Seconds(10_800)),
+    (21_600, TickStep::Seconds(21_600)),
+    (43_200, TickStep::Seconds(43_200)),
+    (82_800, TickStep::Day),
+    (601_200, TickStep::Week),
+    (2_419_200, TickStep::Months(1)),
+    (7_776_000, TickStep::Months(3)),
+    (15_638_400, TickStep::Months(6)),
+    (31_536_000, TickStep::Months(12)),
+    (157_766_400, TickStep::Months(60)),
+    (315_532_800, TickStep::Months(120)),
+    (3_155_673_600, TickStep::Months(1200)),
+    (31_556_908_800, TickStep::Months(12_000)),
 ];
 
 // The least step of which not more than `most` are in the span.
-fn step_for(span: u64, most: u64) -> Step {
+fn step_for(span: u64, most: u64) -> TickStep {
     for of in STEPS.iter() {
         let (length, step) = *of;
         if span / length.max(1) < most {
             return step;
         }
     }
-    Step::Months(12_000)
+    TickStep::Months(12_000)
 }
 
 fn second_of_day(at: &CivilMinute, second: u64) -> u64 {
@@ -87,13 +87,13 @@ fn second_of_day(at: &CivilMinute, second: u64) -> u64 {
 }
 
 // Whether the step has a tick at the second, at which the clock shows this.
-fn is_round(step: Step, at: &CivilMinute, second: u64) -> bool {
+fn is_round(step: TickStep, at: &CivilMinute, second: u64) -> bool {
     let of_day = second_of_day(at, second);
     match step {
-        Step::Seconds(length) => of_day % length.max(1) == 0,
-        Step::Day => of_day == 0,
-        Step::Week => of_day == 0 && at.weekday == 1,
-        Step::Months(count) => {
+        TickStep::Seconds(length) => of_day % length.max(1) == 0,
+        TickStep::Day => of_day == 0,
+        TickStep::Week => of_day == 0 && at.weekday == 1,
+        TickStep::Months(count) => {
             let month = i64::from(at.year) * 12 + i64::from(at.month) - 1;
             of_day == 0 && at.day == 1 && month.unsigned_abs() % count.max(1) == 0
         }
@@ -101,11 +101,11 @@ fn is_round(step: Step, at: &CivilMinute, second: u64) -> bool {
 }
 
 // How far the next look is ahead. The last three hours before a tick are looked at by quarters, since the clock may be set meanwhile.
-fn ahead(step: Step, at: &CivilMinute, second: u64) -> u64 {
+fn ahead(step: TickStep, at: &CivilMinute, second: u64) -> u64 {
     let of_day = second_of_day(at, second);
     let rest = match step {
-        Step::Seconds(length) => length.saturating_sub(of_day % length.max(1)),
-        Step::Months(_) if at.day < 28 => (28 - u64::from(at.day)) * DAY,
+        TickStep::Seconds(length) => length.saturating_sub(of_day % length.max(1)),
+        TickStep::Months(_) if at.day < 28 => (28 - u64::from(at.day)) * DAY,
         _ => DAY.saturating_sub(of_day),
     };
     if rest > 3 * HOUR {
@@ -128,7 +128,7 @@ pub(crate) fn ticks(page: &mut Page<'_>, axis: &Axis, most: u64) -> Vec<Tick> {
         if is_round(step, &shown, at) {
             let moment = time_text(page.alloc, page.zone, at);
             if add_tick(&mut ticks, step, at, moment).is_err() {
-                page.ink.refuse();
+                page.writer.refuse();
             }
         }
         at = at.saturating_add(ahead(step, &shown, at));
@@ -139,7 +139,7 @@ pub(crate) fn ticks(page: &mut Page<'_>, axis: &Axis, most: u64) -> Vec<Tick> {
 // Adds the tick. It does not repeat the text below the tick before it.
 fn add_tick(
     ticks: &mut Vec<Tick>,
-    step: Step,
+    step: TickStep,
     at: u64,
     moment: Result<String, AllocError>,
 ) -> Result<(), AllocError> {
@@ -160,11 +160,11 @@ fn add_tick(
 }
 
 // Where in a time the text at a tick of the step begins and ends, and where the text below ends.
-fn written_of(step: Step) -> (usize, usize, usize) {
+fn written_of(step: TickStep) -> (usize, usize, usize) {
     match step {
-        Step::Seconds(length) => (15, if length < 60 { 23 } else { 20 }, 10),
-        Step::Day | Step::Week => (5, 14, 4),
-        Step::Months(count) => (0, if count < 12 { 7 } else { 4 }, 0),
+        TickStep::Seconds(length) => (15, if length < 60 { 23 } else { 20 }, 10),
+        TickStep::Day | TickStep::Week => (5, 14, 4),
+        TickStep::Months(count) => (0, if count < 12 { 7 } else { 4 }, 0),
     }
 }
 

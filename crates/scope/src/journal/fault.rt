@@ -2,7 +2,7 @@
 
 use exit_status::{BAD_CLOCK, BAD_FILE};
 use run_times::telling::{tell_line, tell_of};
-use run_times::{Ink, Piece};
+use run_times::{Piece, TextWriter};
 use std::io;
 use std::io::ErrorKind;
 
@@ -20,7 +20,7 @@ pub enum JournalFault {
     BadSettings,
     /// The header's time is after the one that is asked for.
     BeginsLater,
-    /// No clock of its zone shows the date of a given time.
+    /// A given time has a date that the clock of its zone never shows.
     NoDate,
     /// A time is asked for, but the journal does not come from a file.
     NoFile,
@@ -36,7 +36,7 @@ pub enum JournalFault {
 
 /// Reports that the line is too long, and returns the exit status.
 pub(crate) fn tell_long(host: &HostRuntime, name: &str, line: u64) -> u8 {
-    let mut told = Ink::new(host.alloc());
+    let mut told = TextWriter::new(host.alloc());
     told.fill(
         "jobscope: $: line $: longer than 262144 bytes; the output covers the lines before it\n",
         &[Piece::Text(name), Piece::Number(line)],

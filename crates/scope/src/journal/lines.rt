@@ -1,7 +1,7 @@
 //! The lines of a journal that comes in pieces.
 
 ghost use Rattle.std.specs.Prelude.{◌≡◌, ℕ, List, [], IfOk, OnOk};
-ghost use Rattle.scope.specs.Journals.{HearsLine, HearsLines, HandsOn, Drains, IsFed};
+ghost use Rattle.scope.specs.Journals.{ReceivesLine, ReceivesLines, HandsOn, Drains, IsFed};
 
 use crate::journal::fault::JournalFault;
 use ctl_protocol::{LINE_LIMIT, LineFault, LineFeed};
@@ -11,19 +11,19 @@ use std::alloc::Global;
 const HEAD: usize = 256;
 
 /// Receives a journal line by line.
-pub trait Hears {
+pub trait Receives {
     /// It represents these lines, the header first.
     ghost stands: { Self → List (List ℕ) → Type 0 };
 
     /// Receives the next line, of which the first is the header, and adds what is to be shown of it. It returns whether the line is an
     /// event, or the header. Another line is left out.
-    fn hear(
+    fn receive(
         &mut self,
         line: &[u8],
         is_header: bool,
         shown: &mut String,
     ) -> Result<bool, JournalFault>
-        ensures { IfOk result (λ _. HearsLine stands self.old line.now is_header self.new) };
+        ensures { IfOk result (λ _. ReceivesLine stands self.old line.now is_header self.new) };
 }
 
 /// The lines of a journal that comes in pieces, and what was counted of them.
@@ -88,17 +88,17 @@ impl JournalLines {
     }
 
     // Passes on the next whole line, and returns whether there was one.
-    fn hand_on<H: Hears>(&mut self, hearer: &mut H) -> Result<bool, JournalFault>
+    fn hand_on<H: Receives>(&mut self, receiver: &mut H) -> Result<bool, JournalFault>
         ensures { IfOk result (λ more.
-            HandsOn H.stands more self.old hearer.old self.new hearer.new) }
+            HandsOn H.stands more self.old receiver.old self.new receiver.new) }
     {
         match self.feed.next_line() {
             Ok(Some(line)) => {
                 let is_header = self.count == 0;
                 self.count = self.count.saturating_add(1);
-                let heard = hearer.hear(line.as_slice(), is_header, &mut self.shown);
+                let received = receiver.receive(line.as_slice(), is_header, &mut self.shown);
                 drop(line);
-                match heard {
+                match received {
                     Ok(is_event) => {
                         self.count_line(is_event);
                         Ok(true)
@@ -113,13 +113,13 @@ impl JournalLines {
     }
 
     /// Passes on each whole line.
-    pub(crate) fn hand_all_on<H: Hears>(&mut self, hearer: &mut H) -> Result<(), JournalFault>
-        ensures heard { OnOk result
-            (HearsLines H.stands self.old.count hearer.old self.old.feed.lines hearer.new) }
+    pub(crate) fn hand_all_on<H: Receives>(&mut self, receiver: &mut H) -> Result<(), JournalFault>
+        ensures received { OnOk result
+            (ReceivesLines H.stands self.old.count receiver.old self.old.feed.lines receiver.new) }
         ensures drained { OnOk result (Drains self.old self.new) }
     {
         'lines: loop {
-            match self.hand_on(hearer) {
+            match self.hand_on(receiver) {
                 Ok(true) => {}
                 Ok(false) => return Ok(()),
                 Err(fault) => return Err(fault),

@@ -1,5 +1,8 @@
 //! What is kept of all jobs: by their labels, and the runs that are over.
 
+ghost use Rattle.std.specs.Prelude.{◌≡◌};
+ghost use Rattle.scope.specs.Told.{asked_in};
+
 use crate::journal::job::{JobRequest, KeptJob, Record};
 use crate::journal::labels::KnownLabels;
 use crate::journal::news::News;
@@ -189,7 +192,9 @@ impl Past {
     }
 
     /// What was asked last of the job, or of all.
-    pub(crate) fn asked_of(&self, job: &Record) -> Option<(JobRequest, Reading)> {
+    pub(crate) fn asked_of(&self, job: &Record) -> Option<(JobRequest, Reading)>
+        ensures { result ≡ asked_in self.now job.now }
+    {
         match self.shut_down {
             Some((ask, at)) if ask > job.ask => Some((JobRequest::Shutdown, at)),
             _ => job.asked,

@@ -97,7 +97,7 @@ impl OpenJournal {
         self.past.news.clear();
         match read_event(alloc, line, &mut self.room) {
             Ok(event) => {
-                let noted = take_in(alloc, &mut self.table, &mut self.past, &event);
+                let noted = apply(alloc, &mut self.table, &mut self.past, &event);
                 drop(event);
                 match noted {
                     Ok(()) => Ok(true),
@@ -111,7 +111,7 @@ impl OpenJournal {
 }
 
 // Applies an event to the table, and notes what it gave.
-fn take_in(
+fn apply(
     alloc: Global,
     table: &mut JobTable,
     past: &mut Past,

@@ -2,15 +2,15 @@
 
 ghost use Rattle.std.specs.Prelude.{◌≡◌, false, None, IfOk, OnOk};
 ghost use Rattle.std.specs.Io.KnownBytes.{IsAtEnd};
-ghost use Rattle.scope.specs.Journals.{Reads, HearsPiece, HearsAll};
+ghost use Rattle.scope.specs.Journals.{Reads, ReceivesPiece, ReceivesAll};
 
 use crate::journal::fault::JournalFault;
-use crate::journal::lines::{Hears, JournalLines};
+use crate::journal::lines::{JournalLines, Receives};
 use exit_status::BAD_FILE;
 use history_model::Text;
-use launchctl_words::{Paths, ScopeCommand, Task};
+use launchctl_words::{Paths, ScopeCommand, ScopeTask};
 use run_times::telling::{put, tell_line, tell_of};
-use run_times::{Ink, Piece};
+use run_times::{Piece, TextWriter};
 use std::alloc::AllocError;
 use std::env::VarError;
 use std::fs::{File, metadata};
@@ -56,19 +56,19 @@ fn take_piece<R: Read>(source: &mut R, lines: &mut JournalLines) -> Result<Piece
 }
 
 // Takes the next piece of the source, and passes on each line that is whole now. It returns whether the source may have more.
-fn take_lines<R: Read, H: Hears>(
+fn take_lines<R: Read, H: Receives>(
     source: &mut R,
     lines: &mut JournalLines,
-    hearer: &mut H,
+    receiver: &mut H,
 ) -> Result<bool, JournalFault>
-    ensures heard { OnOk result (HearsPiece H.stands (R.remaining source.old)
-        (R.remaining source.new) lines.old hearer.old lines.new hearer.new) }
+    ensures received { OnOk result (ReceivesPiece H.stands (R.remaining source.old)
+        (R.remaining source.new) lines.old receiver.old lines.new receiver.new) }
     ensures ended { IfOk result (λ more. more ≡ false → IsAtEnd (R.remaining source.new)) }
 {
     match take_piece(source, lines) {
         Ok(PieceRead::End) => Ok(false),
         Ok(PieceRead::Nothing) => Ok(true),
-        Ok(PieceRead::Piece) => match lines.hand_all_on(hearer) {
+        Ok(PieceRead::Piece) => match lines.hand_all_on(receiver) {
             Ok(()) => Ok(true),
             Err(fault) => Err(fault),
         },
@@ -77,17 +77,17 @@ fn take_lines<R: Read, H: Hears>(
 }
 
 // The same, and what is to be shown is written, also if a line is at fault.
-fn take_and_show<R: Read, H: Hears>(
+fn take_and_show<R: Read, H: Receives>(
     host: &HostRuntime,
     source: &mut R,
     lines: &mut JournalLines,
-    hearer: &mut H,
+    receiver: &mut H,
 ) -> Result<bool, JournalFault>
-    ensures heard { OnOk result (HearsPiece H.stands (R.remaining source.old)
-        (R.remaining source.new) lines.old hearer.old lines.new hearer.new) }
+    ensures received { OnOk result (ReceivesPiece H.stands (R.remaining source.old)
+        (R.remaining source.new) lines.old receiver.old lines.new receiver.new) }
     ensures ended { IfOk result (λ more. more ≡ false → IsAtEnd (R.remaining source.new)) }
 {
-    let taken = take_lines(source, lines, hearer);
+    let taken = take_lines(source, lines, receiver);
     match put(host, lines.shown.as_str()) {
         Ok(()) => {
             lines.shown.clear();
@@ -103,19 +103,19 @@ fn take_and_show<R: Read, H: Hears>(
 /// Reads the source to its end, in whatever pieces it comes, and passes each whole line to the hearer. It writes what is to be shown at once. If
 /// `is_quiet`, it shows a line of progress on standard error meanwhile, if that is a terminal. After an error the hearer has received the lines
 /// before it.
-pub fn read_source<R: Read, H: Hears>(
+pub fn read_source<R: Read, H: Receives>(
     host: &HostRuntime,
     source: &mut R,
     is_quiet: bool,
     lines: &mut JournalLines,
-    hearer: &mut H,
+    receiver: &mut H,
 ) -> Result<(), JournalFault>
-    ensures { OnOk result (HearsAll H.stands (R.remaining source.old) (R.remaining source.new)
-        lines.old hearer.old lines.new hearer.new) }
+    ensures { OnOk result (ReceivesAll H.stands (R.remaining source.old) (R.remaining source.new)
+        lines.old receiver.old lines.new receiver.new) }
 {
     let is_seen = is_quiet && host.stderr().is_terminal();
     'pieces: for count in 1..u64::MAX {
-        match take_and_show(host, source, lines, hearer) {
+        match take_and_show(host, source, lines, receiver) {
             Ok(true) => {}
             Ok(false) => {
                 tell_done(host, is_seen && count > STRIDE);
@@ -176,7 +176,7 @@ pub(crate) fn journal_paths(host: &HostRuntime, of: &ScopeCommand) -> Result<Pat
     Ok(Paths::new(paths))
 }
 
-// Whether one behind the first of the paths is the same file as that one: of a journal that is named twice the last counts.
+// Whether one after the first of the paths is the same file as that one: of a journal that is named twice the last counts.
 fn is_named_again(host: &HostRuntime, path: &str, paths: &[Text]) -> bool {
     let Some((_, others)) = paths.split_first() else {
         return false;
@@ -210,8 +210,8 @@ pub(crate) fn stands_in(host: &HostRuntime, path: &str) -> bool {
     host.stdin().is_terminal() && open_journal(host, path).is_ok()
 }
 
-// Adds the path, if it is not empty. Behind those with `.1`, `.2` and so on, the oldest first, as far as they are there, if what is told of the past is
-// asked for.
+// Adds the path, if it is not empty. If the past is asked for, it adds it after those with `.1`, `.2` and so on, the oldest
+// first, as far as they are there.
 fn add_path(
     host: &HostRuntime,
     of: &ScopeCommand,
@@ -222,11 +222,11 @@ fn add_path(
         return Ok(());
     }
     let most = match of.task {
-        Task::Log if of.follows => 0,
-        Task::Log | Task::Runs | Task::Picture => MOST_KEPT,
-        Task::Why if of.moments.at.is_some() => MOST_KEPT,
+        ScopeTask::Log if of.follows => 0,
+        ScopeTask::Log | ScopeTask::Runs | ScopeTask::Picture => MOST_KEPT,
+        ScopeTask::Why if of.moments.at.is_some() => MOST_KEPT,
         // The one before says since when no launcher ran.
-        Task::Why => 1,
+        ScopeTask::Why => 1,
         _ => 0,
     };
     let alloc = host.alloc();
@@ -238,7 +238,7 @@ fn add_path(
     Ok(paths.push(Text::copy_of(alloc, path)?)?)
 }
 
-// How many journals of launchers before are kept beside the path, without a gap, and no more than `most`.
+// How many journals of launchers before are kept next to the path, without a gap, and no more than `most`.
 fn count_kept(host: &HostRuntime, path: &str, most: u64) -> Result<u64, AllocError> {
     let alloc = host.alloc();
     let mut kept: u64 = 0;
@@ -274,7 +274,7 @@ pub(crate) fn tell_bad(host: &HostRuntime, name: &str, lines: &JournalLines) -> 
     } else {
         "jobscope: $: line $ is not an event, and $ more\n"
     };
-    let mut told = Ink::new(host.alloc());
+    let mut told = TextWriter::new(host.alloc());
     let holes = [Piece::Text(name), Piece::Number(first), Piece::Number(more)];
     told.fill(form, &holes);
     tell_line(host, told);
@@ -282,36 +282,36 @@ pub(crate) fn tell_bad(host: &HostRuntime, name: &str, lines: &JournalLines) -> 
 }
 
 /// Reads the journal of the path, or that of standard input, up to its last whole line.
-pub(crate) fn read_journal<H: Hears>(
+pub(crate) fn read_journal<H: Receives>(
     host: &HostRuntime,
     path: Option<&str>,
     is_quiet: bool,
     lines: &mut JournalLines,
-    hearer: &mut H,
+    receiver: &mut H,
 ) -> Result<(), JournalFault>
-    ensures { OnOk result (HearsAll H.stands None None lines.old hearer.old lines.new hearer.new) }
+    ensures { OnOk result (ReceivesAll H.stands None None lines.old receiver.old lines.new receiver.new) }
 {
-    match read_from(host, path, is_quiet, lines, hearer) {
+    match read_from(host, path, is_quiet, lines, receiver) {
         Ok(()) if lines.count == 0 => Err(JournalFault::NoHeader),
         read => read,
     }
 }
 
-fn read_from<H: Hears>(
+fn read_from<H: Receives>(
     host: &HostRuntime,
     path: Option<&str>,
     is_quiet: bool,
     lines: &mut JournalLines,
-    hearer: &mut H,
+    receiver: &mut H,
 ) -> Result<(), JournalFault>
-    ensures { OnOk result (HearsAll H.stands None None lines.old hearer.old lines.new hearer.new) }
+    ensures { OnOk result (ReceivesAll H.stands None None lines.old receiver.old lines.new receiver.new) }
 {
     let Some(path) = path else {
-        return read_source(host, &mut host.stdin(), is_quiet, lines, hearer);
+        return read_source(host, &mut host.stdin(), is_quiet, lines, receiver);
     };
     match open_journal(host, path) {
         Ok(mut file) => {
-            let read = read_source(host, &mut file, is_quiet, lines, hearer);
+            let read = read_source(host, &mut file, is_quiet, lines, receiver);
             drop(file);
             read
         }

@@ -13,7 +13,7 @@ use crate::texts::words::asked_name;
 use history_model::{Act, DemandKind, Reading, StandingChild};
 use json_lines::Value::{Absent, Flag, Moment, Number, Text};
 use json_lines::{Field, Value, put_object};
-use run_times::{Ink, Page, coming_second};
+use run_times::{Page, TextWriter, coming_second};
 use std::alloc::AllocError;
 use std::mem;
 
@@ -26,17 +26,17 @@ pub(crate) fn causes_list(page: &mut Page<'_>, told: &ToldJob<'_>) -> Result<Str
     ensures { IfOk result (λ text. IsCauseList told.now.facts.reasons (string_bytes text)) }
 {
     let list = causes(page.alloc, &told.facts.reasons)?;
-    let page_ink = mem::replace(&mut page.ink, Ink::new(page.alloc));
-    page.ink.put("[");
+    let page_writer = mem::replace(&mut page.writer, TextWriter::new(page.alloc));
+    page.writer.put("[");
     put_causes(page, told, list.as_slice());
-    page.ink.put("]");
+    page.writer.put("]");
     drop(list);
-    mem::replace(&mut page.ink, page_ink).into_text()
+    mem::replace(&mut page.writer, page_writer).into_text()
 }
 
 // An object for each of the causes, in order, with commas between.
 fn put_causes(page: &mut Page<'_>, told: &ToldJob<'_>, causes: &[JobCause])
-    ensures { TellsCauses causes.now page.old.ink page.new.ink }
+    ensures { TellsCauses causes.now page.old.writer page.new.writer }
 {
     if let Some((first, more)) = causes.split_first() {
         put_cause(page, told, *first);
@@ -45,16 +45,16 @@ fn put_causes(page: &mut Page<'_>, told: &ToldJob<'_>, causes: &[JobCause])
 }
 
 fn put_more(page: &mut Page<'_>, told: &ToldJob<'_>, causes: &[JobCause])
-    ensures { TellsMore causes.now page.old.ink page.new.ink }
+    ensures { TellsMore causes.now page.old.writer page.new.writer }
 {
     for cause in causes {
-        page.ink.put(",");
+        page.writer.put(",");
         put_cause(page, told, *cause);
     }
 }
 
 fn put_cause(page: &mut Page<'_>, told: &ToldJob<'_>, cause: JobCause)
-    ensures { TellsCause cause page.old.ink page.new.ink }
+    ensures { TellsCause cause page.old.writer page.new.writer }
 {
     put_object(page, "kind", kind_of(cause), &fields_of(told, cause));
 }

@@ -3,7 +3,7 @@
 use crate::objects::lines::text_of;
 use json_lines::Value::{Absent, Json, Text};
 use json_lines::{Field, put_line, put_texts};
-use run_times::{Ink, Page};
+use run_times::{Page, TextWriter};
 
 /// Adds the line of a file, or of a loaded job that no file has: how it compares, its label, the keys that differ, and the former label.
 pub(crate) fn put_drift(
@@ -14,15 +14,15 @@ pub(crate) fn put_drift(
     keys: &[&str],
     was: &str,
 ) {
-    let mut ink = Ink::new(page.alloc);
-    put_texts(&mut ink, keys);
-    match ink.into_text() {
+    let mut writer = TextWriter::new(page.alloc);
+    put_texts(&mut writer, keys);
+    match writer.into_text() {
         Ok(list) => {
             let has_keys = !keys.is_empty();
             put_listed(page, word, label, path, list.as_str(), has_keys, was);
             drop(list);
         }
-        Err(_) => page.ink.refuse(),
+        Err(_) => page.writer.refuse(),
     }
 }
 

@@ -14,7 +14,7 @@ use status_page::Fault;
 
 /// As of when jobs are reported, and what is known of their launcher.
 #[derive(Clone, Copy)]
-pub(crate) struct Around {
+pub(crate) struct ReportContext {
     /// The second of the last event, or of the file.
     pub(crate) as_of: u64,
     pub(crate) launcher: Value<'static>,
@@ -44,13 +44,13 @@ pub(crate) struct Beside<'a> {
 }
 
 /// What is known of the launcher of a journal that is reported as of then.
-pub(crate) fn around_journal(as_of: AsOf, last: Reading) -> Around {
+pub(crate) fn around_journal(as_of: AsOf, last: Reading) -> ReportContext {
     let launcher = match as_of {
         AsOf::Seen(_, Some(seen)) | AsOf::End(Some(seen)) => Text(life_name(seen.life)),
         AsOf::Moment { is_gap: true, .. } => Text("none"),
         AsOf::Seen(_, None) | AsOf::End(None) | AsOf::Moment { .. } => Absent,
     };
-    Around {
+    ReportContext {
         as_of: last.wall,
         launcher,
         may_live: as_of.may_live(),
@@ -59,8 +59,8 @@ pub(crate) fn around_journal(as_of: AsOf, last: Reading) -> Around {
 }
 
 /// What is known of the launcher of a status file.
-pub(crate) fn around_file(seen: LauncherSeen, at: Reading) -> Around {
-    Around {
+pub(crate) fn around_file(seen: LauncherSeen, at: Reading) -> ReportContext {
+    ReportContext {
         as_of: at.wall,
         launcher: Text(life_name(seen.life)),
         may_live: may_live(seen.life),
@@ -87,7 +87,7 @@ pub(crate) fn put_job(
     label: &str,
     runs: &KnownRuns<'_>,
     beside: &Beside<'_>,
-    around: Around,
+    around: ReportContext,
 ) {
     let how = match &runs.last {
         Some(last) => Some(last.how),
@@ -134,7 +134,7 @@ pub(crate) fn put_unloaded(
     label: &str,
     gone: Option<Reading>,
     known: KnownLabel,
-    around: Around,
+    around: ReportContext,
 ) {
     let [load, refusal] = load_of(known);
     let fields = [

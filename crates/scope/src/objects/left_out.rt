@@ -1,18 +1,18 @@
 //! The definitions that the boot left out, as objects.
 
-use crate::objects::job::Around;
+use crate::objects::job::ReportContext;
 use crate::objects::lines::text_of;
 use json_lines::Value::{Moment, Text};
 use json_lines::{Field, put_line};
 use run_times::Page;
-use status_page::{LeftOut, Standing, is_told};
+use status_page::{LeftOut, StatusRead, is_told};
 
 /// Adds an object for each definition that the boot left out, or for those that the arguments mean. It returns how many there are.
 pub(crate) fn put_left_out(
     page: &mut Page<'_>,
-    standing: &Standing,
+    standing: &StatusRead,
     words: &[history_model::Text],
-    around: Around,
+    around: ReportContext,
 ) -> u64 {
     let mut count: u64 = 0;
     for file in &standing.boot.left_out {
@@ -24,7 +24,7 @@ pub(crate) fn put_left_out(
     count
 }
 
-fn put_file(page: &mut Page<'_>, file: &LeftOut, around: Around) {
+fn put_file(page: &mut Page<'_>, file: &LeftOut, around: ReportContext) {
     let fields = [
         Field("state", Text("not_loaded")),
         Field("file_label", text_of(file.label())),

@@ -8,7 +8,7 @@ use history_model::Reading;
 use job_defs::Def;
 use json_lines::Value::{Flag, Json, Moment};
 use json_lines::{Field, put_json, put_line, put_texts};
-use run_times::{Ink, Page};
+use run_times::{Page, TextWriter};
 use std::alloc::{AllocError, Global};
 use std::str::from_utf8;
 
@@ -31,7 +31,7 @@ pub(crate) fn put_loaded(
         (unheeded, definition) => {
             drop(unheeded);
             drop(definition);
-            page.ink.refuse();
+            page.writer.refuse();
         }
     }
 }
@@ -62,19 +62,19 @@ fn unheeded(alloc: Global, def: &Def) -> Result<String, AllocError> {
     for name in def.not_acted_on() {
         names.push(name.as_str())?;
     }
-    let mut ink = Ink::new(alloc);
-    put_texts(&mut ink, names.as_slice());
+    let mut writer = TextWriter::new(alloc);
+    put_texts(&mut writer, names.as_slice());
     drop(names);
-    ink.into_text()
+    writer.into_text()
 }
 
 // The JSON without the white space between its parts. A string of JSON never goes over a line.
 fn on_one_line(alloc: Global, text: &str) -> Result<String, AllocError> {
     let bytes = laid_out(alloc, text)?;
-    let mut ink = Ink::new(alloc);
+    let mut writer = TextWriter::new(alloc);
     for line in from_utf8(bytes.as_slice()).unwrap_or("").lines() {
-        put_json(&mut ink, line.trim_start());
+        put_json(&mut writer, line.trim_start());
     }
     drop(bytes);
-    ink.into_text()
+    writer.into_text()
 }

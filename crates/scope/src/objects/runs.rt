@@ -28,7 +28,7 @@ pub(crate) fn runs_objects(
             }
             drop(jobs);
         }
-        Err(_) => page.ink.refuse(),
+        Err(_) => page.writer.refuse(),
     }
     drop(lengths);
     page.into_text()

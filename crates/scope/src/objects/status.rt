@@ -4,7 +4,7 @@ ghost use Rattle.std.specs.Prelude.{◌≡◌};
 ghost use Rattle.status_page.specs.Rows.{state_word};
 
 use crate::journal::labels::KnownLabels;
-use crate::objects::job::{Around, around_file};
+use crate::objects::job::{ReportContext, around_file};
 use crate::objects::left_out::put_left_out;
 use crate::objects::lines::{end_of, moment_of, number_of};
 use crate::texts::standing::disabled_at;
@@ -16,8 +16,8 @@ use launchctl_words::ScopeCommand;
 use run_times::Page;
 use status_file::{JobStatus, state_name};
 use status_page::{
-    Next, Row, ShownState, Standing, StartWhen, Usage, is_asked, reading_of, row_of, second_told,
-    told_as_of, told_row, usage_of,
+    Next, ShownState, StartWhen, StatusRead, StatusRow, Usage, is_asked, reading_of, row_of,
+    second_told, told_as_of, told_row, usage_of,
 };
 use std::alloc::{AllocError, Global};
 
@@ -25,7 +25,7 @@ use std::alloc::{AllocError, Global};
 pub(crate) fn status_objects(
     host: &HostRuntime,
     alloc: Global,
-    standing: &Standing,
+    standing: &StatusRead,
     of: &ScopeCommand,
     second: u64,
     settings: &KnownLabels,
@@ -40,7 +40,7 @@ pub(crate) fn status_objects(
 fn objects_in(
     host: &HostRuntime,
     alloc: Global,
-    standing: &Standing,
+    standing: &StatusRead,
     of: &ScopeCommand,
     second: u64,
     zone: &Zone,
@@ -63,7 +63,7 @@ fn objects_in(
                         put_row(&mut page, &row, job.disabled.is_some(), since, around);
                         drop(entries);
                     }
-                    Err(_) => page.ink.refuse(),
+                    Err(_) => page.writer.refuse(),
                 }
             }
         }
@@ -78,7 +78,7 @@ fn objects_in(
 fn usage_in(
     host: &HostRuntime,
     alloc: Global,
-    standing: &Standing,
+    standing: &StatusRead,
     job: &JobStatus<'_>,
     process: Option<u32>,
 ) -> Option<Usage> {
@@ -90,10 +90,10 @@ fn usage_in(
 // Adds the line of a row.
 fn put_row(
     page: &mut Page<'_>,
-    row: &Row<'_>,
+    row: &StatusRow<'_>,
     is_disabled: bool,
     disabled_at: Option<Reading>,
-    around: Around,
+    around: ReportContext,
 ) {
     let process = match row.process {
         Some(process) => Some(u64::from(process)),
@@ -140,7 +140,7 @@ fn word_of(state: ShownState) -> &'static str
 }
 
 // When time alone starts it, also a start that is overdue, or what it waits for.
-fn next_of(row: &Row<'_>) -> (Value<'static>, Value<'static>) {
+fn next_of(row: &StatusRow<'_>) -> (Value<'static>, Value<'static>) {
     match row.next {
         Next::Clock(StartWhen::At(second) | StartWhen::Since(second)) => {
             (Moment(second_told(row.throttle, second)), Absent)

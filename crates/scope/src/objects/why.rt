@@ -6,7 +6,7 @@ use crate::journal::reader::OpenJournal;
 use crate::known_runs::KnownRuns;
 use crate::objects::causes::causes_list;
 use crate::objects::job::{
-    Around, Beside, around_file, around_journal, disabled_since, put_job, put_unloaded,
+    Beside, ReportContext, around_file, around_journal, disabled_since, put_job, put_unloaded,
 };
 use crate::objects::left::put_left;
 use crate::objects::left_out::put_left_out;
@@ -24,7 +24,7 @@ use launchctl_words::ScopeCommand;
 use leftovers::RunProcess;
 use run_times::Page;
 use status_file::{JobFacts, JobStatus, StatusLine, state_name, state_of};
-use status_page::{Fault, Standing, gone_on, is_asked, reading_of, told_as_of, within_limits};
+use status_page::{Fault, StatusRead, gone_on, is_asked, reading_of, told_as_of, within_limits};
 use std::alloc::{AllocError, Global};
 
 /// An object for each job or label that `why_text` shows, in order, or only for those that fail; and how many fail.
@@ -58,7 +58,7 @@ fn put_known(
     journal: &OpenJournal,
     label: &str,
     is_failing: bool,
-    around: Around,
+    around: ReportContext,
     clock: Reading,
 ) -> bool {
     let known = journal.past.labels.of(label);
@@ -121,7 +121,7 @@ fn put_living(
     told: &ToldJob<'_>,
     mut beside: Beside<'_>,
     of: Clocks<'_>,
-    around: Around,
+    around: ReportContext,
 ) {
     let last = within_limits(of.last);
     let end = throttle_shown(told, facts, last);
@@ -133,7 +133,7 @@ fn put_living(
             put_whole(page, label, told, beside, list.as_str(), around);
             drop(list);
         }
-        Err(_) => page.ink.refuse(),
+        Err(_) => page.writer.refuse(),
     }
 }
 
@@ -144,7 +144,7 @@ fn put_whole<'x>(
     told: &ToldJob<'_>,
     beside: Beside<'x>,
     list: &'x str,
-    around: Around,
+    around: ReportContext,
 ) {
     let whole = Beside {
         state: beside.state,
@@ -163,7 +163,7 @@ fn put_whole<'x>(
 /// An object for each job of the file, or for each of those named, in order, or only for those that fail; and how many fail.
 pub(crate) fn standing_objects(
     alloc: Global,
-    standing: &Standing,
+    standing: &StatusRead,
     of: &ScopeCommand,
     second: u64,
     left: &[RunProcess],
@@ -178,7 +178,7 @@ pub(crate) fn standing_objects(
 // The objects, by the launcher's zone, in which its jobs' calendars are.
 fn objects_in(
     alloc: Global,
-    standing: &Standing,
+    standing: &StatusRead,
     of: &ScopeCommand,
     second: u64,
     zone: &Zone,
@@ -242,7 +242,7 @@ fn put_status(
     job: &JobStatus<'_>,
     mut beside: Beside<'_>,
     of: ByFile<'_>,
-    around: Around,
+    around: ReportContext,
 ) {
     let runs = KnownRuns::noted(&job.note, job.facts.reasons.child);
     if !around.foretells {
@@ -255,7 +255,7 @@ fn put_status(
             put_standing(page, job, runs, entries_of, beside, of, around);
             drop(entries);
         }
-        Err(_) => page.ink.refuse(),
+        Err(_) => page.writer.refuse(),
     }
 }
 
@@ -267,7 +267,7 @@ fn put_standing(
     entries: &[Entry],
     beside: Beside<'_>,
     of: ByFile<'_>,
-    around: Around,
+    around: ReportContext,
 ) {
     let told = told_of(page, of.zone, job, runs, entries);
     let of = Clocks {

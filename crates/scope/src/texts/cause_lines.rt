@@ -15,11 +15,11 @@ use status_page::can_start_again;
 /// Adds a line for each cause of the job, in order: for each thing that the table's reasons say, and for nothing else. It returns whether the
 /// only one is that nothing wants the job.
 pub(crate) fn add_causes(page: &mut Page<'_>, told: &ToldJob<'_>) -> bool
-    ensures { page.new.ink.is_refused ≡ false →
-        TellsCauses told.now.facts.reasons page.old.ink page.new.ink }
+    ensures { page.new.writer.is_refused ≡ false →
+        TellsCauses told.now.facts.reasons page.old.writer page.new.writer }
 {
     let Ok(list) = causes(page.alloc, &told.facts.reasons) else {
-        page.ink.refuse();
+        page.writer.refuse();
         return false;
     };
     add_lines(page, told, list.as_slice());
@@ -36,7 +36,7 @@ fn is_idle(causes: &[JobCause]) -> bool {
 
 // A line for each of the causes, in order.
 fn add_lines(page: &mut Page<'_>, told: &ToldJob<'_>, causes: &[JobCause])
-    ensures { TellsEach causes.now page.old.ink page.new.ink }
+    ensures { TellsEach causes.now page.old.writer page.new.writer }
 {
     for cause in causes {
         add_line(page, told, *cause);
@@ -45,16 +45,16 @@ fn add_lines(page: &mut Page<'_>, told: &ToldJob<'_>, causes: &[JobCause])
 
 // The line of a cause: how it begins, and the sentences that end it.
 fn add_line(page: &mut Page<'_>, told: &ToldJob<'_>, cause: JobCause)
-    ensures { (more : List ℕ) × Adds (front_of cause ++ (more ++ 10 ∷ [])) page.old.ink page.new.ink }
+    ensures { (more : List ℕ) × Adds (front_of cause ++ (more ++ 10 ∷ [])) page.old.writer page.new.writer }
 {
-    put_front(&mut page.ink, cause);
+    put_front(&mut page.writer, cause);
     add_end(page, told, cause);
-    page.ink.put("\n");
+    page.writer.put("\n");
 }
 
 // What ends it.
 fn add_end(page: &mut Page<'_>, told: &ToldJob<'_>, cause: JobCause)
-    ensures { Grows page.old.ink page.new.ink }
+    ensures { Grows page.old.writer page.new.writer }
 {
     match cause {
         JobCause::NotWanted if can_start_again(&told.facts.reasons) => add_ways(page, told),
@@ -66,7 +66,7 @@ fn add_end(page: &mut Page<'_>, told: &ToldJob<'_>, cause: JobCause)
 
 // Why its conditions do not want it, and the ways by which it comes to be wanted.
 fn add_ways(page: &mut Page<'_>, told: &ToldJob<'_>)
-    ensures { Grows page.old.ink page.new.ink }
+    ensures { Grows page.old.writer page.new.writer }
 {
     add_sentences(page, &unmet_said(told));
     add_sentence(page, &watched_said(told.keys.watch_paths));
@@ -76,14 +76,14 @@ fn add_ways(page: &mut Page<'_>, told: &ToldJob<'_>)
 }
 
 fn add_sentence(page: &mut Page<'_>, said: &Sentence<'_>)
-    ensures { Grows page.old.ink page.new.ink }
+    ensures { Grows page.old.writer page.new.writer }
 {
     let (form, holes) = said;
     page.add(*form, holes);
 }
 
 fn add_sentences(page: &mut Page<'_>, said: &[Sentence<'_>])
-    ensures { Grows page.old.ink page.new.ink }
+    ensures { Grows page.old.writer page.new.writer }
 {
     for (form, holes) in said {
         page.add(*form, holes);

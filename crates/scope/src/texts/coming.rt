@@ -1,5 +1,10 @@
 //! What can come to want a job that nothing wants now, in sentences.
 
+ghost use Rattle.std.specs.Prelude.{◌≡◌, ◌≤◌};
+ghost use Rattle.calendar_due.specs.ZoneRules.{minute_at};
+ghost use Rattle.history_model.specs.declared.TheConstants.{MAX_WALL};
+ghost use Rattle.scope.specs.Told.{IsCalendarNext, last_looked_at};
+
 use crate::texts::by_facts::{StartWord, start_word};
 use crate::texts::told::{
     CalendarNext, MOST_SENTENCES, NONE, SILENCE, Sentence, Sentences, ToldJob, said_if,
@@ -123,15 +128,23 @@ fn crash_unmet(crashed: Option<bool>) -> &'static str {
 }
 
 /// The next minute that one of the entries matches in the zone after this second of `wall`.
-pub(crate) fn calendar_next(entries: &[Entry], zone: &Zone, after: u64) -> CalendarNext {
+pub(crate) fn calendar_next(entries: &[Entry], zone: &Zone, after: u64) -> CalendarNext
+    ensures { IsCalendarNext (minute_at zone.now) entries.now after result }
+{
     if entries.is_empty() {
         return CalendarNext::Absent;
     }
-    let until = after.saturating_add(FARTHEST).min(MAX_WALL);
-    match Calendar::next(entries, zone, after, until) {
+    match Calendar::next(entries, zone, after, last_looked_at(after)) {
         Some(wall) => CalendarNext::At(wall),
         None => CalendarNext::Far,
     }
+}
+
+fn last_looked_at(after: u64) -> u64
+    ensures value { result ≡ last_looked_at after }
+    ensures range { result ≤ MAX_WALL }
+{
+    after.saturating_add(FARTHEST).min(MAX_WALL)
 }
 
 fn calendar_said(next: CalendarNext) -> Sentence<'static> {

@@ -193,7 +193,7 @@ fn add_wait(page: &mut Page<'_>, what: &What, until: u64) {
         _ => "",
     };
     page.add(form, &[Time(until)]);
-    page.ink.put(match what {
+    page.writer.put(match what {
         What::Ended { is_odd: true, .. } => BACKGROUND,
         _ => "\n",
     });

@@ -4,7 +4,7 @@ use crate::journal::job::{KeptJob, Totals};
 use crate::journal::past::Past;
 use crate::journal::run::RunEnd;
 use history_model::{Reading, Text};
-use run_times::{Ink, Piece};
+use run_times::{Piece, TextWriter};
 use std::alloc::{AllocError, Global};
 
 const HEAD: &str =
@@ -22,19 +22,19 @@ pub(crate) fn runs_table(
     labels: &[Text],
 ) -> Result<String, AllocError> {
     let lengths = lengths(alloc, past, now)?;
-    let mut ink = Ink::new(alloc);
-    ink.put(HEAD);
+    let mut writer = TextWriter::new(alloc);
+    writer.put(HEAD);
     match asked_jobs(alloc, past, labels) {
         Ok(jobs) => {
             for (label, job) in &jobs {
-                add_row(&mut ink, now, lengths.as_slice(), *label, *job);
+                add_row(&mut writer, now, lengths.as_slice(), *label, *job);
             }
             drop(jobs);
         }
-        Err(_) => ink.refuse(),
+        Err(_) => writer.refuse(),
     }
     drop(lengths);
-    ink.into_text()
+    writer.into_text()
 }
 
 /// The jobs of the rows: all, or those named, in the order of the arguments.
@@ -75,21 +75,27 @@ pub(crate) fn lengths(
     Ok(lengths)
 }
 
-fn add_row(ink: &mut Ink, now: Reading, lengths: &[(u64, u64)], label: &str, job: &KeptJob) {
+fn add_row(
+    writer: &mut TextWriter,
+    now: Reading,
+    lengths: &[(u64, u64)],
+    label: &str,
+    job: &KeptJob,
+) {
     let totals = job.record.totals_at(job.def.is_some(), now);
-    ink.put_plain(label);
-    add_counts(ink, &totals);
-    add_lengths(ink, lengths, job.record.serial, &totals);
-    add_share(ink, totals.lived, totals.loaded);
-    add_seconds(ink, totals.gap);
-    ink.put_all(&[
+    writer.put_plain(label);
+    add_counts(writer, &totals);
+    add_lengths(writer, lengths, job.record.serial, &totals);
+    add_share(writer, totals.lived, totals.loaded);
+    add_seconds(writer, totals.gap);
+    writer.put_all(&[
         Piece::Text("\t"),
         Piece::Number(totals.nonzero),
         Piece::Text("\n"),
     ]);
 }
 
-fn add_counts(ink: &mut Ink, totals: &Totals) {
+fn add_counts(writer: &mut TextWriter, totals: &Totals) {
     let counts = [
         totals.starts,
         totals.refused,
@@ -98,20 +104,20 @@ fn add_counts(ink: &mut Ink, totals: &Totals) {
         totals.crashes,
     ];
     for count in counts.iter() {
-        ink.put("\t");
-        ink.put_number(*count);
+        writer.put("\t");
+        writer.put_number(*count);
     }
 }
 
 // The shortest of the job, the median of those that are kept, and the longest.
-fn add_lengths(ink: &mut Ink, lengths: &[(u64, u64)], job: u64, totals: &Totals) {
+fn add_lengths(writer: &mut TextWriter, lengths: &[(u64, u64)], job: u64, totals: &Totals) {
     let has_ended = totals.shortest <= totals.longest;
-    add_known(ink, has_ended, totals.shortest);
+    add_known(writer, has_ended, totals.shortest);
     match median_of(lengths, job) {
-        Some(length) => add_seconds(ink, length),
-        None => ink.put("\t-"),
+        Some(length) => add_seconds(writer, length),
+        None => writer.put("\t-"),
     }
-    add_known(ink, has_ended, totals.longest);
+    add_known(writer, has_ended, totals.longest);
 }
 
 /// The median of those of the job that are kept.
@@ -126,11 +132,11 @@ pub(crate) fn median_of(lengths: &[(u64, u64)], job: u64) -> Option<u64> {
 }
 
 // The span, if there is one.
-fn add_known(ink: &mut Ink, is_known: bool, milliseconds: u64) {
+fn add_known(writer: &mut TextWriter, is_known: bool, milliseconds: u64) {
     if is_known {
-        add_seconds(ink, milliseconds);
+        add_seconds(writer, milliseconds);
     } else {
-        ink.put("\t-");
+        writer.put("\t-");
     }
 }
 
@@ -140,9 +146,9 @@ fn first_from(lengths: &[(u64, u64)], job: u64) -> usize {
 }
 
 // Seconds with three digits after the point.
-fn add_seconds(ink: &mut Ink, milliseconds: u64) {
+fn add_seconds(writer: &mut TextWriter, milliseconds: u64) {
     let rest = milliseconds % 1000;
-    ink.put_all(&[
+    writer.put_all(&[
         Piece::Text("\t"),
         Piece::Number(milliseconds / 1000),
         Piece::Text("."),
@@ -152,12 +158,12 @@ fn add_seconds(ink: &mut Ink, milliseconds: u64) {
     ]);
 }
 
-fn add_share(ink: &mut Ink, lived: u64, loaded: u64) {
+fn add_share(writer: &mut TextWriter, lived: u64, loaded: u64) {
     if loaded == 0 {
-        return ink.put("\t-");
+        return writer.put("\t-");
     }
     let share = lived.saturating_mul(1000) / loaded;
-    ink.put_all(&[
+    writer.put_all(&[
         Piece::Text("\t"),
         Piece::Number(share / 10),
         Piece::Text("."),

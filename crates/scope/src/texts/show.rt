@@ -62,7 +62,7 @@ fn add_job(page: &mut Page<'_>, label: &str, job: &KeptJob, known: KnownLabel, i
             }
             drop(bytes);
         }
-        Err(_) => page.ink.refuse(),
+        Err(_) => page.writer.refuse(),
     }
 }
 

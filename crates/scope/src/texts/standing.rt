@@ -1,5 +1,9 @@
 //! Why each job is in its state, by its launcher's file, and which of them fail.
 
+ghost use Rattle.std.specs.Prelude.{◌≡◌};
+ghost use Rattle.calendar_due.specs.ZoneRules.{minute_at};
+ghost use Rattle.scope.specs.Told.{IsCalendarNext, facts_then};
+
 use crate::errors::FailedRun;
 use crate::journal::labels::{KnownLabel, KnownLabels};
 use crate::known_runs::KnownRuns;
@@ -16,7 +20,7 @@ use run_times::Filling::{Number, Text, Time};
 use run_times::Page;
 use status_file::{DisabledBy, JobNote, JobStatus, StatusLine};
 use status_page::{
-    Down, Failing, Fault, Standing, add_failing, add_head, add_left_out, fault_of, gone_on,
+    Down, Failing, Fault, StatusRead, add_failing, add_head, add_left_out, fault_of, gone_on,
     is_asked, last_end_of, passed_minute, reading_of, told_as_of, within_limits,
 };
 use std::alloc::{AllocError, Global};
@@ -28,7 +32,7 @@ const WRITTEN: u64 = 2;
 /// system's reason follows if its last start was refused, and then when it starts, as of a second. Times are shown in the launcher's zone or in UTC.
 pub(crate) fn standing_text(
     alloc: Global,
-    standing: &Standing,
+    standing: &StatusRead,
     labels: &[history_model::Text],
     is_utc: bool,
     second: u64,
@@ -46,7 +50,7 @@ pub(crate) fn standing_text(
 // The text, by the launcher's zone, in which its jobs' calendars are.
 fn text_in(
     alloc: Global,
-    standing: &Standing,
+    standing: &StatusRead,
     labels: &[history_model::Text],
     is_utc: bool,
     second: u64,
@@ -59,7 +63,7 @@ fn text_in(
     let mut page = Page::new(alloc, &shown, told_as_of(standing, last, second));
     add_head(&mut page, standing, second);
     if standing.is_empty() {
-        page.ink.put("\nNo job is loaded.\n");
+        page.writer.put("\nNo job is loaded.\n");
     }
     let clock = gone_on(last, second);
     for line in standing.jobs() {
@@ -88,7 +92,7 @@ fn add_left(page: &mut Page<'_>, label: &str, left: &[RunProcess]) {
 }
 
 // The same of labels that are not loaded.
-fn add_left_of_others(page: &mut Page<'_>, standing: &Standing, left: &[RunProcess]) {
+fn add_left_of_others(page: &mut Page<'_>, standing: &StatusRead, left: &[RunProcess]) {
     for process in left {
         let label = process.label.as_str();
         if !has_line(standing, label) {
@@ -106,7 +110,7 @@ fn add_left_of_others(page: &mut Page<'_>, standing: &Standing, left: &[RunProce
 }
 
 // Whether the file has a line of this job that was asked for.
-fn has_line(standing: &Standing, label: &str) -> bool {
+fn has_line(standing: &StatusRead, label: &str) -> bool {
     for line in standing.jobs() {
         match line.job() {
             Ok(job) if job.label == label => return true,
@@ -131,7 +135,7 @@ fn add_process(page: &mut Page<'_>, process: &RunProcess) {
 fn add_job(
     page: &mut Page<'_>,
     zone: &Zone,
-    standing: &Standing,
+    standing: &StatusRead,
     line: &StatusLine,
     job: &JobStatus<'_>,
     clock: Reading,
@@ -155,7 +159,7 @@ fn add_job(
                 add_missed(page, missed);
                 drop(entries);
             }
-            Err(_) => page.ink.refuse(),
+            Err(_) => page.writer.refuse(),
         }
     } else {
         add_gone(page, standing, job);
@@ -190,7 +194,14 @@ pub(crate) fn told_of<'a>(
     job: &JobStatus<'a>,
     runs: KnownRuns<'a>,
     entries: &[Entry],
-) -> ToldJob<'a> {
+) -> ToldJob<'a>
+    ensures at { result.at ≡ page.entry.now.now }
+    ensures facts { result.facts ≡ facts_then job.now.facts page.entry.now.now.up }
+    ensures asked { result.asked ≡ None }
+    ensures runs { result.runs ≡ runs.entry }
+    ensures keys { result.keys ≡ job.now.keys }
+    ensures calendar { IsCalendarNext (minute_at zone.now) entries.now page.entry.now.now.wall result.calendar }
+{
     ToldJob {
         at: page.now,
         facts: facts_then(&job.facts, page.now.up),
@@ -202,7 +213,7 @@ pub(crate) fn told_of<'a>(
 }
 
 // That a job's launcher has exited, or is not known to run, and the PID of its run.
-fn add_gone(page: &mut Page<'_>, standing: &Standing, job: &JobStatus<'_>) {
+fn add_gone(page: &mut Page<'_>, standing: &StatusRead, job: &JobStatus<'_>) {
     if standing.may_live() {
         let reasons = &job.facts.reasons;
         return add_state_then(page, job.label, reasons, "when the file was written");
@@ -286,7 +297,7 @@ pub(crate) fn missed_in(
 /// A line for each job of the file, or of those named, that fails, and for each definition that the boot left out, and how many there are.
 pub(crate) fn failing_in(
     alloc: Global,
-    standing: &Standing,
+    standing: &StatusRead,
     labels: &[history_model::Text],
     is_utc: bool,
     second: u64,
@@ -300,7 +311,7 @@ pub(crate) fn failing_in(
 // The lines, by the launcher's zone, in which its jobs' calendars are.
 fn failing_by(
     alloc: Global,
-    standing: &Standing,
+    standing: &StatusRead,
     labels: &[history_model::Text],
     is_utc: bool,
     second: u64,
@@ -332,7 +343,7 @@ fn failing_by(
 
 fn add_if_failing(
     page: &mut Page<'_>,
-    standing: &Standing,
+    standing: &StatusRead,
     line: &StatusLine,
     job: &JobStatus<'_>,
     zone: &Zone,
@@ -346,7 +357,7 @@ fn add_if_failing(
         Ok(Some(fault)) => fault,
         Ok(None) => return false,
         Err(_) => {
-            page.ink.refuse();
+            page.writer.refuse();
             return false;
         }
     };
@@ -370,7 +381,7 @@ fn add_if_failing(
 /// Why a job of a file is reported as failing, if it is: also since a minute of its calendar passed while no launcher ran.
 pub(crate) fn line_fault(
     alloc: Global,
-    standing: &Standing,
+    standing: &StatusRead,
     line: &StatusLine,
     job: &JobStatus<'_>,
     zone: &Zone,
@@ -400,7 +411,7 @@ pub(crate) fn missed_fault(minute: Option<u64>) -> Option<Fault> {
 /// The jobs of the file, or those named, whose last run failed, as far as it is known where their errors go.
 pub(crate) fn failed_in<'a>(
     alloc: Global,
-    standing: &'a Standing,
+    standing: &'a StatusRead,
     labels: &[history_model::Text],
 ) -> Result<Vec<FailedRun<'a>>, AllocError> {
     let mut failed = Vec::new(alloc);
@@ -427,7 +438,7 @@ pub(crate) fn is_failed_run(fault: Option<Fault>) -> bool {
     }
 }
 
-// Why a job of a file is told as failing, if it is, by its runs.
+// Why a job of a file is reported as failing, if it is, by its runs.
 fn file_fault(job: &JobStatus<'_>, may_live: bool) -> Option<Fault> {
     let note = &job.note;
     let is_refused = match &note.refused {

@@ -12,7 +12,7 @@ use launchctl_words::ScopeCommand;
 use run_times::{Page, coming_second};
 use status_file::{JobStatus, StatusLine};
 use status_page::{
-    Standing, ToldStart, add_head, can_start_again, gone_on, reading_of, row_of, start_told,
+    StatusRead, ToldStart, add_head, can_start_again, gone_on, reading_of, row_of, start_told,
     told_as_of,
 };
 use std::alloc::{AllocError, Global};
@@ -31,7 +31,7 @@ struct Moments {
 /// to have no schedule.
 pub(crate) fn standing_lines(
     alloc: Global,
-    standing: &Standing,
+    standing: &StatusRead,
     of: &ScopeCommand,
     second: u64,
 ) -> Result<ComingLines, AllocError> {
@@ -53,7 +53,7 @@ pub(crate) fn standing_lines(
 
 fn starts_of<'a>(
     alloc: Global,
-    standing: &'a Standing,
+    standing: &'a StatusRead,
     zone: &Zone,
     moments: Moments,
 ) -> Result<Vec<Start<'a>>, AllocError> {
@@ -70,7 +70,7 @@ fn starts_of<'a>(
 
 fn lines_of(
     alloc: Global,
-    standing: &Standing,
+    standing: &StatusRead,
     of: &ScopeCommand,
     zone: &Zone,
     moments: Moments,
@@ -95,7 +95,7 @@ fn lines_of(
 // The text, by the zone in which times are shown.
 fn text_of(
     alloc: Global,
-    standing: &Standing,
+    standing: &StatusRead,
     of: &ScopeCommand,
     zone: &Zone,
     moments: Moments,

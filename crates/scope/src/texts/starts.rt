@@ -1,6 +1,6 @@
 //! Coming starts by time alone, in the order of time: a line each, or an object.
 
-use crate::objects::job::Around;
+use crate::objects::job::ReportContext;
 use crate::objects::lines::number_of;
 use calendar_due::Zone;
 use definition_files::calendar_after;
@@ -40,7 +40,7 @@ pub(crate) struct Telling {
     /// Each as an object of JSON.
     pub(crate) is_json: bool,
     /// As of when, and what is known of the launcher.
-    pub(crate) around: Around,
+    pub(crate) around: ReportContext,
 }
 
 /// Adds the starts, the soonest first, each followed by the next of the same clock, if its definition is there. The zone is that of the calendars.
@@ -99,11 +99,11 @@ fn put_object(page: &mut Page<'_>, start: &Start<'_>, of: Telling) {
 fn add_start(page: &mut Page<'_>, start: &Start<'_>, now: u64) {
     page.add("$  $  in ", &[Moment(start.at), Text(start.label)]);
     let left = start.at.saturating_sub(now).saturating_mul(1000);
-    page.ink.put_span(left, false);
+    page.writer.put_span(left, false);
     if let Some(every) = start.every {
         page.add(" (each $ s)", &[Number(u64::from(every))]);
     }
-    page.ink.put("\n");
+    page.writer.put("\n");
 }
 
 // When the same clock starts the job after this start, if the interval begins then.

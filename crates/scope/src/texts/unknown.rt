@@ -2,8 +2,8 @@
 
 use crate::journal::reader::OpenJournal;
 use near_labels::Near;
-use run_times::Ink;
-use status_page::Standing;
+use run_times::TextWriter;
+use status_page::StatusRead;
 use std::alloc::{AllocError, Global};
 
 /// That nothing has the label, and which are near it.
@@ -20,7 +20,7 @@ pub(crate) fn unknown_text(
 /// The same of a launcher's file.
 pub(crate) fn unknown_in(
     alloc: Global,
-    standing: &Standing,
+    standing: &StatusRead,
     label: &str,
 ) -> Result<String, AllocError> {
     let mut near = Near::to(alloc, label);
@@ -34,20 +34,20 @@ fn unknown_beside(
     near: Near<'_>,
     found: Result<(), AllocError>,
 ) -> Result<String, AllocError> {
-    let mut ink = Ink::new(alloc);
+    let mut writer = TextWriter::new(alloc);
     if found.is_err() {
-        ink.refuse();
+        writer.refuse();
     }
-    ink.put("nothing here names ");
-    ink.put_plain(label);
+    writer.put("nothing here names ");
+    writer.put_plain(label);
     let mut between = "; near it: ";
     for other in near.labels() {
-        ink.put(between);
-        ink.put_plain(*other);
+        writer.put(between);
+        writer.put_plain(*other);
         between = ", ";
     }
     drop(near);
-    ink.into_text()
+    writer.into_text()
 }
 
 fn find<'a>(
@@ -69,7 +69,7 @@ fn find<'a>(
 
 fn find_in<'a>(
     alloc: Global,
-    standing: &'a Standing,
+    standing: &'a StatusRead,
     label: &str,
     near: &mut Near<'a>,
 ) -> Result<(), AllocError> {

@@ -1,5 +1,9 @@
 //! Why each job is in its state, at the journal's end or at an earlier time.
 
+ghost use Rattle.std.specs.Prelude.{◌≡◌};
+ghost use Rattle.calendar_due.specs.ZoneRules.{minute_at};
+ghost use Rattle.scope.specs.Told.{IsCalendarNext, asked_in, facts_then};
+
 use crate::age::{AsOf, add_head, clock_as_of, reading_as_of};
 use crate::journal::job::{KeptJob, Record};
 use crate::journal::labels::{DisabledBy, KnownLabel};
@@ -39,7 +43,7 @@ pub(crate) fn why_text(
     let asked = asked_labels(alloc, journal, labels)?;
     match asked.first() {
         Some(first) if journal.facts(*first).is_some() => {}
-        _ if labels.is_empty() => page.ink.put("\nNo job is loaded.\n"),
+        _ if labels.is_empty() => page.writer.put("\nNo job is loaded.\n"),
         _ => {}
     }
     for label in &asked {
@@ -165,8 +169,8 @@ fn add_job<'x>(
     );
 }
 
-// The report on a job whose launcher is not known to run: what it did at the journal's end. What kept it from a start then, and when it would have
-// started, is not told.
+// The report on a job whose launcher is not known to run: what it did at the journal's end. It does not say what kept it from a
+// start then, and when it would have started.
 fn add_at_end(page: &mut Page<'_>, journal: &OpenJournal, label: &str, job: &KeptJob) {
     let (Some(_), Some(facts)) = (&job.def, journal.facts(label)) else {
         let form = "\n$ is not loaded: it was removed at $.\n";
@@ -203,7 +207,12 @@ pub(crate) fn told_job<'a>(
     def: &'a Def,
     facts: &JobFacts<'a>,
     at: Reading,
-) -> ToldJob<'a> {
+) -> ToldJob<'a>
+    ensures at { result.at ≡ at }
+    ensures facts { result.facts ≡ facts_then facts.now at.up }
+    ensures asked { result.asked ≡ asked_in journal.now.past job.now.record }
+    ensures calendar { IsCalendarNext (minute_at journal.now.zone) def.now.calendar at.wall result.calendar }
+{
     ToldJob {
         at,
         facts: facts_then(facts, at.up),
@@ -240,7 +249,9 @@ pub(crate) fn throttle_shown(
 }
 
 /// The facts, but that a throttle which is over by then is left out.
-pub(crate) fn facts_then<'a>(facts: &JobFacts<'a>, up: u64) -> JobFacts<'a> {
+pub(crate) fn facts_then<'a>(facts: &JobFacts<'a>, up: u64) -> JobFacts<'a>
+    ensures { result ≡ facts_then facts.now up }
+{
     let mut then = *facts;
     then.reasons = reasons_then(&facts.reasons, up);
     then
@@ -323,7 +334,7 @@ fn add_inert(page: &mut Page<'_>, keys: &[history_model::Text]) {
 // What is asked of a job whose program seems to put itself in the background.
 fn add_background(page: &mut Page<'_>, job: &Record) {
     if job.is_in_background() {
-        page.ink.put(
+        page.writer.put(
             "  Does its program put itself in the background? It has to stay in the foreground.\n",
         );
     }

@@ -39,11 +39,11 @@ pub enum Step {
     /// These lines were asked since the last such step, each followed by a newline.
     Asked(&'static str),
     /// The client has got this since the last such step, and no end.
-    Hears(usize, &'static str),
+    Receives(usize, &'static str),
     /// The client has got this since the last such step, and then the end.
-    HearsLast(usize, &'static str),
+    ReceivesLast(usize, &'static str),
     /// The client gets the end, whatever comes before it.
-    IsLetGo(usize),
+    IsDisconnected(usize),
     /// Whether no reply waits to be sent.
     Quiet(bool),
     /// A poll is woken under the socket's token, or is not.
@@ -129,21 +129,27 @@ impl Stage {
                 &[b'n'; 4096],
                 count,
             ),
-            Step::Hears(number, text) => hears(
+            Step::Receives(number, text) => receives(
                 rt.alloc(),
                 &mut self.clients,
                 number,
                 Some(text),
                 false,
             ),
-            Step::HearsLast(number, text) => hears(
+            Step::ReceivesLast(number, text) => receives(
                 rt.alloc(),
                 &mut self.clients,
                 number,
                 Some(text),
                 true,
             ),
-            Step::IsLetGo(number) => hears(rt.alloc(), &mut self.clients, number, None, true),
+            Step::IsDisconnected(number) => receives(
+                rt.alloc(),
+                &mut self.clients,
+                number,
+                None,
+                true,
+            ),
             Step::Rounds(count) => {
                 let _is_busy = self.rounds(rt, count);
                 true
@@ -239,12 +245,12 @@ fn send(
 }
 
 /// Takes what is there for the client to be read, and returns whether the end came after it. None if that can't be known.
-pub fn heard(client: &mut UnixStream, heard: &mut Vec<u8>) -> Option<bool> {
+pub fn received(client: &mut UnixStream, received: &mut Vec<u8>) -> Option<bool> {
     let mut piece = [0u8; 4096];
     for _ in 0..1_000u32 {
         match client.read(&mut piece) {
             Ok(0) => return Some(true),
-            Ok(count) => heard.extend_from_slice(&piece[..count.min(4096)]).ok()?,
+            Ok(count) => received.extend_from_slice(&piece[..count.min(4096)]).ok()?,
             Err(error) if error.kind() == ErrorKind::WouldBlock => return Some(false),
             Err(_) => return None,
         }
@@ -253,7 +259,7 @@ pub fn heard(client: &mut UnixStream, heard: &mut Vec<u8>) -> Option<bool> {
 }
 
 /// Whether what is there for the client to be read is this text, and the end came after it or did not.
-fn hears(
+fn receives(
     alloc: Global,
     clients: &mut [Option<UnixStream>],
     number: usize,
@@ -264,7 +270,7 @@ fn hears(
         return false;
     };
     let mut bytes = Vec::new(alloc);
-    let is_end = heard(client, &mut bytes);
+    let is_end = received(client, &mut bytes);
     let is_text = match text {
         Some(text) => bytes.as_slice() == text.as_bytes(),
         None => true,

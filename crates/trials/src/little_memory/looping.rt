@@ -1,7 +1,7 @@
 //! The making of a live loop where memory is short. What drops a launcher is proved for its whole type, so all but its making is generic over it.
 
 use crate::edges::places::new_folder;
-use crate::little_memory::hoard::Hoard;
+use crate::little_memory::memory_hog::MemoryHog;
 use crate::little_memory::trial::{Answer, Trial, tried};
 use crate::memory_stage::{MemoryStore, Sink};
 use crate::rounds::refusals::launcher_over;
@@ -89,7 +89,7 @@ impl<R: System, H: LoopHost + Drop, M: Makes<H>> Trial for Looping<'_, R, H, M> 
 fn try_with<R: System, H: LoopHost + Drop, M: Makes<H> + Drop>(
     own: &HostRuntime,
     rt: &R,
-    hoard: &mut Hoard,
+    memory_hog: &mut MemoryHog,
     maker: M,
 ) -> Result<()> {
     let trial = Looping {
@@ -97,16 +97,16 @@ fn try_with<R: System, H: LoopHost + Drop, M: Makes<H> + Drop>(
         maker,
         given: None,
     };
-    tried(own, hoard, "Live::new", trial)
+    tried(own, memory_hog, "Live::new", trial)
 }
 
 /// Tries the call in a folder of its own.
-pub fn try_making(rt: &HostRuntime, hoard: &mut Hoard) -> Result<()> {
+pub fn try_making(rt: &HostRuntime, memory_hog: &mut MemoryHog) -> Result<()> {
     let Some(folder) = new_folder(rt, "looping") else {
         bail!("the folder of the loop was refused");
     };
     let path = folder.as_str();
-    let done = try_with(rt, rt, hoard, Folder { rt, path });
+    let done = try_with(rt, rt, memory_hog, Folder { rt, path });
     if fs::remove_dir_all(rt, path).is_err() {
         bail!("the folder of the loop stays");
     }

@@ -4,7 +4,7 @@
 
 ghost use Rattle.std.specs.Prelude.{◌≤◌};
 
-use crate::little_memory::hoard::Hoard;
+use crate::little_memory::memory_hog::MemoryHog;
 use crate::little_memory::trial::{Answer, Trial, tried};
 use crate::little_memory::{feeding, growing, replaying};
 use crate::memory_stage::header;
@@ -328,7 +328,7 @@ impl Trial for Plain<'_> {
 }
 
 /// Tries each call in turn.
-pub fn try_all(rt: &HostRuntime, hoard: &mut Hoard) -> Result<()> {
+pub fn try_all(rt: &HostRuntime, memory_hog: &mut MemoryHog) -> Result<()> {
     let Some(given) = what_is_given(rt.alloc()) else {
         bail!("what the calls are made of was refused");
     };
@@ -341,7 +341,7 @@ pub fn try_all(rt: &HostRuntime, hoard: &mut Hoard) -> Result<()> {
             heap: None,
             written: Vec::new(rt.alloc()),
         };
-        done = tried(rt, hoard, name, plain);
+        done = tried(rt, memory_hog, name, plain);
         if done.is_err() {
             break;
         }

@@ -1,7 +1,7 @@
 //! The calls on a store that take memory: its opening, over a file of the first version, and those on an open one, over a database in memory. What
 //! drops a store is proved for its whole type, so all but the connections is generic over what the store is built on.
 
-use crate::little_memory::hoard::Hoard;
+use crate::little_memory::memory_hog::MemoryHog;
 use crate::little_memory::trial::{Answer, Trial, tried};
 use crate::stores::calls::{FIRST_VERSION, Row, SECOND, has, opened, runs};
 use anyhow::Result;
@@ -202,7 +202,7 @@ impl<S: Alter + Drop, P: Place<S>> Trial for Storing<S, P> {
 /// Tries each of the calls on a store at the place.
 pub fn try_all<S: Alter + Drop, P: Place<S> + Copy + Drop>(
     rt: &HostRuntime,
-    hoard: &mut Hoard,
+    memory_hog: &mut MemoryHog,
     place: P,
     calls: &[(&str, Call)],
 ) -> Result<()> {
@@ -213,7 +213,7 @@ pub fn try_all<S: Alter + Drop, P: Place<S> + Copy + Drop>(
             conn: None,
             store: None,
         };
-        tried(rt, hoard, name, trial)?;
+        tried(rt, memory_hog, name, trial)?;
     }
     Ok(())
 }

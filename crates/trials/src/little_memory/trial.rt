@@ -1,7 +1,7 @@
 //! A call under trial: made again and again with too little memory, and each time with a little more, until it has
 //! enough.
 
-use crate::little_memory::hoard::Hoard;
+use crate::little_memory::memory_hog::MemoryHog;
 use anyhow::{Result, bail};
 use std::alloc::Global;
 
@@ -49,13 +49,13 @@ enum Verdict {
 }
 
 /// Makes the call with no memory left, and then with more and more.
-fn stand<T: Trial>(alloc: Global, hoard: &mut Hoard, trial: &mut T) -> Verdict {
+fn stand<T: Trial>(alloc: Global, memory_hog: &mut MemoryHog, trial: &mut T) -> Verdict {
     let mut remaining = 0usize;
     for refused in 0..ROUNDS {
         if !trial.prepare(alloc) {
             return Verdict::NotTried;
         }
-        let Some(answer) = answer_with(alloc, hoard, trial, remaining) else {
+        let Some(answer) = answer_with(alloc, memory_hog, trial, remaining) else {
             return Verdict::NotTried;
         };
         if answer == Answer::Other || !trial.is_right(alloc, answer) {
@@ -77,12 +77,12 @@ fn stand<T: Trial>(alloc: Global, hoard: &mut Hoard, trial: &mut T) -> Verdict {
 /// What the call answers if this many bytes are left. None if the memory is not limited.
 fn answer_with<T: Trial>(
     alloc: Global,
-    hoard: &mut Hoard,
+    memory_hog: &mut MemoryHog,
     trial: &mut T,
     remaining: usize,
 ) -> Option<Answer> {
     let kept: Vec<u8> = Vec::with_capacity(alloc, FILLER.saturating_add(remaining)).ok()?;
-    let is_all = hoard.take_all(alloc);
+    let is_all = memory_hog.take_all(alloc);
     drop(kept);
     let filler: Vec<u8> = Vec::with_capacity(alloc, FILLER).ok()?;
     let answer = if is_all {
@@ -91,7 +91,7 @@ fn answer_with<T: Trial>(
         None
     };
     drop(filler);
-    hoard.give_back();
+    memory_hog.give_back();
     answer
 }
 
@@ -99,12 +99,12 @@ fn answer_with<T: Trial>(
 /// trial is dropped here, since each place that drops it is proved for its whole type.
 pub fn tried<T: Trial + Drop>(
     rt: &HostRuntime,
-    hoard: &mut Hoard,
+    memory_hog: &mut MemoryHog,
     name: &str,
     trial: T,
 ) -> Result<()> {
     let mut trial = trial;
-    let verdict = stand(rt.alloc(), hoard, &mut trial);
+    let verdict = stand(rt.alloc(), memory_hog, &mut trial);
     drop(trial);
     match verdict {
         Verdict::Stood(0) => bail!("{name}: was never refused memory"),

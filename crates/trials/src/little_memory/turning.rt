@@ -1,6 +1,6 @@
 //! A launcher that is made where memory is short, and its turns.
 
-use crate::little_memory::hoard::Hoard;
+use crate::little_memory::memory_hog::MemoryHog;
 use crate::little_memory::trial::{Answer, Trial, tried};
 use crate::memory_stage::{LINES, Launched, Parts, asked, parts_of};
 use anyhow::Result;
@@ -255,7 +255,7 @@ impl<H: Launched + Drop> Trial for Turning<H> {
 }
 
 /// Tries the making of a launcher, and then each turn.
-pub fn try_all<H: Launched + Drop>(rt: &HostRuntime, hoard: &mut Hoard) -> Result<()> {
+pub fn try_all<H: Launched + Drop>(rt: &HostRuntime, memory_hog: &mut MemoryHog) -> Result<()> {
     for (name, turn) in CALLS {
         let trial: Turning<H> = Turning {
             turn: *turn,
@@ -264,7 +264,7 @@ pub fn try_all<H: Launched + Drop>(rt: &HostRuntime, hoard: &mut Hoard) -> Resul
             calls: 0,
             code: 0,
         };
-        tried(rt, hoard, name, trial)?;
+        tried(rt, memory_hog, name, trial)?;
     }
     Ok(())
 }

@@ -4,7 +4,7 @@
 use crate::memory_stage::memory_store::MemoryStore;
 use crate::memory_stage::sink::{Sink, new_sink};
 use child_edge::{EdgeCall, MemoryEdge, Scripted};
-use ctl_protocol::{Header, Settings, ZoneText};
+use ctl_protocol::{Header, HeaderSettings, ZoneText};
 use history_model::{Reading, Reply, Setting, Text};
 use launcher::{Host, HostFault, Input};
 use std::alloc::{AllocError, Global};
@@ -38,7 +38,7 @@ pub fn header(alloc: Global, zone: &str, up: u64) -> Option<Header> {
     Some(Header {
         reading: Reading { up, ..START },
         zone: ZoneText::Posix(rule),
-        overrides: Settings::new(Vec::new(alloc)),
+        overrides: HeaderSettings::new(Vec::new(alloc)),
     })
 }
 

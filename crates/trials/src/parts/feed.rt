@@ -17,13 +17,13 @@ pub enum Step {
 }
 
 /// How many bytes a line may have, and the steps.
-pub struct Fed {
+pub struct FeedCase {
     pub limit: usize,
     pub steps: &'static [Step],
 }
 
 /// A line that is cut in two comes whole, once its newline has come.
-pub const CUT: &Fed = &Fed {
+pub const CUT: &FeedCase = &FeedCase {
     limit: LINE_LIMIT,
     steps: &[
         Taken(b"{\"req\":\"li"),
@@ -49,7 +49,7 @@ fn goes(feed: &mut LineFeed, step: &Step) -> bool {
 }
 
 /// Whether a feed goes as its steps say.
-pub fn all_go(alloc: Global, fed: &Fed) -> bool {
+pub fn all_go(alloc: Global, fed: &FeedCase) -> bool {
     let mut feed = LineFeed::new(alloc, fed.limit);
     let mut all_go = true;
     for step in fed.steps {

@@ -1,7 +1,7 @@
 //! Passes of the event loop over the real system, with children of its own. The launcher's store and its journal are in memory. The jobs are loaded
 //! by turns, and a client of the control socket asks the rest.
 
-use crate::edges::control_stage::heard;
+use crate::edges::control_stage::received;
 use crate::edges::places::new_folder;
 use crate::memory_stage::{MemoryStore, Sink};
 use crate::rounds::refusals::launcher_over;
@@ -192,7 +192,7 @@ impl<R: System, H: LoopHost + Drop> Stage<'_, R, H> {
             if !self.goes_on() {
                 return None;
             }
-            let _is_end = heard(&mut self.client, &mut reply)?;
+            let _is_end = received(&mut self.client, &mut reply)?;
             if is_whole(reply.as_slice()) {
                 self.replies.extend_from_slice(reply.as_slice()).ok()?;
                 return Some(reply);

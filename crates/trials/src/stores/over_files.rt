@@ -5,7 +5,7 @@ use crate::stores::calls::{all_of, opened, runs};
 use crate::stores::disks::Disks;
 use crate::stores::on_disks::{Listed, is_listed_on};
 use crate::stores::stopped_turns::turned_over;
-use crate::stores::stops::{Said, may_follow, set_over};
+use crate::stores::stops::{Acknowledged, may_follow, set_over};
 use sqlite::{Alter, Connection, Files, Options};
 use sqlite_disk::Disk;
 use std::alloc::Global;
@@ -18,13 +18,13 @@ pub enum Task<'a> {
     SetTwice,
     Turn,
     /// What is listed may follow what was acknowledged.
-    Follows(Said),
+    Follows(Acknowledged),
 }
 
 /// What was acknowledged, if a store was opened that may stop, and whether what was asked is so.
 #[derive(Clone, Copy)]
 pub struct Done {
-    pub said: Option<Said>,
+    pub said: Option<Acknowledged>,
     pub is_so: bool,
 }
 
@@ -38,7 +38,7 @@ enum Left<S: Alter> {
 fn follows<S: Alter + Drop>(
     alloc: Global,
     conn: Connection<S>,
-    said: Said,
+    said: Acknowledged,
 ) -> Option<(bool, Left<S>)> {
     let mut store = opened(alloc, conn)?;
     let all = all_of(alloc, &mut store);

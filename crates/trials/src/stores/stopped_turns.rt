@@ -2,7 +2,7 @@
 //! is opened again, and one that was refused is not made.
 
 use crate::memory_stage::{Sink, edge, header};
-use crate::stores::stops::{NO_LAUNCHER, Said};
+use crate::stores::stops::{Acknowledged, NO_LAUNCHER};
 use child_edge::MemoryEdge;
 use launcher::{Host, Input};
 use outside::SettingStore;
@@ -36,7 +36,10 @@ fn code<T: SettingStore>(alloc: Global, host: &mut Host<T, MemoryEdge, Sink>, li
 }
 
 /// The store once `a` was disabled and loaded.
-fn turned<T: SettingStore + Drop>(alloc: Global, host: Host<T, MemoryEdge, Sink>) -> (Said, T) {
+fn turned<T: SettingStore + Drop>(
+    alloc: Global,
+    host: Host<T, MemoryEdge, Sink>,
+) -> (Acknowledged, T) {
     let mut host = host;
     let disabled = code(alloc, &mut host, DISABLE);
     let loaded = code(alloc, &mut host, LOAD);
@@ -44,11 +47,14 @@ fn turned<T: SettingStore + Drop>(alloc: Global, host: Host<T, MemoryEdge, Sink>
     drop(table);
     drop(edge);
     drop(journal);
-    (Said::Turns { disabled, loaded }, store)
+    (Acknowledged::Turns { disabled, loaded }, store)
 }
 
 /// What was acknowledged, and what stays of the connection, closed as far as that goes; none if a disk stopped in the making of the launcher.
-pub fn turned_over<S: Alter + Drop>(alloc: Global, conn: Connection<S>) -> Option<(Said, S)> {
+pub fn turned_over<S: Alter + Drop>(
+    alloc: Global,
+    conn: Connection<S>,
+) -> Option<(Acknowledged, S)> {
     match opened(alloc, conn) {
         Ok((settings, all)) => {
             drop(all);

@@ -24,7 +24,7 @@ static WITH_OFF: [Row<'static>; 3] = [("a", true, 0), ("b", false, 0), OFF];
 
 /// What was acknowledged.
 #[derive(Clone, Copy)]
-pub enum Said {
+pub enum Acknowledged {
     /// Whether a store was opened, and whether each of two settings was made.
     Settings {
         opened: bool,
@@ -39,26 +39,26 @@ pub enum Said {
 }
 
 /// No store was opened.
-const NO_STORE: Said = Said::Settings {
+const NO_STORE: Acknowledged = Acknowledged::Settings {
     opened: false,
     first: false,
     second: false,
 };
 
 /// No launcher was made, so `a` was not disabled.
-pub const NO_LAUNCHER: Said = Said::Turns {
+pub const NO_LAUNCHER: Acknowledged = Acknowledged::Turns {
     disabled: 9,
     loaded: 0,
 };
 
 /// A store is opened and two settings are made.
-pub fn set_over<S: Alter + Drop>(alloc: Global, conn: Connection<S>) -> (Said, S) {
+pub fn set_over<S: Alter + Drop>(alloc: Global, conn: Connection<S>) -> (Acknowledged, S) {
     match OverrideStore::open_or_give(alloc, conn) {
         Ok(store) => {
             let mut store = store;
             let first = sets(&mut store, ON);
             let second = sets(&mut store, OFF);
-            let said = Said::Settings {
+            let said = Acknowledged::Settings {
                 opened: true,
                 first,
                 second,
@@ -71,9 +71,9 @@ pub fn set_over<S: Alter + Drop>(alloc: Global, conn: Connection<S>) -> (Said, S
 
 /// Whether what is found may follow what was acknowledged: the last setting, or one that was made and not acknowledged. A launcher's setting
 /// disables `a`; it may be there also if it was refused, and a load of `a` is refused once it was made.
-pub fn may_follow(said: Said, all: &[Setting]) -> bool {
+pub fn may_follow(said: Acknowledged, all: &[Setting]) -> bool {
     match said {
-        Said::Settings {
+        Acknowledged::Settings {
             opened,
             first,
             second,
@@ -83,7 +83,7 @@ pub fn may_follow(said: Said, all: &[Setting]) -> bool {
             let is_off = show_all(all, &WITH_OFF);
             (is_old & !first & !second) | (is_on & opened & !second) | (is_off & opened)
         }
-        Said::Turns { disabled, loaded } => match (disabled, loaded, all) {
+        Acknowledged::Turns { disabled, loaded } => match (disabled, loaded, all) {
             (0, 5, [one]) | (9, 0, [one]) => one.label.as_str() == "a" && one.disabled,
             (9, 0, []) => true,
             _ => false,
@@ -92,7 +92,7 @@ pub fn may_follow(said: Said, all: &[Setting]) -> bool {
 }
 
 /// Whether a store over copies of these files, on disks that do not stop, lists what may follow. The files are dropped.
-fn is_followed(alloc: Global, files: Disks, said: Said) -> bool {
+fn is_followed(alloc: Global, files: Disks, said: Acknowledged) -> bool {
     let left = copies(alloc, &files, MANY, MANY);
     drop(files);
     match left {
@@ -123,7 +123,8 @@ fn stops(alloc: Global, run: Run, from: &Disks, log: u64, db: u64) -> Option<boo
             let said = done.said.unwrap_or(nothing);
             let is_whole = matches!(
                 said,
-                Said::Settings { second: true, .. } | Said::Turns { disabled: 0, .. }
+                Acknowledged::Settings { second: true, .. }
+                    | Acknowledged::Turns { disabled: 0, .. }
             );
             if is_followed(alloc, files, said) {
                 Some(is_whole)

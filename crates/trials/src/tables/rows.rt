@@ -21,9 +21,9 @@ pub enum Row {
     Asks(Event, Option<(u32, usize)>),
     /// A load. The job has this number.
     Numbered(&'static str, JobNo),
-    /// Behind this label the next child is of this label, number and run; or there is none.
+    /// After this label the next child is of this label, number and run; or there is none.
     Child(&'static str, Option<(&'static str, JobNo, u64)>),
-    /// Behind this path this one is listed next; or none is.
+    /// After this path this one is listed next; or none is.
     Path(&'static str, Option<&'static str>),
     /// No job is there.
     Empty,

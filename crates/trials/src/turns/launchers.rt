@@ -298,7 +298,7 @@ static LINES: &[Line] = &[
             ..WITHOUT
         })],
     ),
-    // Turns go on if the journal's writer refuses, and its closing is told once.
+    // Turns go on if the journal's writer refuses, and its closing is logged once.
     (
         "a_refused_line_stops_no_turn",
         &[Case::Launched(&Turns {

@@ -2,12 +2,12 @@
 use Rattle.std.proofs.Common.{◌≡◌, take}
 use Rattle.std.specs.List.{list_any}
 use Rattle.history_model.proofs.WrittenLemmas.{written}
-use Rattle.job_core.specs.ListedPaths.{watched_after_sight}
+use Rattle.job_core.specs.ListedPaths.{watched_after_observation}
 use Rattle.job_core.proofs.PathsLemmas.{fires_at}
 use Rattle.job_core.proofs.paths.watch.Given as goal
 
 abbrev pub invariant-loop-watched : goal.invariant-loop-watched
 invariant-loop-watched l = record {
-  seen : l.watched-items ≡ written (watched_after_sight l.path l.obs) l.watched-index l.fn.listed.items;
+  seen : l.watched-items ≡ written (watched_after_observation l.path l.obs) l.watched-index l.fn.listed.items;
   fires : l.fires ≡ list_any (fires_at l.path l.obs) (take l.watched-index l.fn.listed.items);
 }

@@ -9,5 +9,5 @@ use Rattle.job_table.proofs.JobTable.commit_load.Goals as goal
 
 pub returns-clause-spared : goal.returns-clause-spared
 returns-clause-spared c =
-    subst (λ t. (force bind store : Bool) → SparesOthers (Load (Ok (given c.args.ready.seat.def)) (is_some c.args.ready.setting) force bind store) t (seen_table c.load.new.self))
+    subst (λ t. (force bind store : Bool) → SparesOthers (Load (Ok (given c.args.ready.job_slot.def)) (is_some c.args.ready.setting) force bind store) t (seen_table c.load.new.self))
     c.self.view_is c.load.ensures.goes.spared

@@ -7,7 +7,7 @@ use Rattle.live_loop.proofs.telling.tell.Goals as goal
 pub loop-init : goal.loop-init
 loop-init g c = record {
   asks = nothing;
-  kept = record { child = refl; sights = refl; desk = refl };
+  kept = record { child = refl; observations = refl; desk = refl };
   ended = refl;
 }
 
@@ -22,7 +22,7 @@ loop-preserved g c = record {
   asks = asks_append c.loop.invariant.asks c.next_notice.ensures.asks;
   kept = record {
     child = c.next_notice.ensures.kept.child ∙ c.loop.invariant.kept.child;
-    sights = c.next_notice.ensures.kept.sights ∙ c.loop.invariant.kept.sights;
+    observations = c.next_notice.ensures.kept.observations ∙ c.loop.invariant.kept.observations;
     desk = c.next_notice.ensures.kept.desk ∙ c.loop.invariant.kept.desk;
   };
   ended = c.next_notice.ensures.ended ∙ c.loop.invariant.ended;

@@ -22,7 +22,7 @@ returns-clause-indexed c = λ up is.
       timed = λ k e at. first.moments e.number ∙ is.timed k e at;
       alone = λ number moment there. is.alone number moment (sym (first.moments number) ∙ there);
       space = λ number named. (let space = is.space number named in let room = first.room in omega (arith, space, room));
-      placed = subst (λ ps. ArePlaced ps c.args.seats.now) (sym (lent-back after (drop (length after) places.items) places.len (omega arith))) c.place_all.ensures.placed;
+      placed = subst (λ ps. ArePlaced ps c.args.job_slots.now) (sym (lent-back after (drop (length after) places.items) places.len (omega arith))) c.place_all.ensures.placed;
       empty = λ place. c.reserve-2.ensures.kept.places place ∙ is.empty place;
       marks = let marks = is.marks in let room = c.reserve-2.ensures.kept.room in omega (arith, marks, room);
     }

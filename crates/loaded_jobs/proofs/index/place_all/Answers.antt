@@ -1,4 +1,4 @@
--- No seat is before the first.
+-- No slot is before the first.
 use Rattle.std.proofs.Common.{arith}
 use Rattle.loaded_jobs.proofs.index.place_all.Goals as goal
 

@@ -31,13 +31,13 @@ loop-minute-preserved c =
     c.mark_once.ensures.noted c.mark_once.ensures.fresh c.loop-minute.invariant
 
 pub returns-clause-spared : goal.returns-clause-spared
-returns-clause-spared c = λ es are placed place seat at spared.
+returns-clause-spared c = λ es are placed place job_slot at spared.
     let listed = c.args.listed.now in
     let places = c.args.places.now in
     let minutes = c.args.minutes.now in
     let over = c.loop-minute-test.false in
     let marks = subst (λ ms. Marks c.args.ready.now c.loop-minute.ready (stands_among listed places ms)) (take_all c.loop-minute.minute-index minutes (omega (arith, over))) c.loop-minute.invariant.marks in
-    minute-spared places es placed listed are c.args.ready.now c.loop-minute.ready minutes (some-first minutes (sym c.if-is_empty.ensures)) marks place seat at spared
+    minute-spared places es placed listed are c.args.ready.now c.loop-minute.ready minutes (some-first minutes (sym c.if-is_empty.ensures)) marks place job_slot at spared
 
 pub returns-clause-marks : goal.returns-clause-marks
 returns-clause-marks c = λ es are placed place at.

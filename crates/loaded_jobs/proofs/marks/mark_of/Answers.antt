@@ -19,7 +19,7 @@ bounds-places-one c =
     let i = c.loop-one.one-index in
     let within : i < length run = omega arith in
     let one = c.one-item.result in
-    let found = filter-at (has_rank (rank_of c.args.sought)) c.args.listed.now i one (ap (λ xs. slice_get xs i) (sym c.run_of-run.ensures) ∙ get-at run i one within c.one-item.is) in
+    let found = filter-at (has_rank (rank_of c.args.query)) c.args.listed.now i one (ap (λ xs. slice_get xs i) (sym c.run_of-run.ensures) ∙ get-at run i one within c.one-item.is) in
     (c.requires.places found.0 one found.1).0
 
 pub insert-requires : goal.insert-requires
@@ -28,7 +28,7 @@ insert-requires c =
     let i = c.loop-one.one-index in
     let within : i < length run = omega arith in
     let one = c.one-item.result in
-    let found = filter-at (has_rank (rank_of c.args.sought)) c.args.listed.now i one (ap (λ xs. slice_get xs i) (sym c.run_of-run.ensures) ∙ get-at run i one within c.one-item.is) in
+    let found = filter-at (has_rank (rank_of c.args.query)) c.args.listed.now i one (ap (λ xs. slice_get xs i) (sym c.run_of-run.ensures) ∙ get-at run i one within c.one-item.is) in
     subst (λ r. place_in c.args.places.now one.number < r) (sym c.loop-one.invariant.room) (c.requires.places found.0 one found.1).1
 
 pub loop-one-preserved : goal.loop-one-preserved
@@ -50,6 +50,6 @@ returns c =
     let places = c.args.places.now in
     let i = c.loop-one.one-index in
     let over = c.loop-one-test.false in
-    same-marks c.args.ready.now c.loop-one.ready (λ place. list_any (is_placed_at places place) (take i run)) (stands_at c.args.listed.now places (rank_of c.args.sought))
+    same-marks c.args.ready.now c.loop-one.ready (λ place. list_any (is_placed_at places place) (take i run)) (stands_at c.args.listed.now places (rank_of c.args.query))
     (λ place. ap (list_any (is_placed_at places place)) (sym c.run_of-run.ensures ∙ sym (take_all i run (omega (arith, over)))))
     c.loop-one.invariant

@@ -7,10 +7,10 @@ use Rattle.history_model.specs.declared.Reading.{Reading}
 use Rattle.history_model.specs.Machine.{Job}
 use Rattle.history_model.specs.Texts.{shown_text}
 use Rattle.loaded_jobs.specs.StandsFor.{KeepsJobs}
-use Rattle.loaded_jobs.specs.Seats.{rows}
+use Rattle.loaded_jobs.specs.JobSlots.{rows}
 use Rattle.loaded_jobs.specs.Listed.{IsListed}
 use Rattle.loaded_jobs.proofs.questions.list.Given as goal
 
-abbrev pub invariant-loop-seat : goal.invariant-loop-seat
-invariant-loop-seat l = (at : Reading) (jobs : List Job) → KeepsJobs at (rows l.seats) jobs →
-    IsListed at (rows (drop l.seat-index l.seats)) (string_bytes l.text) (codes "PID\tStatus\tLabel\n" ++ flat_map shown_text jobs)
+abbrev pub invariant-loop-job_slot : goal.invariant-loop-job_slot
+invariant-loop-job_slot l = (at : Reading) (jobs : List Job) → KeepsJobs at (rows l.job_slots) jobs →
+    IsListed at (rows (drop l.job_slot-index l.job_slots)) (string_bytes l.text) (codes "PID\tStatus\tLabel\n" ++ flat_map shown_text jobs)

@@ -1,4 +1,4 @@
--- One more of the overrides is among those that are in order.
+-- One more of the settings is among those that are in order.
 use Rattle.std.proofs.Common.{◌≡◌, ◌-◌, suc, take, drop, reverse, ◌∙◌, subst, arith}
 use Rattle.loaded_jobs.specs.StandsFor.{KeepsSettings}
 use Rattle.loaded_jobs.proofs.SettingOrderLemmas.{keeps-step, parts, as-long}

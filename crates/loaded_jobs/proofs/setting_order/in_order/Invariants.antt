@@ -1,4 +1,4 @@
--- Those behind the place are in order, and decide as the overrides from there on.
+-- Those after the place are in order, and decide as the settings from there on.
 use Rattle.std.proofs.Common.{◌≡◌, ◌≤◌, length, take, drop, reverse}
 use Rattle.loaded_jobs.specs.StandsFor.{KeepsSettings}
 use Rattle.loaded_jobs.specs.TableSettings.{AreSet}

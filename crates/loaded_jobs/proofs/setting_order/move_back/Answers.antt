@@ -1,4 +1,4 @@
--- The setting is taken out, and put in behind so many.
+-- The setting is taken out, and put in after `count` others.
 use Rattle.std.proofs.Common.{◌≡◌, ◌+◌, ◌<◌, ◌++◌, take, drop, length, ap, sym, subst, ◌∙◌, arith}
 use Rattle.std.specs.List.{insert}
 use Rattle.std.proofs.lemmas.Bool.Decides.{nat_tests}

@@ -1,4 +1,4 @@
--- An older setting of the label is dropped; another stands at its place among the newer ones.
+-- An older setting of the label is dropped; another is at its place among the newer ones.
 use Rattle.std.proofs.Common.{◌≡◌, ◌+◌, ◌-◌, ◌++◌, take, drop, length, ap, sym, subst, ◌∙◌, arith}
 use Rattle.std.specs.List.{filter, position}
 use Rattle.std.proofs.lemmas.Slice.{between_to_end}

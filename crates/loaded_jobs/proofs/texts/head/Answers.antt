@@ -1,4 +1,4 @@
--- The state's word stands in the text.
+-- The state's word is in the text.
 use Rattle.loaded_jobs.proofs.texts.head.Goals as goal
 
 pub returns : goal.returns

@@ -1,4 +1,4 @@
--- Those that were passed stand at the end.
+-- Those that were passed are at the end.
 use Rattle.std.proofs.Common.{◌≡◌, ◌++◌, map, take}
 use Rattle.loaded_jobs.specs.declared.trigger.Trigger.TheVariants.{Path}
 use Rattle.loaded_jobs.proofs.trigger.add_paths.Given as goal

@@ -1,4 +1,4 @@
--- What comes behind one that is behind is behind too.
+-- What comes after one that is after is after too.
 use Rattle.std.proofs.Common.{◌≡◌, ◌<◌, ◌∙◌, Some, sym, ap, length, arith}
 use Rattle.std.specs.Prelude.{slice_get}
 use Rattle.std.proofs.lemmas.Option.{slice_get-get_or}
@@ -14,4 +14,4 @@ returns-then-is_behind-clause-behind c =
     let open_still = c.if-from-listed.false in
     let within : from < length xs = grind (arith, open_still) in
     let there : slice_get xs from ≡ Some one = slice_get-get_or xs from one within ∙ ap Some (sym c.index-listed-from.is) in
-    behind-on xs c.requires.order (rank_of c.args.sought) from one there (sym c.is_behind.ensures ∙ c.if-is_behind.true)
+    behind-on xs c.requires.order (rank_of c.args.query) from one there (sym c.is_behind.ensures ∙ c.if-is_behind.true)

@@ -1,4 +1,4 @@
--- One more trigger stands at its place.
+-- One more trigger is at its place.
 use Rattle.std.proofs.Common.{◌≡◌, ◌<◌, cond, count_by, true, false, sym, ap, subst, ◌∙◌, arith}
 use Rattle.std.specs.Prelude.{slice_get}
 use Rattle.std.specs.Vec.{vec_capacity, vec_len}

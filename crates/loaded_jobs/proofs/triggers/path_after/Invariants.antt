@@ -1,4 +1,4 @@
--- Of those behind the text the ones that were passed are of jobs that left, and all from here on are behind it.
+-- Of those after the text the ones that were passed are of jobs that left, and all from here on are after it.
 use Rattle.std.proofs.Common.{◌≡◌, ◌≤◌, ◌<◌, ◌∷◌, ◌-◌, ℕ, Some, true, false, length}
 use Rattle.std.specs.Prelude.{slice_get}
 use Rattle.loaded_jobs.specs.Triggers.{is_behind, stays_under}
@@ -7,7 +7,7 @@ use Rattle.loaded_jobs.proofs.triggers.path_after.Given as goal
 
 abbrev pub invariant-loop-place : goal.invariant-loop-place
 invariant-loop-place l = record {
-  passed : (k : ℕ) (one : Listed) → slice_get l.listed k ≡ Some one → k < l.place → is_behind (1 ∷ l.text) one ≡ true → stays_under l.places l.seats one ≡ false;
+  passed : (k : ℕ) (one : Listed) → slice_get l.listed k ≡ Some one → k < l.place → is_behind (1 ∷ l.text) one ≡ true → stays_under l.places l.job_slots one ≡ false;
   ahead : (k : ℕ) (one : Listed) → slice_get l.listed k ≡ Some one → l.place ≤ k → is_behind (1 ∷ l.text) one ≡ true;
 }
 

@@ -3,10 +3,10 @@ use Rattle.std.proofs.Common.{◌≡◌, ◌⊎◌, inl, inr, ◌≤◌, ◌<◌
 use Rattle.std.proofs.lemmas.Bool.Decides.{nat_tests}
 use Rattle.std.specs.Prelude.{is_some, slice_set, []}
 use Rattle.place_set.specs.Places.{Places, Pops, has_place, place_room}
-use Rattle.loaded_jobs.specs.Seats.{name}
-use Rattle.loaded_jobs.specs.Touch.{item_for}
+use Rattle.loaded_jobs.specs.JobSlots.{name}
+use Rattle.loaded_jobs.specs.AffectedJobs.{item_for}
 use Rattle.loaded_jobs.specs.Visiting.{is_spared}
-use Rattle.loaded_jobs.specs.declared.seat.Seat.{Seat}
+use Rattle.loaded_jobs.specs.declared.job_slot.JobSlot.{JobSlot}
 use Rattle.loaded_jobs.proofs.ListLemmas.{set-map}
 use Rattle.loaded_jobs.specs.Leaving.{StayBut}
 use Rattle.loaded_jobs.proofs.GoneLemmas.{stayed-more, went-more}
@@ -16,7 +16,7 @@ use Rattle.loaded_jobs.specs.Tables.{IsOnce, definition_of_number}
 use Rattle.loaded_jobs.specs.Index.{moment_for}
 use Rattle.loaded_jobs.proofs.VisitingLemmas.{IsWalked, skip-to, visit-one, walk-over}
 use Rattle.loaded_jobs.proofs.visits.visit_ready.Goals as goal
-use Rattle.loaded_jobs.proofs.visits.visit_ready.Goals.{then-not-seat, else-not-seat}
+use Rattle.loaded_jobs.proofs.visits.visit_ready.Goals.{then-not-job_slot, else-not-job_slot}
 
 -- the marks that are left are those of the beginning
 going-marks : (now first : Places) (front : ℕ) → ((place : ℕ) → place < front → has_place now place ≡ false) → ((place : ℕ) → front ≤ place → has_place now place ≡ has_place first place) →
@@ -63,25 +63,25 @@ loop-number-init c = record {
 pub retime-requires-clause-room : goal.retime-requires-clause-room
 retime-requires-clause-room c =
     let inv = c.loop-number.invariant in
-    let es = c.loop-number.seats in
+    let es = c.loop-number.job_slots in
     let number = c.in-Some.number in
     let popped = c.in-Some.ensures in
     let here = going-marks c.loop-number.ready c.args.ready.now c.loop-number.front inv.taken inv.behind number popped.there in
-    let within : number < length c.args.seats.now = c.requires.can.inside number (ap not here.1) in
-    let long : length es ≡ length c.args.seats.now = omega arith in
+    let within : number < length c.args.job_slots.now = c.requires.can.inside number (ap not here.1) in
+    let long : length es ≡ length c.args.job_slots.now = omega arith in
     let inside : number < length es = omega (arith, within, long) in
-    let e : Seat = get_or es number c.index-seats-place.result in
-    let is : e ≡ get_or es number e = ap (get_or es number) c.index-seats-place.is in
+    let e : JobSlot = get_or es number c.index-job_slots-place.result in
+    let is : e ≡ get_or es number e = ap (get_or es number) c.index-job_slots-place.is in
     subst (λ r. c.visit.new.self.number < r) (sym inv.space)
     (c.requires.can.numbers c.visit.new.self.number
-    (ap (λ n. is_some (definition_of_number (map name c.args.seats.now) n.number)) c.visit.ensures.name
+    (ap (λ n. is_some (definition_of_number (map name c.args.job_slots.now) n.number)) c.visit.ensures.name
     ∙ subst (λ ns. is_some (definition_of_number ns e.number) ≡ true) inv.names (named-at (map name es) es es number e inside refl is (all-named es))))
 
 pub loop-number-preserved : goal.loop-number-preserved
 loop-number-preserved c =
     let inv = c.loop-number.invariant in
-    let es0 = c.args.seats.now in
-    let es = c.loop-number.seats in
+    let es0 = c.args.job_slots.now in
+    let es = c.loop-number.job_slots in
     let front = c.loop-number.front in
     let ready0 = c.args.ready.now in
     let ready = c.loop-number.ready in
@@ -93,17 +93,17 @@ loop-number-preserved c =
     let within : number < length es0 = c.requires.can.inside number (ap not here.1) in
     let long : length es ≡ length es0 = omega arith in
     let inside : number < length es = omega (arith, within, long) in
-    let e : Seat = get_or es number c.index-seats-place.result in
-    let is : e ≡ get_or es number e = ap (get_or es number) c.index-seats-place.is in
+    let e : JobSlot = get_or es number c.index-job_slots-place.result in
+    let is : e ≡ get_or es number e = ap (get_or es number) c.index-job_slots-place.is in
     let between : (k : ℕ) → front ≤ k → k < front + (number - front) → is_spared ready0 k ≡ true =
     λ k low high. ap not (sym (inv.behind k low) ∙ popped.least k (omega (arith, high, after))) in
-    let passed : IsWalked c.args.before c.args.now (item_for c.args.touch) (is_spared ready0) es0 c.args.orders.now.items es number c.loop-number.orders.items c.loop-number.visited =
-    subst (λ k. IsWalked c.args.before c.args.now (item_for c.args.touch) (is_spared ready0) es0 c.args.orders.now.items es k c.loop-number.orders.items c.loop-number.visited) (omega (arith, after))
-    (skip-to c.args.before c.args.now (item_for c.args.touch) (is_spared ready0) c.requires.can.brings es0 c.args.orders.now.items es (number - front) front c.loop-number.orders.items c.loop-number.visited
+    let passed : IsWalked c.args.before c.args.now (item_for c.args.affected) (is_spared ready0) es0 c.args.orders.now.items es number c.loop-number.orders.items c.loop-number.visited =
+    subst (λ k. IsWalked c.args.before c.args.now (item_for c.args.affected) (is_spared ready0) es0 c.args.orders.now.items es k c.loop-number.orders.items c.loop-number.visited) (omega (arith, after))
+    (skip-to c.args.before c.args.now (item_for c.args.affected) (is_spared ready0) c.requires.can.brings es0 c.args.orders.now.items es (number - front) front c.loop-number.orders.items c.loop-number.visited
     c.requires.can.stay (omega (arith, within, after)) between inv.walked) in
-    let counts : c.if-not-seat.visited ≡ cond new.has_gone c.loop-number.visited (suc c.loop-number.visited) = elim c.if-not-seat.branch [
-      | then-not-seat w ↦ w.visited-is ∙ add-one c.loop-number.visited ∙ ap (λ b. cond b c.loop-number.visited (suc c.loop-number.visited)) (sym w.if-not-seat.true)
-      | else-not-seat w ↦ w.visited-is ∙ ap (λ b. cond b c.loop-number.visited (suc c.loop-number.visited)) (sym w.if-not-seat.false)
+    let counts : c.if-not-job_slot.visited ≡ cond new.has_gone c.loop-number.visited (suc c.loop-number.visited) = elim c.if-not-job_slot.branch [
+      | then-not-job_slot w ↦ w.visited-is ∙ add-one c.loop-number.visited ∙ ap (λ b. cond b c.loop-number.visited (suc c.loop-number.visited)) (sym w.if-not-job_slot.true)
+      | else-not-job_slot w ↦ w.visited-is ∙ ap (λ b. cond b c.loop-number.visited (suc c.loop-number.visited)) (sym w.if-not-job_slot.false)
     ] in
     record {
       front = omega (arith, within);
@@ -112,7 +112,7 @@ loop-number-preserved c =
       names = set-map name es number e new inside is c.visit.ensures.name ∙ inv.names;
       fits = omega arith;
       capacity = c.visit.ensures.capacity ∙ inv.capacity;
-      few = elim c.if-not-seat.branch [ then-not-seat w ↦ omega arith | else-not-seat w ↦ omega arith ];
+      few = elim c.if-not-job_slot.branch [ then-not-job_slot w ↦ omega arith | else-not-job_slot w ↦ omega arith ];
       known = λ names all before. c.visit.ensures.known names (named-at names es0 es number e inside passed.untouched is all) (inv.known names all before);
       timed = retimed es number e new c.loop-number.timers c.retime.new.timers c.args.now.up front (is_spared ready0) (subst IsOnce (sym inv.names) c.requires.can.once) inside is c.visit.ensures.name c.retime.ensures
           (λ k low high. between k low (omega (arith, high, after))) inv.timed;
@@ -120,12 +120,12 @@ loop-number-preserved c =
           (ap (λ n. is_some (definition_of_number (map name es0) n.number)) c.visit.ensures.name ∙ named-at (map name es0) es0 es number e inside passed.untouched is (all-named es0)) inv.alone;
       marks = popped.room ∙ inv.marks;
       space = c.retime.ensures.room ∙ inv.space;
-      stays = elim c.if-not-seat.branch [
-        | then-not-seat w ↦ subst (λ g. StayBut g (slice_set es number new)) (sym w.gone-is) (stayed-more c.loop-number.gone number es new inv.stays w.if-not-seat.true)
-        | else-not-seat w ↦ subst (λ g. StayBut g (slice_set es number new)) (sym (w.gone-is ∙ w.and-gone.ensures)) (went-more c.loop-number.gone number es new inv.stays)
+      stays = elim c.if-not-job_slot.branch [
+        | then-not-job_slot w ↦ subst (λ g. StayBut g (slice_set es number new)) (sym w.gone-is) (stayed-more c.loop-number.gone number es new inv.stays w.if-not-job_slot.true)
+        | else-not-job_slot w ↦ subst (λ g. StayBut g (slice_set es number new)) (sym (w.gone-is ∙ w.and-gone.ensures)) (went-more c.loop-number.gone number es new inv.stays)
       ];
-      walked = subst (λ k. IsWalked c.args.before c.args.now (item_for c.args.touch) (is_spared ready0) es0 c.args.orders.now.items (slice_set es number new) k c.visit.new.orders.items c.if-not-seat.visited) (sym (add-one number))
-          (visit-one c.args.before c.args.now (item_for c.args.touch) (is_spared ready0) c.requires.can.brings es0 c.args.orders.now.items es number e new c.loop-number.orders.items c.visit.new.orders.items c.loop-number.visited c.if-not-seat.visited
+      walked = subst (λ k. IsWalked c.args.before c.args.now (item_for c.args.affected) (is_spared ready0) es0 c.args.orders.now.items (slice_set es number new) k c.visit.new.orders.items c.if-not-job_slot.visited) (sym (add-one number))
+          (visit-one c.args.before c.args.now (item_for c.args.affected) (is_spared ready0) c.requires.can.brings es0 c.args.orders.now.items es number e new c.loop-number.orders.items c.visit.new.orders.items c.loop-number.visited c.if-not-job_slot.visited
           c.requires.can.stay within inside is (ap not here.1) c.visit.ensures.visit c.visit.ensures.decided counts passed);
     }
 
@@ -138,7 +138,7 @@ pub returns-clause-visits : goal.returns-clause-visits
 returns-clause-visits c =
     let inv = c.loop-number.invariant in
     let rest = none-marked c.loop-number.ready c.args.ready.now c.loop-number.front inv.behind c.in_default.ensures.1 in
-    let whole = walk-over c.args.before c.args.now (item_for c.args.touch) (is_spared c.args.ready.now) c.requires.can.brings c.args.seats.now c.args.orders.now.items c.loop-number.seats c.loop-number.front c.loop-number.orders.items c.loop-number.visited
+    let whole = walk-over c.args.before c.args.now (item_for c.args.affected) (is_spared c.args.ready.now) c.requires.can.brings c.args.job_slots.now c.args.orders.now.items c.loop-number.job_slots c.loop-number.front c.loop-number.orders.items c.loop-number.visited
     c.requires.can.stay (omega arith) inv.front rest inv.walked in
     record {
       kept = whole.kept;

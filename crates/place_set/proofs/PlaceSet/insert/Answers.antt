@@ -1,4 +1,4 @@
--- One bit of one word is set.
+-- One bit of one number is set.
 use Rattle.std.proofs.Common.{◌≡◌, ◌<◌, ◌*◌, ◌/◌, ◌%◌, ◌^◌, ℕ, length, slice_index_or, slice_set, sym, ap, subst, ◌∙◌, refl, w64, arith}
 use Rattle.std.specs.Int.{bit_at}
 use Rattle.std.specs.Prelude.{bit_or}

@@ -1,4 +1,4 @@
--- The lowest bit of the first word that has one is cleared.
+-- The lowest bit of the first number that has one is cleared.
 use Rattle.std.proofs.Common.{◌≡◌, ◌<◌, ◌+◌, ◌*◌, ◌/◌, ◌%◌, ◌^◌, ◌==◌, ℕ, length, slice_index_or, slice_set, Some, sym, ap, subst, ◌∙◌, w64, rules, arith}
 use Rattle.std.specs.Int.{bit_at, bit_not, trailing_zeros}
 use Rattle.std.specs.Prelude.{bit_and}

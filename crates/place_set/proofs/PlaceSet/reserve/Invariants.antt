@@ -1,4 +1,4 @@
--- The words that were there are there, and behind them come words without a bit.
+-- The numbers that were there are there, and after them come numbers without a bit.
 use Rattle.std.proofs.Common.{◌≡◌, ◌≤◌, ◌<◌, ◌-◌, ◌^◌, ℕ, length}
 use Rattle.place_set.specs.Places.{has_bit}
 use Rattle.place_set.proofs.PlaceSet.reserve.Given as goal

@@ -1,5 +1,5 @@
 -- By the law of the machine.
-use Rattle.round_laws.proofs.HearingLemmas.{decided-of}
+use Rattle.round_laws.proofs.ReceivingLemmas.{decided-of}
 use Rattle.round_laws.proofs.laws.what_was_spared_changes_nothing.Goals as goal
 
 pub returns : goal.returns

@@ -7,7 +7,7 @@ use Rattle.status_page.proofs.table.add_line.Goals as goal
 
 pub returns : goal.returns
 returns c =
-    let a = c.args.ink.now in
+    let a = c.args.writer.now in
     let b = c.put_made.new.self in
     let d = c.put.new.self in
     let e = c.put_made-2.new.self in

@@ -4,4 +4,4 @@ use Rattle.status_page.specs.Rows.{TellsRows}
 use Rattle.status_page.proofs.table.add_lines.Given as goal
 
 abbrev pub invariant-loop-row : goal.invariant-loop-row
-invariant-loop-row l = TellsRows (take l.row-index l.rows) l.fn.ink l.ink
+invariant-loop-row l = TellsRows (take l.row-index l.rows) l.fn.writer l.writer

@@ -3,7 +3,7 @@ use Rattle.std.proofs.Common.{◌∙◌, ap, map, None, [], ◌∷◌}
 use Rattle.history_model.specs.Definitions.{definition}
 use Rattle.conditions.specs.ConditionFacts.{kept_of}
 use Rattle.history_model.specs.Items.{Loaded}
-use Rattle.conditions.proofs.SightsLemmas.{unseen}
+use Rattle.conditions.proofs.ObservationsLemmas.{unseen}
 use Rattle.conditions.proofs.levels.Conditions.new.Goals as goal
 
 pub returns : goal.returns

@@ -4,7 +4,7 @@ use Rattle.std.specs.List.{find}
 use Rattle.std.specs.Option.{option_map}
 use Rattle.history_model.specs.Levels.{presence_holds}
 use Rattle.conditions.specs.declared.levels.State.{State}
-use Rattle.conditions.proofs.SightsLemmas.{first-state, path_in, kept-path}
+use Rattle.conditions.proofs.ObservationsLemmas.{first-state, path_in, kept-path}
 use Rattle.conditions.proofs.levels.Conditions.path_that_holds.Goals as goal
 
 pub returns-in-Some-clause-step : goal.returns-in-Some-clause-step

@@ -1,10 +1,6 @@
 -- All waited so far.
-use Rattle.std.proofs.Common.{◌≡◌}
-use Rattle.control_socket.specs.Clients.{AllWait}
+use Rattle.control_socket.specs.Clients.{LetsWait}
 use Rattle.control_socket.proofs.control.ControlSocket.accept_all.Given as goal
 
 abbrev pub invariant-loop : goal.invariant-loop
-invariant-loop g l = record {
-  wait : AllWait l.fn.self.up l.fn.self.clients l.self.clients;
-  up : l.self.up ≡ l.fn.self.up;
-}
+invariant-loop g l = LetsWait l.fn.self l.self

@@ -1,13 +1,12 @@
 -- One may make way for a place.
-use Rattle.std.proofs.Common.{refl, ◌∙◌}
-use Rattle.control_socket.proofs.WaitingLemmas.{all_same, all_then}
+use Rattle.control_socket.proofs.WaitingLemmas.{wait_still, wait_then}
 use Rattle.control_socket.proofs.control.ControlSocket.accept_next.Goals as goal
 
-pub returns-then-taking-clause-wait : goal.returns-then-taking-clause-wait
-returns-then-taking-clause-wait g c = all_same refl
+pub returns-then-taking : goal.returns-then-taking
+returns-then-taking g c = wait_still
 
 pub returns-in-Ok : goal.returns-in-Ok
-returns-in-Ok g c = record { wait = all_then c.place-place.ensures.up c.place-place.ensures.wait c.take.ensures.wait; up = c.take.ensures.up ∙ c.place-place.ensures.up }
+returns-in-Ok g c = wait_then c.place-place.ensures c.take.ensures
 
 pub returns-in-Err : goal.returns-in-Err
-returns-in-Err g c = record { wait = all_then c.place-place.ensures.up c.place-place.ensures.wait c.go_on.ensures.wait; up = c.go_on.ensures.up ∙ c.place-place.ensures.up }
+returns-in-Err g c = wait_then c.place-place.ensures c.go_on.ensures

@@ -1,10 +1,9 @@
 -- Nobody comes.
-use Rattle.std.proofs.Common.{refl}
-use Rattle.control_socket.proofs.WaitingLemmas.{all_same}
+use Rattle.control_socket.proofs.WaitingLemmas.{leaves, wait_still}
 use Rattle.control_socket.proofs.control.ControlSocket.go_on.Goals as goal
 
-pub returns-in-Interrupted-clause-wait : goal.returns-in-Interrupted-clause-wait
-returns-in-Interrupted-clause-wait c = all_same refl
+pub returns-in-Interrupted : goal.returns-in-Interrupted
+returns-in-Interrupted c = wait_still
 
-pub returns-in-WouldBlock-clause-wait : goal.returns-in-WouldBlock-clause-wait
-returns-in-WouldBlock-clause-wait c = all_same c.end_well.ensures.clients
+pub returns-in-WouldBlock : goal.returns-in-WouldBlock
+returns-in-WouldBlock c = leaves c.end_well.ensures

@@ -3,7 +3,7 @@ use Rattle.std.proofs.Common.{◌≡◌, ◌∙◌, ap, refl, Bool, true, false,
 use Rattle.history_model.specs.Items.{Loaded}
 use Rattle.history_model.specs.Facts.{facts_of}
 use Rattle.history_model.specs.Definitions.{definition}
-use Rattle.job_core.specs.Sights.{unseen}
+use Rattle.job_core.specs.Observations.{unseen}
 use Rattle.job_core.specs.JobFields.{facts}
 use Rattle.history_model.specs.declared.reasons.DemandKind.TheVariants as kinds
 use Rattle.pace.specs.Paces.{no_ends}

@@ -10,7 +10,7 @@ use Rattle.launcher.proofs.host.Host.handle.Goals as goal
 
 pub returns-clause-handled : goal.returns-clause-handled
 returns-clause-handled g c =
-    handled c.hear_answer-accepted.result c.args.self.now.table c.hear_answer-accepted.new.table _ _ _ _ _ _ c.args.pending c.label-label.result.now
+    handled c.receive_answer-accepted.result c.args.self.now.table c.receive_answer-accepted.new.table _ _ _ _ _ _ c.args.pending c.label-label.result.now
     (c.label-label.ensures ∙ ap (λ ns. label_of ns c.args.pending.job) c.last_step.ensures.names) c.lend_table.ensures.numbered c.last_step.ensures.numbered c.lend_text.ensures
-    c.hear_answer-accepted.ensures.happens c.hear_answer-accepted.ensures.rows
+    c.receive_answer-accepted.ensures.happens c.receive_answer-accepted.ensures.rows
     (subst (λ (job : Label). Grows c.args.self.now.journal c.note.new.self (event_line (journaled_answer job c.args.pending.answer))) c.new.ensures c.note.ensures)

@@ -7,4 +7,4 @@ pub returns-then-is_empty : goal.returns-then-is_empty
 returns-then-is_empty g c = nobody
 
 pub returns : goal.returns
-returns g c = gathers_append c.hear_all-is_busy.ensures c.hand_in_line-is_late.ensures
+returns g c = gathers_append c.receive_all-is_busy.ensures c.deliver_line-is_late.ensures

@@ -14,4 +14,4 @@ pub returns-in-Whole : goal.returns-in-Whole
 returns-in-Whole g c = gathers_same nobody (desk_same refl c.line_up.ensures)
 
 pub returns-in-Lost : goal.returns-in-Lost
-returns-in-Lost g c = gathers_asks (gathers_same (went nobody c.let_go.ensures.gone) (desk_same c.let_go.ensures.conn refl)) c.let_go.ensures.asks
+returns-in-Lost g c = gathers_asks (gathers_same (went nobody c.disconnect.ensures.gone) (desk_same c.disconnect.ensures.conn refl)) c.disconnect.ensures.asks

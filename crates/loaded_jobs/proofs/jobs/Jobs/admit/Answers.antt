@@ -20,14 +20,14 @@ returns-in-Some-clause-answer c = λ s bind store keeps.
 pub returns-then-len-ge-MAX_JOBS-clause-answer : goal.returns-then-len-ge-MAX_JOBS-clause-answer
 returns-then-len-ge-MAX_JOBS-clause-answer c = λ s bind store keeps.
     let none = sym (c.refusal_there.ensures.answer s keeps ∙ ap (λ l. refusal_there (past_of s l)) c.label.ensures) ∙ c.in_default.is in
-    let count = ap (λ n. nat_lt n MAX_JOBS) (count-jobs c.args.self.now s keeps c.requires.stay) ∙ not-below (length c.args.self.now.seats.items) MAX_JOBS (omega arith) in
+    let count = ap (λ n. nat_lt n MAX_JOBS) (count-jobs c.args.self.now s keeps c.requires.stay) ∙ not-below (length c.args.self.now.job_slots.items) MAX_JOBS (omega arith) in
     behind-there s (sym keeps.shutdown ∙ c.if-self.false) c.args.def.now.label (definition c.args.def.now) c.args.writes_setting c.args.force bind store false _ none count refl
 
 pub returns-then-is_held_back-clause-answer : goal.returns-then-is_held_back-clause-answer
 returns-then-is_held_back-clause-answer c = λ s bind store keeps.
     let d = c.args.def.now in
     let none = sym (c.refusal_there.ensures.answer s keeps ∙ ap (λ l. refusal_there (past_of s l)) c.label.ensures) ∙ c.in_default.is in
-    let count = ap (λ n. nat_lt n MAX_JOBS) (count-jobs c.args.self.now s keeps c.requires.stay) ∙ lt-ltb (length c.args.self.now.seats.items) MAX_JOBS (omega arith) in
+    let count = ap (λ n. nat_lt n MAX_JOBS) (count-jobs c.args.self.now s keeps c.requires.stay) ∙ lt-ltb (length c.args.self.now.job_slots.items) MAX_JOBS (omega arith) in
     let flag : is_disabled s d.label d.disabled ≡ c.is_disabled-disabled.result = sym (c.is_disabled-disabled.ensures
     ∙ (λ i. flag_in (first (filter (sets (c.label-2.ensures i)) c.args.self.now.settings.items)) (c.disabled.ensures i)) ∙ ap (λ o. flag_in o d.disabled) (keeps.settings d.label)) in
     behind-there s (sym keeps.shutdown ∙ c.if-self.false) d.label (definition d) c.args.writes_setting c.args.force bind store true c.is_disabled-disabled.result none count flag
@@ -37,7 +37,7 @@ pub returns-clause-answer : goal.returns-clause-answer
 returns-clause-answer c = λ s bind store keeps.
     let d = c.args.def.now in
     let none = sym (c.refusal_there.ensures.answer s keeps ∙ ap (λ l. refusal_there (past_of s l)) c.label.ensures) ∙ c.in_default.is in
-    let count = ap (λ n. nat_lt n MAX_JOBS) (count-jobs c.args.self.now s keeps c.requires.stay) ∙ lt-ltb (length c.args.self.now.seats.items) MAX_JOBS (omega arith) in
+    let count = ap (λ n. nat_lt n MAX_JOBS) (count-jobs c.args.self.now s keeps c.requires.stay) ∙ lt-ltb (length c.args.self.now.job_slots.items) MAX_JOBS (omega arith) in
     let flag : is_disabled s d.label d.disabled ≡ c.is_disabled-disabled.result = sym (c.is_disabled-disabled.ensures
     ∙ (λ i. flag_in (first (filter (sets (c.label-2.ensures i)) c.args.self.now.settings.items)) (c.disabled.ensures i)) ∙ ap (λ o. flag_in o d.disabled) (keeps.settings d.label)) in
     behind-there s (sym keeps.shutdown ∙ c.if-self.false) d.label (definition d) c.args.writes_setting c.args.force bind store true c.is_disabled-disabled.result none count flag

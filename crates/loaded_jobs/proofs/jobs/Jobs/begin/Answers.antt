@@ -1,7 +1,7 @@
 -- Dropping the jobs that left changes no row.
 use Rattle.std.proofs.Common.{ap, subst, sym, ◌∙◌, map}
 use Rattle.std.specs.List.{filter}
-use Rattle.loaded_jobs.specs.Seats.{name, rows, AllStay, seat_stays}
+use Rattle.loaded_jobs.specs.JobSlots.{name, rows, AllStay, job_slot_stays}
 use Rattle.loaded_jobs.proofs.NumbersLemmas.{names-begun}
 use Rattle.loaded_jobs.proofs.TidyLemmas.{tidy-rows, tidy-stay}
 use Rattle.loaded_jobs.proofs.LeavingLemmas.{gone-sound, emptied-sound}
@@ -17,14 +17,14 @@ returns c = record {
     whole = record {
       sound = gone-sound c.drop_left.new.self Nobody c.drop_left.ensures.sound;
       indexed = c.drop_left.ensures.indexed;
-      stay = subst AllStay (sym c.drop_left.ensures.seats) (tidy-stay c.args.self.now.seats.items);
+      stay = subst AllStay (sym c.drop_left.ensures.job_slots) (tidy-stay c.args.self.now.job_slots.items);
     };
-    stay = subst AllStay (sym c.drop_left.ensures.seats) (tidy-stay c.args.self.now.seats.items);
+    stay = subst AllStay (sym c.drop_left.ensures.job_slots) (tidy-stay c.args.self.now.job_slots.items);
     empty = ap (λ orders. orders.items) c.drop_left.ensures.orders ∙ c.clear.ensures.items;
   };
-  rows = ap rows c.drop_left.ensures.seats ∙ tidy-rows c.args.self.now.seats.items;
-  names = ap (map name) c.drop_left.ensures.seats
-      ∙ names-begun (filter seat_stays c.args.self.now.seats.items) c.args.self.now.seats.items (tidy-stay c.args.self.now.seats.items) (tidy-rows c.args.self.now.seats.items);
+  rows = ap rows c.drop_left.ensures.job_slots ∙ tidy-rows c.args.self.now.job_slots.items;
+  names = ap (map name) c.drop_left.ensures.job_slots
+      ∙ names-begun (filter job_slot_stays c.args.self.now.job_slots.items) c.args.self.now.job_slots.items (tidy-stay c.args.self.now.job_slots.items) (tidy-rows c.args.self.now.job_slots.items);
   alike = let alike = c.drop_left.ensures.alike in record { reading = alike.reading; zone = alike.zone; settings = alike.settings; shutdown = alike.shutdown };
   room = let room = c.drop_left.ensures.room in record {
     jobs = room.jobs;

@@ -1,4 +1,4 @@
--- The setting stands before the others, and the job of an unload heard it.
+-- The setting comes before the others, and the job of an unload heard it.
 use Rattle.std.proofs.Common.{◌≡◌, Bool, true, false, refl, ap, sym, subst, ◌∙◌, [], ◌∷◌, None}
 use Rattle.std.specs.List.{filter, flat_map}
 use Rattle.history_model.specs.declared.Refusal.TheVariants.{BadRequest}
@@ -21,8 +21,8 @@ use Rattle.loaded_jobs.proofs.jobs.Jobs.change.Goals as goal
 unstored : (s : State) (label : Label) (store : Bool) → refusal_in s (UnloadJob label true store) ≡ None → refusal_in s (UnloadJob label false true) ≡ None
 unstored s label store none =
     let named = refused-None _ _ _ none in
-    let heard = or_else-None _ _ named.1 in
-    (λ i. refused_if (named.0 i) BadRequest (or_else (heard.0 i) (refusal_stored false true)))
+    let received = or_else-None _ _ named.1 in
+    (λ i. refused_if (named.0 i) BadRequest (or_else (received.0 i) (refusal_stored false true)))
 
 accepts-unload : (s : State) (label : Label) (disabled b store : Bool) → refusal_in s (set_of label disabled b store) ≡ None → b ≡ true → refusal_in s (UnloadJob label false true) ≡ None
 accepts-unload s label disabled true store none is = unstored s label store none

@@ -10,52 +10,52 @@ use Rattle.loaded_jobs.specs.Loads.{refused_with}
 use Rattle.loaded_jobs.specs.Sound.{AreFree}
 use Rattle.loaded_jobs.specs.Index.{IsNamed}
 use Rattle.loaded_jobs.specs.Minutes.{some_calendar}
-use Rattle.loaded_jobs.specs.declared.seat.Seat.{Seat}
+use Rattle.loaded_jobs.specs.declared.job_slot.JobSlot.{JobSlot}
 use Rattle.loaded_jobs.proofs.EventsLemmas.{silent}
-use Rattle.loaded_jobs.proofs.PlacesLemmas.{IsHanded, answers, heard-kept, handed}
+use Rattle.loaded_jobs.proofs.PlacesLemmas.{IsHanded, answers, received-kept, handed}
 use Rattle.loaded_jobs.proofs.CountsLemmas.{counts-set}
 use Rattle.loaded_jobs.proofs.HeldNumbersLemmas.{held-names}
 use Rattle.loaded_jobs.proofs.TellingLemmas.{refusal-reply}
 use Rattle.loaded_jobs.proofs.TouchedLemmas.{changed-at, handed-at}
 use Rattle.loaded_jobs.proofs.jobs.Jobs.hand_at.Goals as goal
 
-abbrev after : goal.After-self-1 → Seat
-after c = let e = c.index_mut-seat.result.now in record { number = e.number; def = e.def; core = c.event.new.self; has_gone = e.has_gone }
+abbrev after : goal.After-self-1 → JobSlot
+after c = let e = c.index_mut-job_slot.result.now in record { number = e.number; def = e.def; core = c.event.new.self; has_gone = e.has_gone }
 
-seat-handed : (c : goal.After-self-1) → IsHanded c.args.self.now.seats.items c.args.place c.index_mut-seat.result.now (after c)
-seat-handed c = handed c.args.self.now.seats.items c.args.place c.index_mut-seat.result.now (after c) c.requires.stay c.requires.inside c.index_mut-seat.ensures.value refl refl
+job_slot-handed : (c : goal.After-self-1) → IsHanded c.args.self.now.job_slots.items c.args.place c.index_mut-job_slot.result.now (after c)
+job_slot-handed c = handed c.args.self.now.job_slots.items c.args.place c.index_mut-job_slot.result.now (after c) c.requires.stay c.requires.inside c.index_mut-job_slot.ensures.value refl refl
 
 pub returns-clause-answer : goal.returns-clause-answer
 returns-clause-answer c = λ label jobs at keeps.
-    ap refused_with (answers c.args.self.now.reading label (item_of c.args.item) c.args.self.now.seats.items c.args.place c.index_mut-seat.result.now jobs c.event.result
-    c.requires.stay at c.index_mut-seat.ensures.value c.event.ensures.refused keeps)
+    ap refused_with (answers c.args.self.now.reading label (item_of c.args.item) c.args.self.now.job_slots.items c.args.place c.index_mut-job_slot.result.now jobs c.event.result
+    c.requires.stay at c.index_mut-job_slot.ensures.value c.event.ensures.refused keeps)
     ∙ refusal-reply _
 
 pub returns-clause-place : goal.returns-clause-place
-returns-clause-place c = λ label at. handed-at label c.args.self.now.seats.items c.args.place c.index_mut-seat.result.now (after c) at c.index_mut-seat.ensures.value refl
+returns-clause-place c = λ label at. handed-at label c.args.self.now.job_slots.items c.args.place c.index_mut-job_slot.result.now (after c) at c.index_mut-job_slot.ensures.value refl
 
 pub returns-clause-others : goal.returns-clause-others
-returns-clause-others c = changed-at c.args.self.now.seats.items c.args.place (after c) c.requires.inside
+returns-clause-others c = changed-at c.args.self.now.job_slots.items c.args.place (after c) c.requires.inside
 
 pub returns-clause-kept : goal.returns-clause-kept
 returns-clause-kept c = λ label jobs at keeps.
-    heard-kept c.args.self.now.reading label (item_of c.args.item) c.args.self.now.seats.items c.args.place c.index_mut-seat.result.now (after c) jobs c.event.result
-    c.requires.stay at c.index_mut-seat.ensures.value refl refl (silent c.args.item) c.event.ensures.kept keeps
+    received-kept c.args.self.now.reading label (item_of c.args.item) c.args.self.now.job_slots.items c.args.place c.index_mut-job_slot.result.now (after c) jobs c.event.result
+    c.requires.stay at c.index_mut-job_slot.ensures.value refl refl (silent c.args.item) c.event.ensures.kept keeps
 
 pub returns-clause-stay : goal.returns-clause-stay
-returns-clause-stay c = (seat-handed c).stay
+returns-clause-stay c = (job_slot-handed c).stay
 
 pub returns-clause-names : goal.returns-clause-names
-returns-clause-names c = (seat-handed c).names
+returns-clause-names c = (job_slot-handed c).names
 
 pub returns-clause-counts : goal.returns-clause-counts
 returns-clause-counts c =
-    counts-set c.args.self.now.seats.items c.args.place c.index_mut-seat.result.now (after c) c.requires.stay (seat-handed c).stay c.requires.inside
-    c.index_mut-seat.ensures.value refl c.event.ensures.decided
+    counts-set c.args.self.now.job_slots.items c.args.place c.index_mut-job_slot.result.now (after c) c.requires.stay (job_slot-handed c).stay c.requires.inside
+    c.index_mut-job_slot.ensures.value refl c.event.ensures.decided
 
 pub returns-clause-sound : goal.returns-clause-sound
 returns-clause-sound c =
-    let is = seat-handed c in
+    let is = job_slot-handed c in
     record {
       in_range = c.requires.sound.in_range;
       wall = c.requires.sound.wall;

@@ -2,7 +2,7 @@
 use Rattle.std.proofs.Common.{refl, sym, subst}
 use Rattle.history_model.specs.Machine.{ListJobs}
 use Rattle.loaded_jobs.specs.StandsFor.{KeepsJobs}
-use Rattle.loaded_jobs.specs.Seats.{rows}
+use Rattle.loaded_jobs.specs.JobSlots.{rows}
 use Rattle.loaded_jobs.specs.Sound.{seen_table}
 use Rattle.loaded_jobs.proofs.RestLemmas.{rests-text}
 use Rattle.loaded_jobs.proofs.jobs.Jobs.list.Goals as goal

@@ -5,7 +5,7 @@ use Rattle.history_model.specs.declared.Refusal.{Refusal}
 use Rattle.history_model.specs.Items.{Loaded}
 use Rattle.history_model.specs.FactsOfPast.{Keeps}
 use Rattle.history_model.specs.Definitions.{definition}
-use Rattle.loaded_jobs.specs.Seats.{name, rows}
+use Rattle.loaded_jobs.specs.JobSlots.{name, rows}
 use Rattle.loaded_jobs.specs.Loads.{IsAbsent, IsReady, IsMade, enabled_if}
 use Rattle.loaded_jobs.specs.Sound.{seen_table}
 use Rattle.loaded_jobs.specs.Triggers.{triggers_of}
@@ -30,17 +30,17 @@ returns-clause-ready c = go c.made.result c.made.ensures.made c.made.ensures.tri
         IfOk r (IsReady (seen_table c.reserve.new.self))
     go (Err e) made own = tt
     go (Ok ready) made own =
-        let es = c.begin.new.self.seats.items in
+        let es = c.begin.new.self.job_slots.items in
         record {
-          tidy = subst (λ all. length (rows all) ≡ length (map name all)) (sym c.reserve.ensures.seats) (names-stay es c.begin.ensures.begun.stay);
+          tidy = subst (λ all. length (rows all) ≡ length (map name all)) (sym c.reserve.ensures.job_slots) (names-stay es c.begin.ensures.begun.stay);
           empty = c.reserve.ensures.orders ∙ c.begin.ensures.begun.empty;
           number = made.number;
           numbers = c.in_ok-reserve.ensures.numbers;
           few = let few = c.in_default.ensures.few in let count = c.reserve.ensures.count in omega (arith, few, count);
           places = c.in_ok-reserve.ensures.places;
           orders = c.in_ok-reserve.ensures.room;
-          absent = subst (λ l. IsAbsent l (map name c.reserve.new.self.seats.items)) (sym (ap (λ d. d.label) made.same)) (subst (λ all. IsAbsent c.args.def.label (map name all)) (sym c.reserve.ensures.seats) c.in_default.ensures.absent);
-          loaded = subst (λ d. Keeps ready.seat.core.facts (Loaded (definition d) c.reserve.new.self.reading ∷ [])) (sym made.same) made.loaded;
+          absent = subst (λ l. IsAbsent l (map name c.reserve.new.self.job_slots.items)) (sym (ap (λ d. d.label) made.same)) (subst (λ all. IsAbsent c.args.def.label (map name all)) (sym c.reserve.ensures.job_slots) c.in_default.ensures.absent);
+          loaded = subst (λ d. Keeps ready.job_slot.core.facts (Loaded (definition d) c.reserve.new.self.reading ∷ [])) (sym made.same) made.loaded;
           stays = made.stays;
           fresh = made.fresh;
           room = c.in_ok-reserve.ensures.setting;

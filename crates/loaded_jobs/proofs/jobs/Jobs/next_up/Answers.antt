@@ -10,11 +10,11 @@ pub returns-in_err-_job : goal.returns-in_err-_job
 returns-in_err-_job c = λ s keeps.
     let t = c.args.self.now in
     subst (IsNextUp s.jobs) (sym c.from_residual.ensures)
-    (none-up s.reading t.index.timers t.seats.items s.jobs (subst (λ r. AreTimed t.index.timers r.up t.seats.items) keeps.reading c.requires.indexed.timed)
+    (none-up s.reading t.index.timers t.job_slots.items s.jobs (subst (λ r. AreTimed t.index.timers r.up t.job_slots.items) keeps.reading c.requires.indexed.timed)
     (subst (IsLeast t.index.timers) c.in_err-_job.was c.least.ensures) keeps.jobs)
 
 pub returns : goal.returns
 returns c = λ s keeps.
     let t = c.args.self.now in
-    least-up s.reading t.index.timers t.seats.items s.jobs c.in_ok-_job._job c.in_ok-_job.moment (subst (λ r. AreTimed t.index.timers r.up t.seats.items) keeps.reading c.requires.indexed.timed)
+    least-up s.reading t.index.timers t.job_slots.items s.jobs c.in_ok-_job._job c.in_ok-_job.moment (subst (λ r. AreTimed t.index.timers r.up t.job_slots.items) keeps.reading c.requires.indexed.timed)
     c.requires.indexed.alone (subst (IsLeast t.index.timers) c.in_ok-_job.was c.least.ensures) keeps.jobs

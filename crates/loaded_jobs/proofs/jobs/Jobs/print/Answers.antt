@@ -19,7 +19,7 @@ returns-in-Ok-clause-text c = λ s keeps.
     let there = c.in-Some.ensures s keeps in
     let row = c.shown.ensures there.past there.keeps in
     let flag : c.is_disabled-disabled.result ≡ is_disabled s label (definition_of there.past).disabled = c.is_disabled-disabled.ensures
-    ∙ (λ i. flag_in (first (filter (sets label) c.args.self.now.settings.items)) (c.disabled.ensures i)) ∙ ap (λ o. flag_in o c.in-Some.seat.now.def.disabled) (keeps.settings label)
+    ∙ (λ i. flag_in (first (filter (sets label) c.args.self.now.settings.items)) (c.disabled.ensures i)) ∙ ap (λ o. flag_in o c.in-Some.job_slot.now.def.disabled) (keeps.settings label)
     ∙ ap (λ d. flag_in (first (filter (sets label) s.settings)) d.disabled) there.described in (
       (λ i. refused_if (not ((sym c.is_label.ensures ∙ c.if-not-is_label.false) i)) BadRequest (refusal_absent (there.is i))),
       c.in-Ok.ensures ∙ (λ i. print_text label (row i) (flag i)) ∙ ap (printed s label) (sym there.is),

@@ -9,12 +9,12 @@ use Rattle.history_model.specs.Machine.{State, Job, ShutDown}
 use Rattle.history_model.specs.Step.{taken}
 use Rattle.loaded_jobs.specs.StandsFor.{KeepsState}
 use Rattle.loaded_jobs.specs.Counts.{counts, IsCounted}
-use Rattle.loaded_jobs.specs.Seats.{rows, gone}
+use Rattle.loaded_jobs.specs.JobSlots.{rows, gone}
 use Rattle.loaded_jobs.specs.TableOutcomes.{plain_outcome}
 use Rattle.loaded_jobs.specs.Sound.{seen_table}
-use Rattle.loaded_jobs.specs.Touch.{reaches}
-use Rattle.loaded_jobs.specs.declared.seat.Touch.TheVariants as touch
-use Rattle.loaded_jobs.proofs.HearingLemmas.{shutdown-brings}
+use Rattle.loaded_jobs.specs.AffectedJobs.{reaches}
+use Rattle.loaded_jobs.specs.declared.job_slot.AffectedJobs.TheVariants as affected
+use Rattle.loaded_jobs.proofs.ReceivingLemmas.{shutdown-brings}
 use Rattle.loaded_jobs.specs.declared.jobs.Jobs.{Jobs}
 use Rattle.loaded_jobs.proofs.OutcomesLemmas.{IsDone, accepted}
 use Rattle.loaded_jobs.proofs.EventsLemmas.{alike-state, own-jobs, head, with_orders-so, shutdowns}
@@ -44,8 +44,8 @@ done c s keeps =
     let start = alike-state c.args.self.now begun s c.begin.ensures.alike keeps c.begin.ensures.rows in
     let jobs = own-jobs begun s start in
     let item : Job → Option Item = λ job. Some (Asked Shutdown) in
-    let for = shutdowns (rows begun.seats.items) s.jobs in
-    let rests = rest-each (reaches touch.Shutdown) 0 (rows begun.seats.items) s.jobs keeps.rests in
+    let for = shutdowns (rows begun.job_slots.items) s.jobs in
+    let rests = rest-each (reaches affected.Shutdown) 0 (rows begun.job_slots.items) s.jobs keeps.rests in
     let same = head c.args.self.now begun s c.begin.ensures.alike keeps in
     let alike = c.ask_touched.ensures.alike in
     accepted (seen_table c.args.self.now) (seen_table (going-as c)) s ShutDown [] c.requires.sound.in_range keeps (ap (λ b. refused_if b ShuttingDown None) (sym keeps.shutdown ∙ c.if-self.false))
@@ -59,7 +59,7 @@ pub returns-clause-goes : goal.returns-clause-goes
 returns-clause-goes c = record {
   answer = λ s keeps. (done c s keeps).outcome;
   kept = λ s keeps. (done c s keeps).kept;
-  counted = subst (λ rs. IsCounted (counts rs) (rows c.ask_touched.new.self.seats.items) (gone c.ask_touched.new.self.seats.items) c.ask_touched.new.self.visited) c.begin.ensures.rows c.ask_touched.ensures.counted;
+  counted = subst (λ rs. IsCounted (counts rs) (rows c.ask_touched.new.self.job_slots.items) (gone c.ask_touched.new.self.job_slots.items) c.ask_touched.new.self.visited) c.begin.ensures.rows c.ask_touched.ensures.counted;
   spared = λ s keeps label past found apart. cc;
   names = c.ask_touched.ensures.names ∙ c.begin.ensures.names;
   room = record {

@@ -17,14 +17,14 @@ use Rattle.loaded_jobs.proofs.jobs.Jobs.tell.Goals as goal
 pub ask_at-requires-clause-can : goal.ask_at-requires-clause-can
 ask_at-requires-clause-can c =
     let old = c.args.self.now in
-    let heard = c.hand_at.new.self in
+    let received = c.hand_at.new.self in
     record {
       sound = c.hand_at.ensures.sound;
       stay = c.hand_at.ensures.stay;
       empty = ap (λ orders. orders.items) c.hand_at.ensures.orders ∙ c.requires.begun.empty;
-      placed = placed-names heard.index.places.items old.seats.items heard.seats.items c.hand_at.ensures.names
-          (subst (λ i. ArePlaced i.places.items old.seats.items) (sym c.hand_at.ensures.index) c.requires.begun.whole.indexed.placed);
-      timed = timed-but old heard c.in-Some.place c.hand_at.ensures.others c.requires.begun.whole.indexed c.hand_at.ensures.index c.hand_at.ensures.alike.reading;
+      placed = placed-names received.index.places.items old.job_slots.items received.job_slots.items c.hand_at.ensures.names
+          (subst (λ i. ArePlaced i.places.items old.job_slots.items) (sym c.hand_at.ensures.index) c.requires.begun.whole.indexed.placed);
+      timed = timed-but old received c.in-Some.place c.hand_at.ensures.others c.requires.begun.whole.indexed c.hand_at.ensures.index c.hand_at.ensures.alike.reading;
     }
 
 pub ask_at-requires-clause-inside : goal.ask_at-requires-clause-inside
@@ -34,7 +34,7 @@ pub returns-in_default-clause-told : goal.returns-in_default-clause-told
 returns-in_default-clause-told c = λ label at.
     let old = c.args.self.now in record {
       answer = λ s keeps. ap (λ found. refusal_at found (item_of c.args.item))
-          (sym (is-absent old.reading label old.seats.items s.jobs c.requires.begun.stay (own-jobs old s keeps) (sym c.in_default.is ∙ at)));
+          (sym (is-absent old.reading label old.job_slots.items s.jobs c.requires.begun.stay (own-jobs old s keeps) (sym c.in_default.is ∙ at)));
       asked = tt;
       same = refl;
       spared = λ other differ. refl;
@@ -60,7 +60,7 @@ returns-in_err-hand_at-clause-whole c =
 pub returns-clause-told : goal.returns-clause-told
 returns-clause-told c = λ label at.
     let old = c.args.self.now in
-    let heard = c.hand_at.new.self in
+    let received = c.hand_at.new.self in
     let new = c.ask_at.new.self in
     let place = c.in-Some.place in
     let item = item_of c.args.item in
@@ -68,14 +68,14 @@ returns-clause-told c = λ label at.
     record {
       answer = λ s keeps. c.in_ok-hand_at.ensures.answer label s.jobs there (own-jobs old s keeps);
       asked = λ s keeps.
-          let same = head old heard s c.hand_at.ensures.alike keeps in
-          handed-on old heard new s (record s { jobs = _ }) label item place keeps c.requires.begun.stay c.hand_at.ensures.alike c.ask_at.ensures.alike
+          let same = head old received s c.hand_at.ensures.alike keeps in
+          handed-on old received new s (record s { jobs = _ }) label item place keeps c.requires.begun.stay c.hand_at.ensures.alike c.ask_at.ensures.alike
           (record { reading = same.reading; zone = same.zone; settings = same.settings; shutdown = same.shutdown }) refl (c.hand_at.ensures.place label there)
           (λ jobs held. c.in_ok-hand_at.ensures.kept label jobs there held) c.ask_at.ensures.kept c.ask_at.ensures.orders;
       same = tt;
-      spared = others-spared old heard new label place (c.hand_at.ensures.place label there) c.ask_at.ensures.spared c.hand_at.ensures.counts;
+      spared = others-spared old received new label place (c.hand_at.ensures.place label there) c.ask_at.ensures.spared c.hand_at.ensures.counts;
     }
 
 pub returns-clause-names : goal.returns-clause-names
 returns-clause-names c =
-    let es = c.args.self.now.seats.items in c.ask_at.ensures.names ∙ c.hand_at.ensures.names ∙ names-begun es es c.requires.begun.stay refl
+    let es = c.args.self.now.job_slots.items in c.ask_at.ensures.names ∙ c.hand_at.ensures.names ∙ names-begun es es c.requires.begun.stay refl

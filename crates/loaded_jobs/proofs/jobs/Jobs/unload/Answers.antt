@@ -8,7 +8,7 @@ use Rattle.history_model.specs.Machine.{State, UnloadJob}
 use Rattle.history_model.specs.Labels.{is_label}
 use Rattle.loaded_jobs.specs.StandsFor.{KeepsState}
 use Rattle.loaded_jobs.specs.Counts.{counts, count_in}
-use Rattle.loaded_jobs.specs.Seats.{has_label}
+use Rattle.loaded_jobs.specs.JobSlots.{has_label}
 use Rattle.loaded_jobs.specs.TableOutcomes.{plain_outcome}
 use Rattle.loaded_jobs.specs.Sound.{seen_table}
 use Rattle.loaded_jobs.specs.Telling.{IsTold}
@@ -29,7 +29,7 @@ done c store s keeps =
 
 pub tell-requires-clause-inside : goal.tell-requires-clause-inside
 tell-requires-clause-inside c =
-    place-inside (has_label c.args.label.now) c.begin.new.self.seats.items c.place_of-found.result (c.place_of-found.ensures ∙ ap (position (has_label c.args.label.now)) c.deref.ensures.value)
+    place-inside (has_label c.args.label.now) c.begin.new.self.job_slots.items c.place_of-found.result (c.place_of-found.ensures ∙ ap (position (has_label c.args.label.now)) c.deref.ensures.value)
 
 pub returns-clause-goes : goal.returns-clause-goes
 returns-clause-goes c = record {

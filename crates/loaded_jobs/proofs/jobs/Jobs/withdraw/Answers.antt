@@ -5,7 +5,7 @@ use Rattle.loaded_jobs.specs.StandsFor.{KeepsState}
 use Rattle.loaded_jobs.specs.SettingChanges.{withdrawn}
 use Rattle.loaded_jobs.specs.Counts.{counts, count_in, IsCounted}
 use Rattle.loaded_jobs.specs.Numbers.{row_names}
-use Rattle.loaded_jobs.specs.Seats.{rows, gone}
+use Rattle.loaded_jobs.specs.JobSlots.{rows, gone}
 use Rattle.loaded_jobs.specs.Sound.{seen_table}
 use Rattle.loaded_jobs.proofs.ChangesLemmas.{IsWithdrawn, none-withdrawn, one-withdrawn, never-refused, counted-ok, names-ok, rows-err, apart-unload}
 use Rattle.loaded_jobs.proofs.TellingLemmas.{same-room}
@@ -59,13 +59,13 @@ returns-then-is_ok-clause-spared c = λ disabled store s keeps label past found 
 pub returns-then-is_ok-clause-room : goal.returns-then-is_ok-clause-room
 returns-then-is_ok-clause-room c = c.unload.ensures.goes.room
 
-same : (c : goal.After-ask_none-2) → rows c.unload.new.self.seats.items ≡ rows c.args.self.now.seats.items
+same : (c : goal.After-ask_none-2) → rows c.unload.new.self.job_slots.items ≡ rows c.args.self.now.job_slots.items
 same c = rows-err (seen_table c.args.self.now) (seen_table c.unload.new.self) c.unload.result (sym c.is_ok.ensures.value ∙ c.if-is_ok.false) c.unload.ensures.goes.counted
 
 pub returns-clause-counted : goal.returns-clause-counted
 returns-clause-counted c =
     let after = c.ask_none-2.new.self in
-    subst (λ rs. IsCounted (counts rs) (rows after.seats.items) (gone after.seats.items) after.visited) (same c) c.ask_none-2.ensures.counted
+    subst (λ rs. IsCounted (counts rs) (rows after.job_slots.items) (gone after.job_slots.items) after.visited) (same c) c.ask_none-2.ensures.counted
 
 pub returns-clause-names : goal.returns-clause-names
 returns-clause-names c = c.ask_none-2.ensures.names ∙ ap row_names (same c)

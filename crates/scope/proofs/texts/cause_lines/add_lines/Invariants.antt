@@ -4,4 +4,4 @@ use Rattle.scope.specs.Fronts.{TellsEach}
 use Rattle.scope.proofs.texts.cause_lines.add_lines.Given as goal
 
 abbrev pub invariant-loop-cause : goal.invariant-loop-cause
-invariant-loop-cause l = TellsEach (take l.cause-index l.causes) l.fn.page.ink l.page.ink
+invariant-loop-cause l = TellsEach (take l.cause-index l.causes) l.fn.page.writer l.page.writer

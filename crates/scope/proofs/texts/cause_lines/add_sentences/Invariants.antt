@@ -3,4 +3,4 @@ use Rattle.run_times.specs.Written.{Grows}
 use Rattle.scope.proofs.texts.cause_lines.add_sentences.Given as goal
 
 abbrev pub invariant-loop-form : goal.invariant-loop-form
-invariant-loop-form l = Grows l.fn.page.ink l.page.ink
+invariant-loop-form l = Grows l.fn.page.writer l.page.writer

@@ -1,7 +1,0 @@
--- The invariants of the loop of `carrying::carry_all`.
-use Rattle.std.proofs.Common.{take}
-use Rattle.launcher.specs.HostTurns.{Carried}
-use Rattle.launcher.proofs.orders.carry_all.Given as goal
-
-abbrev pub invariant-loop-order : goal.invariant-loop-order
-invariant-loop-order g l = Carried (take l.order-index l.step.orders.now) l.fn.answers l.answers (g.E.Edge.told l.fn.edge) (g.E.Edge.told l.edge)

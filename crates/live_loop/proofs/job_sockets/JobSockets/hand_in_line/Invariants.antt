@@ -1,8 +1,0 @@
--- What became of clients so far.
-use Rattle.live_loop.specs.Kept.{desk_in}
-use Rattle.live_loop.specs.Rounds.{Gathers}
-use Rattle.live_loop.proofs.job_sockets.JobSockets.hand_in_line.Given as goal
-
-abbrev pub invariant-loop : goal.invariant-loop
-invariant-loop g l =
-    Gathers g.H.LoopHost.Asked g.H.LoopHost.Taken g.H.LoopHost.Came (desk_in l.fn.self) l.fn.host (desk_in l.self) l.host

@@ -1,0 +1,38 @@
+-- What the report on a job needs: the facts as of a clock reading, what was asked of it, and the next minute of its calendar.
+use Rattle.std.specs.Prelude.{◌≡◌, ◌≢◌, ◌+◌, ℕ, List, [], min, nat_lt, Option, Some, None, if◌then◌else◌}
+use Rattle.calendar_due.specs.Next.{IsFirstDue}
+use Rattle.history_model.specs.Calendar.{Zone}
+use Rattle.history_model.specs.declared.Entry.{Entry}
+use Rattle.history_model.specs.declared.Reading.{Reading}
+use Rattle.history_model.specs.declared.TheConstants.{MAX_WALL}
+use Rattle.status_file.specs.declared.facts.JobFacts.{JobFacts}
+use Rattle.status_page.specs.declared.clocks.TheConstants.{FARTHEST}
+use Rattle.scope.specs.Ages.{reasons_then}
+use Rattle.scope.specs.declared.journal.job.JobRequest.{JobRequest}
+use Rattle.scope.specs.declared.journal.job.JobRequest.TheVariants.{Shutdown}
+use Rattle.scope.specs.declared.journal.job.Record.{Record}
+use Rattle.scope.specs.declared.journal.past.Past.{Past}
+use Rattle.scope.specs.declared.texts.told.CalendarNext.{CalendarNext}
+use Rattle.scope.specs.declared.texts.told.CalendarNext.TheVariants.{Absent, Far, At}
+
+-- the facts as of this `up`: a throttle that is over then keeps the job from nothing
+abbrev pub facts_then : JobFacts → ℕ → JobFacts
+facts_then facts up = record facts { reasons = reasons_then facts.reasons up }
+
+-- what was asked last, of the job or of all: a shutdown, if it came after what was asked of the job
+abbrev pub later_asked : Option (ℕ × Reading) → Record → Option (JobRequest × Reading)
+later_asked None job = job.asked
+later_asked (Some shut) job = if nat_lt job.ask shut.0 then Some (Shutdown, shut.1) else job.asked
+
+abbrev pub asked_in : Past → Record → Option (JobRequest × Reading)
+asked_in past job = later_asked past.shut_down job
+
+-- the last second that is looked at: 400 days ahead, and no later than a clock may show
+abbrev pub last_looked_at : ℕ → ℕ
+last_looked_at after = min (after + FARTHEST) MAX_WALL
+
+-- The next minute that one of the entries matches after this second. Absent: there is no entry. Far: none of the next 400 days.
+abbrev pub IsCalendarNext : Zone → List Entry → ℕ → CalendarNext → Type 0
+IsCalendarNext zone entries after Absent = entries ≡ []
+IsCalendarNext zone entries after Far = (entries ≢ []) × IsFirstDue zone entries after (last_looked_at after) None
+IsCalendarNext zone entries after (At wall) = IsFirstDue zone entries after (last_looked_at after) (Some wall)
