@@ -19,6 +19,7 @@ This rests on what no page of the kit promises: see docs/KIT_LIMITS.md. Where th
 is left in build/quick. Nothing is written in the tree but build/quick.
 """
 import os
+import re
 import resource
 import shutil
 import subprocess
@@ -64,6 +65,10 @@ __attribute__((constructor)) static void say(int count, char **words) {
 """
 
 
+class OtherKit(SystemExit):
+    """rt does not do what the script rests on: with this kit nothing can be compiled so. It ends a script as SystemExit does, and has the reason."""
+
+
 class Clock:
     """Says every ten seconds what is being done, and at the end of each part what it took."""
 
@@ -86,7 +91,8 @@ class Clock:
             finally:
                 for one in ran:
                     if one.poll() is None:
-                        one.kill()
+                        # so that rt ends what it started, too
+                        one.terminate()
                     one.wait()
             said.seek(0)
             text = said.read()
@@ -135,26 +141,30 @@ def lay_out(kit, folder, module):
                 os.symlink(f"{kit}/{below}{name}", f"{folder}/{below}{name}")
 
 
-def module_of(clock, kit, clang, room, program):
-    """The program's module as text, with all that a try looks at, as the path of a file."""
+def module_of(clock, kit, clang, room, program, top):
+    """The program's module as text, with all that a try looks at, as the path of a file. A source that does not compile ends the script."""
     module, text = f"{room}/module.bc", f"{room}/module.ll"
     lay_out(kit, f"{room}/kit", module)
     said = clock.run("the sources are read and compiled to one module", [f"{room}/kit/bin/rt", "try"], may_fail=True,
-                     cwd=f"{TOP}/crates/{program}", env={**os.environ, "TMPDIR": room})
+                     cwd=f"{top}/crates/{program}", env={**os.environ, "TMPDIR": room})
     if not os.path.isfile(module):
-        sys.exit(f"{said[-4000:]}quick: rt try made no module")
+        why = f"{said[-4000:]}quick: rt try made no module"
+        raise SystemExit(why) if re.search(r": error\[", said) else OtherKit(why)
     clock.run("the module is written as text", [*clang, "-S", "-emit-llvm", "-Xclang", "-disable-llvm-passes", "-O2", "-x", "ir", module, "-o", text])
     return text
 
 
-def halves_of(clock, kit, text, room, is_checked):
+def halves_of(clock, kit, text, room, is_checked, top):
     """The module's text, loosened and in two, as the paths of files."""
     clock.say("what a try looks at is taken out, and the module is cut in two")
     before = used()
     libraries = {it: f"{kit}/rattle/{it}/src" for it in os.listdir(f"{kit}/rattle") if os.path.isdir(f"{kit}/rattle/{it}/src")}
-    own = {it: f"{TOP}/crates/{it}/src" for it in os.listdir(f"{TOP}/crates")}
-    with open(text, "rb") as it:
-        loose = quick_module.loosened(it.read(), quick_module.hints_of({**libraries, **own}), own, is_checked)
+    own = {it: f"{top}/crates/{it}/src" for it in os.listdir(f"{top}/crates")}
+    try:
+        with open(text, "rb") as it:
+            loose = quick_module.loosened(it.read(), quick_module.hints_of({**libraries, **own}), own, is_checked)
+    except quick_module.OtherForm as why:
+        raise OtherKit(str(why)) from why
     paths = [f"{room}/rest.ll", f"{room}/store.ll"]
     for path, half in zip(paths, quick_module.in_two(loose)):
         with open(path, "wb") as out:
@@ -163,14 +173,14 @@ def halves_of(clock, kit, text, room, is_checked):
     return paths
 
 
-def build(clock, program, path, is_checked):
-    """Makes the program of this crate at the path."""
+def build(clock, program, path, is_checked, top=TOP, level="-O2"):
+    """Makes the program of this crate of the tree at `top`, at the path. `level` is clang's, and decides how quick the program is."""
     kit = kit_folder()
     clang = [f"{kit}/toolchain/bin/clang", f"--target={TARGET}", "--no-default-config"]
     with tempfile.TemporaryDirectory(prefix="quick-") as room:
-        halves = halves_of(clock, kit, module_of(clock, kit, clang, room, program), room, is_checked)
+        halves = halves_of(clock, kit, module_of(clock, kit, clang, room, program, top), room, is_checked, top)
         compiled = [f"{path}.o" for path in halves]
-        clock.run("clang compiles both halves", *([*clang, "-O2", *FLAGS, "-fPIE", "-c", "-x", "ir", *it] for it in zip(halves, ["-o"] * 2, compiled)))
+        clock.run("clang compiles both halves", *([*clang, level, *FLAGS, "-fPIE", "-c", "-x", "ir", *it] for it in zip(halves, ["-o"] * 2, compiled)))
         put(f"{room}/said.c", SAID)
         clock.run("the line that says that it is not proved", [*clang, "-O1", "-ffreestanding", "-fPIE", "-c", f"{room}/said.c", "-o", f"{room}/said.o"])
         os.makedirs(os.path.dirname(path), exist_ok=True)
