@@ -227,7 +227,7 @@ def settings(jobd, jobctl):
 def sleepers(launcher, count):
     for number in range(count):
         launcher.define(f"job{number:04d}", ProgramArguments=["/bin/sleep", "100000"], RunAtLoad=True, ThrottleInterval=0)
-    live.hand_in(launcher, "load")
+    live.deliver(launcher, "load")
     launcher.await_children(count)
 
 

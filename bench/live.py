@@ -207,7 +207,7 @@ def requests(launcher, request):
     return took
 
 
-def hand_in(launcher, word):
+def deliver(launcher, word):
     """The milliseconds until `jobctl load` or `unload` of the launcher's folder has ended."""
     begun = now()
     ran = launcher.ask(word, launcher.path("jobs"))
@@ -220,7 +220,7 @@ def many(launcher):
     for number in range(JOBS):
         launcher.define(f"job{number:04d}", ProgramArguments=["/bin/sleep", "100000"], KeepAlive=True, ThrottleInterval=0)
     begun = now()
-    loaded = hand_in(launcher, "load")
+    loaded = deliver(launcher, "load")
     launcher.await_children(JOBS)
     yield Figure(f"{JOBS} jobs loaded and started", f"{now() - begun:.0f}", "ms", f" (jobctl ended after {loaded:.0f})")
     time.sleep(1)
@@ -239,20 +239,20 @@ def many(launcher):
 def loads(launcher):
     for number in range(JOBS):
         launcher.define(f"job{number:04d}", ProgramArguments=["/bin/true"])
-    took = hand_in(launcher, "load")
+    took = deliver(launcher, "load")
     what = f"{JOBS} loads of jobs that don't start"
     yield Figure(what, f"{took:.0f}", "ms", aim=f"at most {LOAD_AIM} ms", is_kept=took <= LOAD_AIM)
-    yield Figure("their unloads", f"{hand_in(launcher, 'unload'):.0f}", "ms")
+    yield Figure("their unloads", f"{deliver(launcher, 'unload'):.0f}", "ms")
     shutil.rmtree(launcher.path("jobs"))
     os.mkdir(launcher.path("jobs"))
     for number in range(FEW):
         launcher.define(f"job{number:04d}", ProgramArguments=["/bin/sleep", "100000"], RunAtLoad=True)
     begun = now()
-    hand_in(launcher, "load")
+    deliver(launcher, "load")
     launcher.await_children(FEW)
     yield Figure(f"{FEW} jobs loaded and started once", f"{now() - begun:.0f}", "ms")
     begun = now()
-    hand_in(launcher, "unload")
+    deliver(launcher, "unload")
     launcher.await_children(0)
     yield Figure(f"these {FEW} unloaded and ended", f"{now() - begun:.0f}", "ms")
     launcher.stop()
@@ -340,7 +340,7 @@ def written(launcher, request):
 def standing(launcher):
     for number in range(JOBS):
         launcher.define(f"job{number:04d}", ProgramArguments=["/bin/true"], WatchPaths=[launcher.path("watched")])
-    hand_in(launcher, "load")
+    deliver(launcher, "load")
     took = [written(launcher, {"req": "disable", "job": "job0000"}) for _ in range(10)]
     figure = spread(f"processor time of a round that writes the status file of {JOBS} jobs", took)
     figure.aim, figure.is_kept = f"at most {STANDING_AIM} ms", statistics.median(took) <= STANDING_AIM

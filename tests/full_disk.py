@@ -23,7 +23,7 @@ sys.dont_write_bytecode = True
 HERE = os.path.dirname(os.path.abspath(__file__))
 sys.path.insert(0, os.path.join(HERE, "scenes"))
 from harness import (  # noqa: E402
-    Fault, Stage, adopt_orphans, check, chosen, end_children, end_process, make, program_words, shell_job, text_at, wait_for,
+    Fault, Stage, adopt_orphans, check, chosen, end_children, make, program_words, shell_job, text_at, wait_for,
 )
 
 REFUSED, DISABLED = 9, 5
@@ -128,8 +128,7 @@ def then_two(stage):
         os.remove(disk.at("store-wal"))
         disk.fill()
         launcher = serves_shut(stage, disk)
-        end_process(launcher.pid)
-        launcher.ends()
+        launcher.kill()
         launcher = stage.serve(store="disk/store")
         check("it stays closed" not in launcher.said(), f"it said {launcher.said()!r}")
         launcher.load(shell_job("two", "exit 0"), DISABLED)

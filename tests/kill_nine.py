@@ -28,7 +28,7 @@ import types
 HERE = os.path.dirname(os.path.abspath(__file__))
 sys.dont_write_bytecode = True
 sys.path.insert(0, os.path.join(HERE, "scenes"))
-from harness import Fault, Stage, end_process  # noqa: E402
+from harness import Fault, Stage  # noqa: E402
 
 LABELS = [f"job.{n}" for n in range(8)] + ["s" * 255]
 
@@ -111,8 +111,7 @@ def main():
             sender = threading.Thread(target=set_until_killed, args=(jobctl, folder, rng, sent, acknowledged))
             sender.start()
             time.sleep(rng.random() * 0.06)
-            end_process(launcher.pid)
-            launcher.ends()
+            launcher.kill()
             launcher.process.stdout.close()
             sender.join()
             found = settings_of(jobd, folder)

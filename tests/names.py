@@ -3,8 +3,8 @@
 
     tests/names.py
 
-The documents are README.md, CHANGELOG.md, CONTRIBUTING.md, SECURITY.md, docs/ (but for the pages that a script types), the README.md of each crate
-and contrib/, and bench/RESULTS.md. What is looked for:
+The documents are README.md, CHANGELOG.md, CONTRIBUTING.md, SECURITY.md, docs/ (but for the pages that a script types), the README.md of each crate, of
+tests/simulator and of contrib/, and bench/RESULTS.md. What is looked for:
 
 - A word of small letters with an underscore, as no_order_remains, and in a code span a word in CamelCase, as `JobTable`, has to stand
   in a source, a definition, a proof, an edit, a script or a path, or below in OUTSIDE.
@@ -21,6 +21,7 @@ and contrib/, and bench/RESULTS.md. What is looked for:
   together, and pass all if it refuses one.
 - Where a comment names specs/NAME or proofs/NAME, its crate has to have that file.
 - A file that a drawing names, as outside/order.rt, has to be there, below src/ of that crate.
+- Each fault that tests/simulated.py plants can be planted: what an edit of tests/simulator_plants replaces is once in its file.
 - No row of a table in the pages that a reader begins with (SHORT) is longer than 200 characters.
 
 One line a fault; the status is 1 if there is one.
@@ -43,7 +44,7 @@ OUTSIDE = {"include_str", "node_exporter", "timestamp_seconds", "get_flag", "tcp
 # A word in CamelCase, a call with its clauses, and the ending of a file, in documents.
 CAMEL = re.compile(r"\b[A-Z][a-z0-9]+(?:[A-Z][a-z0-9]*)+\b")
 CLAUSES = re.compile(r"`(?:\w+::)*(\w+)`\s+\(((?:`\w+`(?:,?\s+(?:and\s+)?)?)+)\)")
-FILE = re.compile(r"(?<![\w*<>{/.-])((?:[\w-]+/)*[\w-]+\.(?:rt|antt|py|sh|md|mk|edit))\b")
+FILE = re.compile(r"(?<![\w*<>{/.-])((?:[\w-]+/)*[\w-]+\.(?:rt|rattle|antt|py|sh|md|mk|edit))\b")
 FUNCTION = re.compile(r"\bfn (\w+)")
 DEFINED = re.compile(r"\b(?:fn|mod|const|static|struct|enum|trait|type|macro_rules!) (\w+)")
 HANDED_ON = re.compile(r"(?m)^pub use ([^;]*);")
@@ -67,6 +68,10 @@ TYPED = {f"{TOP}/docs/{name}.md" for name in ("TUTORIAL", "COOKBOOK", "MOVING", 
 SHORT = {"docs/MAP.md", "docs/GLOSSARY.md", "docs/CHANGING.md", "docs/CHEAP_TO_PROVE.md"}
 LONGEST_ROW = 200
 
+# The one crate that is not in crates/, and the endings of sources: its own is another one, since `rt ci` proves each .rt file.
+SIMULATOR = "tests/simulator"
+SOURCES = (".rt", ".rattle")
+
 
 def files_below(*folders):
     for folder in folders:
@@ -80,11 +85,16 @@ def text_of(path):
         return it.read()
 
 
+def crate_of(path):
+    """The name of the folder of crates/, or of tests/, that has the file."""
+    return path[len(TOP) :].split("/")[2]
+
+
 def documents():
     tops = ("README.md", "CHANGELOG.md", "CONTRIBUTING.md", "SECURITY.md", "bench/RESULTS.md")
     yield from (f"{TOP}/{name}" for name in tops)
     yield from (it for it in files_below("docs") if it.endswith(".md") and it not in TYPED)
-    yield from (it for it in files_below("crates", "contrib") if os.path.basename(it) == "README.md")
+    yield from (it for it in files_below("crates", "contrib", SIMULATOR) if os.path.basename(it) == "README.md")
 
 
 def sources():
@@ -106,10 +116,10 @@ def wrong_bodies():
 def clauses_of():
     """The names of the clauses of each function, by crate and function; those of functions of one name are joined."""
     found = {}
-    for path in files_below("crates"):
-        if not path.endswith(".rt"):
+    for path in files_below("crates", SIMULATOR):
+        if not path.endswith(SOURCES):
             continue
-        crate, text = path[len(TOP) :].split("/")[2], text_of(path)
+        crate, text = crate_of(path), text_of(path)
         starts = [*FUNCTION.finditer(text)]
         for it, after in zip(starts, [*(one.start() for one in starts[1:]), len(text)]):
             names = set(CLAUSE.findall(text[it.end() : after]))
@@ -137,8 +147,8 @@ def one_spaced(text):
 def contracts_of():
     """Of each function each of its heads with the clauses behind it, white space as one blank: what stands before its body."""
     found = {}
-    for path in files_below("crates"):
-        if path.endswith(".rt"):
+    for path in files_below("crates", SIMULATOR):
+        if path.endswith(SOURCES):
             text = text_of(path)
             starts = [it.start() for it in FUNCTION.finditer(text)]
             for start, after in zip(starts, [*starts[1:], len(text)]):
@@ -167,9 +177,9 @@ def faults_in_blocks(path, text, contracts):
 def defined_in():
     """What each crate defines or hands on, and the crates that have a type of a name."""
     names, types = {}, {}
-    for path in files_below("crates"):
-        if path.endswith(".rt"):
-            crate, text = path[len(TOP) :].split("/")[2], text_of(path)
+    for path in files_below("crates", SIMULATOR):
+        if path.endswith(SOURCES):
+            crate, text = crate_of(path), text_of(path)
             handed_on = (name for uses in HANDED_ON.findall(text) for name in WORD.findall(uses))
             names.setdefault(crate, set()).update([*DEFINED.findall(text), *handed_on])
             for name in TYPE.findall(text):
@@ -181,7 +191,7 @@ def faults_in_calls(path, text, names, types):
     """A page names a call that its crate does not have."""
     short = os.path.relpath(path, TOP)
     parts = short.split("/")
-    own = {parts[1]} if parts[0] == "crates" else set(names)
+    own = {parts[1]} if parts[0] == "crates" or short.startswith(SIMULATOR) else set(names)
     for number, line in enumerate(text.splitlines(), 1):
         for name in CALL.findall(line):
             if name not in OUTSIDE and not any(name in names[crate] for crate in own if crate in names):
@@ -221,6 +231,18 @@ def faults_in_drawings(path, text, files):
             crate, _, rest = name.partition("/")
             if f"crates/{crate}/src/{rest}" not in files and not any(it.endswith(f"/{name}") for it in files):
                 yield f"{short}:{number}: there is no file {name}"
+
+
+def faults_in_plants():
+    """A plant replaces what its file does not have, or has more than once."""
+    for path in files_below("tests/simulator_plants"):
+        source = ""
+        for line in text_of(path).splitlines():
+            word, _, rest = line.partition(": ")
+            if word == "file":
+                source = text_of(f"{TOP}/{rest}") if os.path.exists(f"{TOP}/{rest}") else ""
+            elif word == "old" and source.count(rest) != 1:
+                yield f"{os.path.relpath(path, TOP)}: its file has this {source.count(rest)} times: {rest.strip()}"
 
 
 def faults_in_rows(path, text):
@@ -279,6 +301,7 @@ def main():
             faults.append(f"{path}: the gate tries {name} with other parts of this edit, and not alone")
     for path in documents():
         faults += [*faults_in_drawings(path, text_of(path), files), *faults_in_rows(path, text_of(path))]
+    faults += faults_in_plants()
     print("\n".join([*faults, f"{len(faults)} faults"]))
     return 1 if faults else 0
 

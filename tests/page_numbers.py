@@ -68,7 +68,7 @@ LETTERS = [
     ("half a second", "crates/look_out/src/spare.rt", r"PATIENCE: u64 = ([\d_]+)", "500"),
     ("one second, refilled at half speed", "crates/look_out/src/spare.rt", r"SPARE: u64 = ([\d_]+)", "1000"),
     ("Eight", "crates/child_edge/src/reserve.rt", r"MOST: usize = ([\d_]+)", "8"),
-    ("once a second", "crates/control_socket/src/control.rt", r"BETWEEN_LOOKS: u64 = ([\d_]+)", "1000"),
+    ("once a second", "crates/control_socket/src/accepting.rt", r"BETWEEN_LOOKS: u64 = ([\d_]+)", "1000"),
 ]
 NUMERALS = "No One Two Three Four Five Six Seven Eight Nine Ten Eleven Twelve Thirteen Fourteen Fifteen Sixteen Seventeen Eighteen Nineteen Twenty".split()
 

@@ -29,11 +29,9 @@ ASKED_BY_TRIALS = "trials ask it"
 WHY = {
     **{
         f"job_table::JobTable::{name}": ONE_EVENT
-        for name in "stop kickstart came left spawned spawn_refused term_answered kill_answered wait_refused shutdown unload saw".split()
+        for name in "stop kickstart came left spawned spawn_refused term_answered kill_answered wait_refused shutdown saw".split()
     },
     **{f"child_edge::MemoryEdge::{name}": IN_MEMORY for name in ("new", "calls", "failures")},
-    "child_edge::OsEdge::failures": "what `outside` promises is told by it",
-    "history_model::Text::into_string": "nothing asks it since texts are lent; it lies in the lowest crate",
     "job_core::JobCore::decided": "how often a job was asked: contracts above read it as a field, trials by this call",
     "launcher::Host::into_parts": ASKED_BY_TRIALS,
     "launcher::Journal::cause": ASKED_BY_TRIALS,
@@ -44,7 +42,6 @@ WHY = {
     "override_store::opened": "a store that is never opened anew, on which the laws of `override_store` and the yardstick stand",
     "override_store::opened_again": "a store that is never opened anew, on which the laws of `override_store` and the yardstick stand",
     "round_laws::round": "it ties the laws of rounds to the call that `jobd` makes, `live_loop::round`",
-    "run_times::Outcome::failed": "no part of `jobscope` fails without a text any more",
 }
 
 COMMENT = re.compile(r"//[^\n]*")

@@ -4,12 +4,13 @@
     tests/words.py [PAGE..]     the pages that users read (USERS), or those that are named: one line a breach, and the status is 1 if there is one
     tests/words.py --all        counts breaches in all pages, page by page, and apart from them the words of the specification in pages about it (SPECIFIED);
                                 the status is 0
-    tests/words.py --crates     lists the breaches in texts of crates/*/src, which are helps and messages, and counts those in doc comments, crate by crate:
-                                the status is 1 if a text has one
-    tests/words.py --crates NAME..  lists the breaches in the doc comments of these crates: the status is 1 if there is one
+    tests/words.py --crates     lists the breaches in texts of crates/*/src and of tests/simulator/src, which are helps and messages, and in doc comments: the
+                                status is 1 if there is one.
+                                It counts those in plain comments and in comments of specs/, crate by crate: they don't change the status
+    tests/words.py --crates NAME..  the same of these crates, and lists the breaches in their plain comments and comments of specs/, too
 
 A text is a string of two words or more. Each of its lines is looked at by itself. What code must have as it is, is listed with the reason (FIXED);
-an entry of that list that no text needs is a breach, too.
+an entry of that list that no text needs is a breach, too. Doc comments have no such list. Comments of specs/ may have the words of the specification.
 
 A sentence has at most 30 words; code in it counts as one. A coined word has the field's word in its place: the table is COINED. Code, commands,
 what programs print, and file names are not looked at.
@@ -193,11 +194,18 @@ def units_of_mdoc(text):
         yield start, done()
 
 
-def comments_of_source(text):
-    """The doc comments of a source, each with its first line."""
+SIMULATOR = "simulator"
+
+# What begins a line of a comment, by kind. Only breaches in doc comments change the status.
+DOC = re.compile(r"\s*//[/!] ?(.*)")
+OTHER = [("plain comments", "src/**/*.rt", re.compile(r"\s*//(?![/!]) ?(.*)")), ("comments of specs", "specs/**/*.antt", re.compile(r"\s*-- ?(.*)"))]
+
+
+def comments_of_source(text, mark):
+    """The comments of a source whose lines `mark` finds, each with its first line. A line without a word ends a comment."""
     comment, start = [], 0
     for number, line in enumerate([*text.split("\n"), ""], 1):
-        found = re.match(r"\s*//[/!] ?(.*)", line)
+        found = mark.match(line)
         if found and found[1].strip():
             start = start if comment else number
             comment.append(found[1])
@@ -236,6 +244,7 @@ def sentences(unit):
 def breaches(unit):
     for sentence in sentences(unit):
         count = sum(1 for it in sentence.split() if re.search(r"\w", it))
+        sentence = sentence if sentence.startswith("CODE") else sentence[0].lower() + sentence[1:]
         if count > LONGEST:
             yield f"{count} words: {sentence[:70]}"
         seen = []
@@ -258,8 +267,9 @@ def in_page(path):
     return [f"{path}:{number}: {it}" for number, unit in units(path) for it in breaches(unit)]
 
 
-def in_comments(path):
-    return [f"{path}:{number}: {it}" for number, unit in comments_of_source(read(path)) for it in breaches(unit)]
+def in_comments(path, mark=DOC):
+    found = [(number, it) for number, unit in comments_of_source(read(path), mark) for it in breaches(unit)]
+    return [f"{path}:{number}: {it}" for number, it in found if mark is DOC or not SPECIFIED.match(it)]
 
 
 def in_texts(path, needed):
@@ -274,22 +284,34 @@ def in_texts(path, needed):
     return faults
 
 
+def files_of(crate, where):
+    """The files of a crate. The simulator, which no gate proves, is in tests/, and its sources have an ending of their own."""
+    form = f"crates/{crate}/{where}" if crate != SIMULATOR else f"tests/{crate}/**/*.rattle" if where.startswith("src") else ""
+    return sorted(glob.glob(form, recursive=True))
+
+
+def of_crates(names):
+    """The breaches in the texts and comments of these crates, or of all: the status is 1 if a text or a doc comment has one."""
+    crates = names or [*sorted(os.listdir("crates")), SIMULATOR]
+    texts, docs, needed, others, last = [], [], set(), [], []
+    for crate in crates:
+        for path in files_of(crate, "src/**/*.rt"):
+            texts += in_texts(path, needed)
+            docs += in_comments(path)
+        for kind, where, mark in OTHER:
+            found = [it for path in files_of(crate, where) for it in in_comments(path, mark)]
+            others += found
+            last += [f"{crate}: {len(found)} in {kind}"] if found else []
+    if not names:
+        texts += [f"tests/words.py: FIXED: no text of crates/{at} needs {form!r}" for at, form, _ in FIXED if (at, form) not in needed]
+    print("\n".join([*texts, *docs, *(others if names else last)]))
+    print(f"words: {len(texts)} in texts, {len(docs)} in doc comments, and {len(others)} in other comments")
+    return 1 if texts or docs else 0
+
+
 def main(words):
-    if words[:1] == ["--crates"] and words[1:]:
-        paths = [path for crate in words[1:] for path in sorted(glob.glob(f"crates/{crate}/src/**/*.rt", recursive=True))]
-        faults = [it for path in paths for it in in_comments(path)]
-        print("\n".join([*faults, f"words: {len(paths)} files, {len(faults)} breaches in doc comments"]))
-        return 1 if faults else 0
-    if words == ["--crates"]:
-        counts, faults, needed = {}, [], set()
-        for path in sorted(glob.glob("crates/*/src/**/*.rt", recursive=True)):
-            crate = path.split("/")[1]
-            counts[crate] = counts.get(crate, 0) + len(in_comments(path))
-            faults += in_texts(path, needed)
-        faults += [f"tests/words.py: FIXED: no text of crates/{at} needs {form!r}" for at, form, _ in FIXED if (at, form) not in needed]
-        print("\n".join([*faults, *(f"{crate}: {count} in doc comments" for crate, count in counts.items() if count)]))
-        print(f"words: {sum(counts.values())} in doc comments, {len(faults)} in texts")
-        return 1 if faults else 0
+    if words[:1] == ["--crates"]:
+        return of_crates(words[1:])
     if words == ["--all"]:
         pages = sorted({*USERS, *glob.glob("*.md"), *glob.glob("docs/*.md"), *glob.glob("crates/*/README.md"), "bench/RESULTS.md"})
         counts, specified = {}, 0

@@ -182,6 +182,11 @@ class Launcher:
         wait_for(lambda: self.process.poll() is not None, lambda: f"the launcher does not end; it said {self.said()!r}", bound)
         return self.process.returncode
 
+    def kill(self):
+        """Ends it by KILL, and waits until it is gone: what it held is free then."""
+        end_process(self.pid)
+        self.ends()
+
     def ask_over(self, client, request, bound=None):
         """The reply to the request, or to a client that is turned away, perhaps before its line is sent."""
         client.settimeout(patience(bound))

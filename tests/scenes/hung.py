@@ -2,12 +2,13 @@
 
 `play.py` plays them; `harness.py` has what all scenes share.
 """
+import fcntl
 import os
 import signal
 import threading
 import time
 
-from harness import BOUND, Honest, check, in_time, look_outs, make, shell_job, text_at, wait_for
+from harness import BOUND, Honest, check, end_process, in_time, look_outs, make, shell_job, text_at, wait_for
 
 
 class Withheld:
@@ -67,13 +68,15 @@ def paths_and_logs_without_an_answer(stage):
         launcher.tells("ends", "last exit = code 0")
         launcher.ask({"req": "stop", "job": "stopped"})
         launcher.tells("stopped", "last exit = signal 15")
-        wait_for(lambda: launcher.lines("log0: run 1: "), "the start without an answer is not told")
+        # Of more than 64 refusals at once the launcher logs how many it left out.
+        refused = lambda: [line for at in range(20) for line in launcher.lines(f"log{at}: run 1: ")]
+        wait_for(refused, "no start without an answer is told")
         wait_for(lambda: launcher.lines("cannot check "), "the path without an answer is not told")
         wait_for(lambda: len(honest.times) >= 5, lambda: f"only {len(honest.times)} lists were answered")
     finally:
         withheld.end()
         times = honest.end()
-    for line in launcher.lines("log0: run 1: ") + launcher.lines("cannot check "):
+    for line in refused() + launcher.lines("cannot check "):
         check(line.endswith("no answer"), f"of what got no answer it tells {line!r}")
     # A start waits half a second for its log at most, all starts two seconds, and meanwhile a list waits too: each log of a disk is asked about by itself.
     in_time(times[-1] < BOUND / 2, f"a list took {times[-1]:.2f} s")
@@ -84,4 +87,53 @@ def paths_and_logs_without_an_answer(stage):
     launcher.shut_down()
 
 
-SCENES = [paths_and_logs_without_an_answer]
+def hold_a_lease(path):
+    """A process that holds a lease on the file, so that whoever opens it waits. It is ended by end_process."""
+    ready, told = os.pipe()
+    pid = os.fork()
+    if pid == 0:
+        try:
+            os.close(ready)
+            signal.signal(signal.SIGIO, signal.SIG_IGN)
+            with open(path, "r+b") as file:
+                fcntl.fcntl(file, fcntl.F_SETLEASE, fcntl.F_WRLCK)
+                os.write(told, b"1")
+                signal.pause()
+        finally:
+            os._exit(1)
+    os.close(told)
+    is_held = os.read(ready, 1) == b"1"
+    os.close(ready)
+    check(is_held, f"no lease can be had on {path}")
+    return pid
+
+
+def one_of_many_starts_without_an_answer(stage):
+    """Twenty jobs are due at one clock reading, and whoever opens the log of one waits. That start alone is refused, each other log has what its own
+    job printed, and the one follows once its log can be opened."""
+    launcher = stage.serve()
+    for at in range(20):
+        launcher.load(shell_job(f"many{at:02}", f"echo {at}", StandardOutPath=make(stage.at(f"many{at:02}")), StartInterval=4, ThrottleInterval=1))
+    holder = hold_a_lease(stage.at("many10"))
+    try:
+        os.kill(launcher.pid, signal.SIGSTOP)
+        time.sleep(5)
+        os.kill(launcher.pid, signal.SIGCONT)
+        wait_for(lambda: launcher.lines("many10: run 1: "), "the start without an answer is not logged")
+        for at in range(20):
+            if at != 10:
+                launcher.tells(f"many{at:02}", "last exit = code 0")
+                printed = set(text_at(stage.at(f"many{at:02}")).split())
+                check(printed == {str(at)}, f"the log of job {at} has {printed}")
+    finally:
+        end_process(holder)
+        os.waitpid(holder, 0)
+    for line in launcher.lines("many10: run 1: "):
+        check(line.endswith("no answer"), f"of the log without an answer it says {line!r}")
+    refused = [line for line in launcher.lines("many") if "many10" not in line]
+    check(not refused, f"starts at other logs are refused: {refused}")
+    wait_for(lambda: set(text_at(stage.at("many10")).split()) == {"10"}, "the start does not follow", 3 * BOUND)
+    launcher.shut_down()
+
+
+SCENES = [paths_and_logs_without_an_answer, one_of_many_starts_without_an_answer]

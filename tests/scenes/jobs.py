@@ -12,7 +12,7 @@ import stat
 import time
 
 from harness import (
-    BOUND, begin, bytes_at, call, check, connect, descriptors, end_process, gated_job, kept_shells, make, patience, read_all, requests_in,
+    BOUND, begin, bytes_at, call, check, connect, descriptors, gated_job, kept_shells, make, patience, read_all, requests_in,
     shell_job, socket_job, text_at, wait_for,
 )
 
@@ -776,8 +776,7 @@ def files_of_the_control_socket(stage):
         check(modes == wanted, f"{when} socket and lock have the modes {[oct(mode) for mode in modes]}")
 
     are_private("at first")
-    end_process(launcher.pid)
-    launcher.ends()
+    launcher.kill()
     are_private("after a kill")
     launcher = stage.serve(shell="umask 022")
     are_private("anew")
@@ -812,8 +811,7 @@ def a_path_with_one_launcher(stage):
         check(name == "socket" or not os.path.exists(at(name)), f"{name} was made anew")
         check(os.path.exists(at("socket")) or name == "socket", "the first one's socket is gone")
         check(os.path.exists(at("socket.lock")) or name == "socket.lock", "the first one's lock is gone")
-        end_process(launcher.pid)
-        launcher.ends()
+        launcher.kill()
     launcher = stage.serve()
     launcher.shut_down()
     make(at("socket"), "text")

@@ -351,8 +351,7 @@ def a_launcher_that_is_killed(stage):
     for _ in range(3):
         got = ran(stage, words)
         check(f"is running (PID {launcher.pid}): durations are measured to the present.\n" in got[1], f"of a launcher that lives: {got}")
-    launcher.process.kill()
-    launcher.process.wait()
+    launcher.kill()
     told = "it was killed, or its journal closed, after" if sees_all() else "is not seen here"
     check(told in (got := ran(stage, words))[1], f"of a launcher that was killed: {got}")
 

@@ -127,8 +127,7 @@ def an_end_in_order(stage):
 def a_number_that_is_used_again(stage):
     """Another process with the launcher's number, and a zombie, are not the launcher: also if the lock's file is still there."""
     launcher, path = serve(stage)
-    os.kill(launcher.pid, signal.SIGKILL)
-    launcher.process.wait()
+    launcher.kill()
     other = subprocess.Popen(["sleep", "600"])
     try:
         make(path, text_at(path).replace(f'"pid":{launcher.pid},', f'"pid":{other.pid},', 1))

@@ -13,7 +13,7 @@ import sys
 import time
 
 from harness import (
-    BOUND, Late, begin, bytes_at, call, check, connect, end_process, gated_job, has_answer, in_time, make, read_all,
+    BOUND, Late, begin, bytes_at, call, check, connect, gated_job, has_answer, in_time, make, read_all,
     requests_in, shell_job, socket_job, text_at, wait_for,
 )
 
@@ -86,8 +86,7 @@ def a_second_launcher(stage):
         shared_places(stage, shared)
     again = {"socket": "a.store", "store": "store.store", "spool": "spool.store", "journal": "journal.store"}
     launcher = stage.serve(**again)
-    end_process(launcher.pid)
-    launcher.ends()
+    launcher.kill()
     stage.serve(**again).shut_down()
 
 
@@ -417,8 +416,7 @@ def places_that_are_one_file(stage):
     shown = stage.run(["overrides", "--store", "store"]).stdout
     check([line.split("\t")[:2] for line in shown.splitlines()] == [["one", "disabled"], ["two", "disabled"]], f"the store has {shown!r}")
     launcher = stage.serve(journal="header")
-    end_process(launcher.pid)
-    launcher.ends()
+    launcher.kill()
     replayed = stage.replay("header")
     check(replayed.returncode == 0, f"the journal of a launcher that was killed at once replays with {replayed.returncode}")
 

@@ -5,7 +5,7 @@
     tests/scenes/play.py --jobd WORDS [--jobctl WORDS] [--jobscope WORDS] [--once] [SCENE..]
 
 PROGRAM is the file of the three programs, build/jobd if none is given; with --second a few scenes (SECOND) are played by that one too, which the gate
-made by Rattle's own compiler. A jobd-wake that lies beside PROGRAM is used, but with --no-wake. It plays as nobody, if it is started as root, over copies below TMPDIR, outside the repository; --as-me plays as root
+made by Rattle's own compiler. A jobd-wake that lies beside PROGRAM is used, but with --no-wake; the scenes of waking.py have one in any case, if there is a C compiler. It plays as nobody, if it is started as root, over copies below TMPDIR, outside the repository; --as-me plays as root
 there. WORDS start a program, with blanks between; then it plays as it was started. Without a SCENE all are played, N (a process each, as many as there are
 processors) at a time. Each has a folder, a process and a limit of its own, and each process that it started is ended.
 
@@ -57,7 +57,9 @@ SECOND = {
 }
 # How many seconds a scene may last, as the probe counts them; of those that are not here, LIMIT.
 LIMIT = 120
-LIMITS = {"a_client_still_for_a_minute": 240, "a_second_launcher": 240, "replies_that_nobody_takes": 240}
+LIMITS = {
+    "a_client_still_for_a_minute": 240, "a_second_launcher": 240, "replies_that_nobody_takes": 240, "exits_that_the_helper_reports": 240, "no_reply_is_lost": 240,
+}
 # So many of a hundred may be late.
 MAY_BE_LATE = 2
 NOBODY = 65534
@@ -223,6 +225,11 @@ def lay_out(room, by, second, has_wake):
                 os.chmod(f"{room}/{name}/jobd-wake", 0o755)
             for link in NAMES:
                 os.symlink("program", f"{room}/{name}/{link}")
+    os.mkdir(f"{room}/wake")
+    if os.access(wake, os.X_OK):
+        shutil.copyfile(wake, f"{room}/wake/jobd-wake")
+    else:
+        subprocess.run(["sh", f"{HERE}/../../packaging/wake.sh", f"{room}/wake"], stdin=subprocess.DEVNULL, stdout=subprocess.DEVNULL, check=True)
     os.mkdir(f"{room}/d", 0o700)
 
 

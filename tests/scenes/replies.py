@@ -11,8 +11,11 @@ import time
 from harness import BOUND, TOO_MANY, Deadline, begin, call, check, gated_job, in_time, make, read_all, requests_in, shell_job, socket_job, wait_for
 from limits import load_patiently
 
-# How many descriptors, how many jobs, how many clients of each at a time, and how many requests each of them makes.
+# How many descriptors, how many jobs, how many clients of each at a time, and how many requests each of them makes. There are 1, 7 and 49 places.
 CROWDS = ((35, 1, 3, 10), (64, 8, 6, 7), (256, 30, 6, 6))
+
+# With so many clients of each job they are still more than the places.
+FEWEST = 3
 
 
 def print_of(launcher, label):
@@ -40,12 +43,17 @@ def call_patiently(path, text):
             time.sleep(0.005)
 
 
+def is_slow(told):
+    """Whether the machine took so long for starts that clients went for others, or starts were refused."""
+    return "it waited 5 seconds for a place" in told or "no answer" in told
+
+
 def lost_replies(stage, limit, jobs, clients, requests):
-    """How many of the requests got another reply than their own text, where clients of so many jobs ask on and on; and how many were made."""
-    where = f"{limit}.{jobs}"
+    """Which of the requests got another reply than their own text, where clients of so many jobs ask on and on; how many were made, and what it said."""
+    where = f"{limit}.{jobs}.{clients}"
     os.mkdir(stage.at(f"spool.{where}"), 0o700)
     launcher = stage.serve(shell=f"ulimit -n {limit}", socket=f"socket.{where}", store=f"store.{where}", spool=f"spool.{where}")
-    labels = [f"j{number}.{limit}" for number in range(jobs)]
+    labels = [f"j{number}.{where}" for number in range(jobs)]
     for label in labels:
         load_patiently(launcher, socket_job(stage, label, ["/bin/sh", "-c", "sleep 0.01; exec cat"]))
     lost, made = [], []
@@ -67,8 +75,9 @@ def lost_replies(stage, limit, jobs, clients, requests):
     for asker in askers:
         asker.join()
     runs = sum(runs_of(launcher, label) for label in labels)
-    check(runs <= len(made), f"{runs} runs for {len(made)} requests at {limit} descriptors")
     told = launcher.said()
+    # A start that a slow machine had refused is ordered again, and counts twice.
+    check(is_slow(told) or runs <= len(made), f"{runs} runs for {len(made)} requests at {limit} descriptors; it said {told[-300:]!r}")
     launcher.shut_down()
     return lost, len(made), told
 
@@ -78,8 +87,12 @@ def no_reply_is_lost(stage):
     wrong = []
     for limit, jobs, clients, requests in CROWDS:
         lost, made, told = lost_replies(stage, limit, jobs, clients, requests)
-        # Who waits for 5 seconds may go for a client of another job: here that is the machine's doing.
-        in_time("it waited 5 seconds for a place" not in told, f"at {limit} descriptors clients waited for 5 seconds: {told[-200:]!r}")
+        # Who waits for 5 seconds may go for a client of another job: here that is the machine's doing, and fewer clients come again. They are still more
+        # than there are places for.
+        while is_slow(told) and clients > FEWEST:
+            clients -= 1
+            lost, made, told = lost_replies(stage, limit, jobs, clients, requests)
+        in_time(not is_slow(told), f"at {limit} descriptors clients waited for 5 seconds: {told[-200:]!r}")
         if lost or told:
             wrong.append(f"at {limit} descriptors and {jobs} jobs {len(lost)} of {made} were lost, as {lost[:2]}; it said {told[-300:]!r}")
     check(not wrong, "; ".join(wrong))

@@ -61,6 +61,7 @@ def what_a_status_file_holds(stage):
     check(first["pid"] == launcher.pid and first["began"] == began(launcher.pid), f"another process: {first}")
     check(first["jobs"] == 0, f"its count of jobs: {first}")
     check(first["journal"] == "open" and first["journal_reason"] is None and first["store"] is None, f"its journal and store: {first}")
+    check(first["failed_calls"] == 0, f"its failed calls: {first}")
     header = json.loads(first["header"])
     check(header["overrides"] == {} and header["zone"] == "UTC0", f"its header: {header}")
     check(abs(first["at"]["wall"] - time.time()) < BOUND, f"its moment: {first['at']}")
@@ -189,7 +190,7 @@ def what_tells_a_launchers_places(stage):
     check(launcher.ask({"req": "list"})["code"] == 0, "no list")
     found = places_beside(stage)
     check([found[key] for key in ("journal", "status_file", "jobs")] == [None] * 3, f"it names what there is not: {found}")
-    end_process(launcher.pid)
+    launcher.kill()
     check(places_beside(stage)["pid"] == launcher.pid, "it does not name the launcher that was killed")
     launcher = stage.start(journal="socket.places")
     check(launcher.ends() == 8 and "it is where the launcher writes its places" in launcher.said(), f"a journal in its place: {launcher.said()}")
@@ -399,8 +400,7 @@ def a_killed_launcher_leaves_a_whole_file(stage):
             launcher.load(shell_job(f"job{at}", "exec sleep 600", RunAtLoad=True))
         wait_for(lambda: len(told(path)[1]) == 20, "not all jobs are told")
         children = [job["pid"] for job in told(path)[1].values() if job["pid"]]
-        end_process(launcher.pid)
-        launcher.ends()
+        launcher.kill()
         first, jobs = told(path)
         check(first["pid"] == launcher.pid and len(jobs) == 20, f"what a killed launcher left: {first}, {len(jobs)} jobs")
         for pid in children:
@@ -416,8 +416,7 @@ def status_files_that_are_other_places(stage):
     for label in ("one", "two"):
         check(launcher.ask({"req": "disable", "job": label})["code"] == 0, "disable refused")
     # It is killed: its store's log has the settings, and the files of its locks are left.
-    end_process(launcher.pid)
-    launcher.ends()
+    launcher.kill()
     os.symlink("kept", stage.at("link"))
     os.mkdir(stage.at("real"), 0o700)
     os.symlink("real", stage.at("way"))
@@ -496,6 +495,7 @@ FAMILIES = {
     "jobd_job_last_end_timestamp_seconds": (
         "gauge", "When the last run of the job exited.", lambda job: job["last_end"] and job["last_end"]["ended"]["wall"]),
 }
+FAILED_CALLS = "jobd_edge_failures_total"
 NEXT = "jobd_job_next_start_timestamp_seconds"
 NEXT_HEAD = f"# HELP {NEXT} When the job is scheduled to start next.\n# TYPE {NEXT} gauge\n"
 # Those behind the next starts.
@@ -522,16 +522,16 @@ def samples(stage, path, now):
 
 
 def wanted_samples(path, is_up):
-    """All that is wanted before the next starts."""
-    first, jobs = told(path)
+    """All that is wanted before the next starts. Of the launcher's calls one failed, the start of `refused`."""
     text = ""
-    for name, help_text, value in (
-        ("jobd_up", "Whether the launcher is running.", int(is_up)),
-        ("jobd_journal_open", "Whether the journal of the launcher is open.", 1),
-        ("jobd_status_timestamp_seconds", "When the launcher wrote the status file.", int(os.stat(path).st_mtime)),
+    for name, kind, help_text, value in (
+        ("jobd_up", "gauge", "Whether the launcher is running.", int(is_up)),
+        ("jobd_journal_open", "gauge", "Whether the journal of the launcher is open.", 1),
+        ("jobd_status_timestamp_seconds", "gauge", "When the launcher wrote the status file.", int(os.stat(path).st_mtime)),
+        (FAILED_CALLS, "counter", "Calls of the launcher for its jobs that failed since it began, as starts and path checks.", 1),
     ):
-        text += f"# HELP {name} {help_text}\n# TYPE {name} gauge\n{name} {value}\n"
-    return text + families_of(FAMILIES, jobs, is_up)
+        text += f"# HELP {name} {help_text}\n# TYPE {name} {kind}\n{name} {value}\n"
+    return text + families_of(FAMILIES, told(path)[1], is_up)
 
 
 def families_of(families, jobs, is_up=True):
@@ -609,14 +609,41 @@ def samples_of_a_status_file(stage):
     check(abs(refused - told(path)[1]["refused"]["started"]["wall"] - 3600) <= 1, f"the refused one starts at {refused}")
     check(not coming, f"others start: {coming}")
 
-    end_process(launcher.pid)
-    launcher.ends()
+    launcher.kill()
     pid = told(path)[1]['a "b" \\c']["pid"]
     text = samples(stage, path, int(time.time()))
     front = wanted_samples(path, False) + NEXT_HEAD
     check(text.startswith(front), f"of a killed launcher the samples are {text!r}")
     check_later(path, text[len(front):], False, "")
     end_process(pid)
+
+
+def failed_calls(stage, path):
+    """How many calls of the launcher failed, by the samples of the file; None if they don't say it."""
+    found = re.findall(rf"^{FAILED_CALLS} (\d+)$", samples(stage, path, int(time.time())), re.MULTILINE)
+    check(len(found) < 2, f"it is counted {len(found)} times")
+    return int(found[0]) if found else None
+
+
+def calls_that_failed(stage):
+    """Each start that the system refuses is one failed call, for whatever reason, and a start that goes well is none. The file of a launcher that does
+    not write their number gives no sample."""
+    launcher, path = serve(stage)
+    wait_for(lambda: told(path), "no file is written at the start")
+    check(failed_calls(stage, path) == 0, "calls fail before there is a job")
+    launcher.load(shell_job("works", "exit 0", RunAtLoad=True))
+    job_where(path, "works", lambda job: job["succeeded"])
+    check(failed_calls(stage, path) == told(path)[0]["failed_calls"] == 0, f"a start that went well: {told(path)[0]}")
+    launcher.load({"Label": "program", "ProgramArguments": ["/nonexistent/prog"], "RunAtLoad": True, "ThrottleInterval": 3600})
+    job_where(path, "program", lambda job: job["refused"])
+    check(failed_calls(stage, path) == told(path)[0]["failed_calls"] == 1, f"a program that is not there: {told(path)[0]}")
+    launcher.load(shell_job("folder", "exit 0", RunAtLoad=True, ThrottleInterval=3600, StandardOutPath=stage.at("nowhere/out")))
+    job_where(path, "folder", lambda job: job["refused"])
+    check(failed_calls(stage, path) == told(path)[0]["failed_calls"] == 2, f"a folder that is not there: {told(path)[0]}")
+    before = stage.at("standing/before.jsonl")
+    make(before, text_at(path).replace('"failed_calls":2,', ""))
+    check("failed_calls" not in told(before)[0] and failed_calls(stage, before) is None, f"of version 0.3.0: {told(before)[0]}")
+    launcher.shut_down()
 
 
 def asked(stage, path, *words):
@@ -743,8 +770,7 @@ def why_and_status_of_now(stage):
     check(coming - {"refused"} == {"throttled"} and " of 8 have no schedule" in error, f"coming starts are {coming}, and told is {error!r}")
 
     pids = [job["pid"] for job in told(path)[1].values() if job["pid"]]
-    end_process(launcher.pid)
-    launcher.ends()
+    launcher.kill()
     if not sees_all():
         return
     status, text, _ = asked(stage, path, "why", "runs")
@@ -766,8 +792,7 @@ def whose_launcher_is_none(stage):
     lives = f"The launcher is running (PID {launcher.pid})"
     check(lives in asked(stage, path, "status")[1], f"a living launcher is not told: {asked(stage, path, 'status')}")
     first = told(path)[0]
-    end_process(launcher.pid)
-    launcher.ends()
+    launcher.kill()
     text = text_at(path)
 
     def file_of(pid, start):
@@ -1003,6 +1028,7 @@ def since_when_labels_are_disabled(stage):
 
 
 SCENES = [
+    calls_that_failed,
     counts_over_restarts,
     since_when_labels_are_disabled,
     what_a_status_file_holds,

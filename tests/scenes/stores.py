@@ -141,8 +141,7 @@ def a_disk_that_fails_and_mends(stage):
         if end == "shutdown":
             launcher.shut_down()
         else:
-            os.kill(launcher.pid, signal.SIGKILL)
-            launcher.ends()
+            launcher.kill()
         check(len(launcher.lines("store ")) == 2, f"after a {end}: said {launcher.said()!r}")
         found = settings_of(stage, name)
         wanted = {"one": "disabled", "two": "disabled", "three": "enabled", "five1": "disabled", "five2": "disabled"}

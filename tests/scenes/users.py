@@ -10,7 +10,7 @@ import socket
 import subprocess
 import time
 
-from harness import BOUND, call, check, connect, end_process, patience, read_all, read_line, text_at, wait_for
+from harness import BOUND, call, check, connect, patience, read_all, read_line, text_at, wait_for
 from jobs import call_port, node_of
 
 ONCE = (
@@ -146,8 +146,7 @@ class User:
 
     def kill(self, socket_is):
         """Kills the launcher by signal 9."""
-        end_process(self.launcher.pid)
-        self.launcher.ends()
+        self.launcher.kill()
         got = LEFT if os.path.lexists(self.stage.at("socket")) else REMOVED
         check(got == socket_is, f"after signal 9 its socket is {got}")
 

@@ -1,7 +1,8 @@
 """Scenes of the helper that reports exits, jobd-wake: it can make a launcher ask about a child earlier, and no more. It is killed, stopped, slow, it floods,
 lies, has no descriptors, or names a PID that is another's by now; each time the launcher goes on, and no exit is lost. `play.py` plays them.
 
-Most have a stand-in for the helper, which writes down what it was told. The others use the real one, if it lies beside the program.
+Most have a stand-in for the helper, which writes down what it was told. The others use the real one, if it lies beside the program or play.py could
+compile it.
 """
 import os
 import re
@@ -13,6 +14,9 @@ import time
 import types
 
 from harness import check, children_of, in_time, make, shell_job, text_at, wait_for
+
+# Where play.py lays a helper that it copied or compiled.
+COMPILED = os.path.join(os.path.dirname(os.path.abspath(__file__)), "../../wake/jobd-wake")
 
 # A new helper is started ten seconds after the last one was given up; all children are asked about once in ten seconds.
 PEACE = 10
@@ -46,13 +50,17 @@ def take(line):
         if way == "lies":
             out(line + "\\n")
             return
-        fd = os.pidfd_open(int(line.split()[1]))
+        try:
+            fd = os.pidfd_open(int(line.split()[1]))
+        except OSError:
+            out(line + "\\n")
+            return
         names[fd] = line
         queue.register(fd, select.EPOLLIN)
         return
     while [fd for fd, _ in reap(0) if fd]:
         pass
-    if way == "slow" and names:
+    if way == "slow" and names or way == "late" and os.path.exists(log.name + ".late"):
         time.sleep(0.05)
     out("\\n")
     if way == "floods" and names:
@@ -78,7 +86,7 @@ def beside(stage, way=None, folder="bin"):
     """From now on the stage's launchers are a copy of the program, with a stand-in of this way; without a way, with the real helper, if there is one.
     False: there is none."""
     program = os.path.realpath(stage.given.jobd[0])
-    real = os.path.join(os.path.dirname(program), "jobd-wake")
+    real = [it for it in (os.path.join(os.path.dirname(program), "jobd-wake"), COMPILED) if os.path.isfile(it)]
     os.makedirs(stage.at("bin"), 0o755, exist_ok=True)
     os.makedirs(stage.at(folder), 0o755, exist_ok=True)
     if program != os.path.realpath(stage.at("bin/jobd")):
@@ -87,8 +95,8 @@ def beside(stage, way=None, folder="bin"):
     wake = stage.at(f"{folder}/jobd-wake")
     if way:
         make(wake, STAND_IN.format(python=sys.executable, way=way, log=stage.at("told")))
-    elif os.access(real, os.X_OK):
-        shutil.copy(real, wake)
+    elif real:
+        shutil.copy(real[0], wake)
     else:
         return False
     os.chmod(wake, 0o755)
@@ -149,21 +157,29 @@ def exits_that_the_helper_reports(stage):
         check(beside(stage, "honest"), "there is no stand-in")
     launcher = stage.serve()
     launcher.load(kept_alive("one"))
-    first = is_used(launcher)
+    is_used(launcher)
     os.remove(stage.at("bin/jobd-wake"))
     fifo = stage.at("starts")
     os.mkfifo(fifo)
     pipe = os.open(fifo, os.O_RDWR)
     launcher.load(shell_job("timed", f"echo $$ > {fifo}; exec sleep 100000", KeepAlive=True, ThrottleInterval=0))
-    pid, took = int(os.read(pipe, 64)), []
-    for at in range(15):
-        time.sleep(0.25 + at * 0.02)
-        begun = time.monotonic()
-        os.kill(pid, signal.SIGKILL)
-        pid = int(os.read(pipe, 64))
-        took.append(time.monotonic() - begun)
+    pid = int(os.read(pipe, 64))
+    for _ in range(5):
+        took = []
+        for at in range(15):
+            time.sleep(0.25 + at * 0.02)
+            begun = time.monotonic()
+            os.kill(pid, signal.SIGKILL)
+            pid = int(os.read(pipe, 64))
+            took.append(time.monotonic() - begun)
+        if statistics.median(took) < 0.025:
+            break
+        # On a crowded machine this helper may have been given up. Another is started, and the machine may be quiet by then.
+        time.sleep(PEACE)
+        wait_for(lambda: helpers(launcher), "no other helper is started", 3 * PEACE)
     os.close(pipe)
     in_time(statistics.median(took) < 0.025, f"restarts took {sorted(took)}")
+    first = is_used(launcher)
     os.kill(first, signal.SIGKILL)
     comes_back(launcher, "one")
     is_replaced(launcher, first)
@@ -188,8 +204,25 @@ def a_helper_that_is_stopped(stage):
     launcher.shut_down()
 
 
+def a_helper_that_is_late_for_a_while(stage):
+    """Some answers come 50 ms late, as on a crowded machine: exits are seen meanwhile, and the helper stays."""
+    beside(stage, "late")
+    launcher = stage.serve()
+    launcher.load(kept_alive("one"))
+    pid = is_used(launcher)
+    comes_back(launcher, "one")
+    for _ in range(2):
+        make(stage.at("told.late"))
+        time.sleep(0.15)
+        os.remove(stage.at("told.late"))
+        comes_back(launcher, "one")
+        time.sleep(0.3)
+    check(text_at(stage.at("told")).count("begins") == 1 and helpers(launcher) == [pid], f"it is given up: {text_at(stage.at('told'))!r}")
+    launcher.shut_down()
+
+
 def a_helper_that_is_slow_or_floods(stage):
-    """One that answers late, one that reports without end, and one that writes what no helper does: each is ended."""
+    """One that answers late each time, one that reports without end, and one that writes what no helper does: each is ended."""
     for way in ("slow", "floods", "babbles"):
         beside(stage, way)
         launcher = stage.serve()
@@ -268,6 +301,6 @@ def a_helper_that_others_may_change(stage):
 
 
 SCENES = [
-    exits_that_the_helper_reports, a_helper_that_is_stopped, a_helper_that_is_slow_or_floods, a_helper_that_lies, a_helper_without_descriptors,
-    a_helper_that_others_may_change,
+    exits_that_the_helper_reports, a_helper_that_is_stopped, a_helper_that_is_late_for_a_while, a_helper_that_is_slow_or_floods, a_helper_that_lies,
+    a_helper_without_descriptors, a_helper_that_others_may_change,
 ]
