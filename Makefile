@@ -1,8 +1,8 @@
 # make run    builds the replay of a journal without a proof and runs the first example: a look, in about a minute
 # make quick  compiles the three programs without a proof, as build/quick/jobd, jobctl and jobscope, in some minutes; each says that it is not proved
 # make try    runs what is tried of calls, without a proof, in half an hour on one processor: for whoever changes a text, or only looks
-# make test   the gate: every proof, the wrong bodies, the tests, the programs (rt ci), and then the scenes over the program that it proved
-#             (tests/scenes); with kit 13f, what an earlier run on this machine passed over the same files is not proved or tried again; with 13b
+# make test   the gate: every proof, the wrong bodies, the tests, the programs (rt ci), then the scenes over the program that it proved
+#             (tests/scenes), and then 200 numbers of the simulator (tools/simulate); with kit 13f, what an earlier run on this machine passed over the same files is not proved or tried again; with 13b
 #             everything is. It leaves the program in build/ too
 # make scenes plays the scenes alone, with the program of build/
 # make times  the build and then the gate, with nothing kept from earlier runs: how long the build took, and what each crate cost in processor seconds
