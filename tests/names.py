@@ -20,6 +20,8 @@ tests/simulator and of contrib/, and bench/RESULTS.md. What is looked for:
   tried yet. They stand in crates/CRATE/must-fail/ and in tests/wrong_bodies/CRATE/. One of must-fail/ has no parts: the gate would try them
   together, and pass all if it refuses one.
 - Where a comment names specs/NAME or proofs/NAME, its crate has to have that file.
+- A name in a code span of a comment, as `read_def`, `JobTable` or `Dialogue::new`, is to be met in the code of its crate or of one below it. One that names
+  another crate, as `replay::status_of`, is to be defined there.
 - A file that a drawing names, as outside/order.rt, has to be there, below src/ of that crate.
 - Each fault that tests/simulated.py plants can be planted: what an edit of tests/simulator_plants replaces is once in its file.
 - No row of a table in the pages that a reader begins with (SHORT) is longer than 200 characters.
@@ -31,7 +33,11 @@ import os
 import re
 import sys
 
+sys.dont_write_bytecode = True
 TOP = os.path.dirname(os.path.dirname(os.path.abspath(__file__)))
+sys.path.insert(0, f"{TOP}/tools")
+import kit  # noqa: E402
+
 WORD = re.compile(r"[A-Za-z0-9_]+")
 
 # Names of the standard library, of ported crates, of the kernel, of processors and of systemd, and keys of launchd.plist(5).
@@ -67,6 +73,11 @@ TYPED = {f"{TOP}/docs/{name}.md" for name in ("TUTORIAL", "COOKBOOK", "MOVING", 
 # Pages whose tables are read first, and the longest row that they may have.
 SHORT = {"docs/MAP.md", "docs/GLOSSARY.md", "docs/CHANGING.md", "docs/CHEAP_TO_PROVE.md"}
 LONGEST_ROW = 200
+
+# What is a name in a comment's code span, and what comments name of others: calls of std and of the store's crate, keys of a definition, Unicode's word.
+NAMED = re.compile(r"((?:\w+::)*)([a-z]\w*_\w*[a-z0-9]|[A-Z]\w*[a-z]\w*|(?<=::)\w+|\w+(?=\())(?:\(\))?")
+OF_OTHERS = {"extend_from_slice", "open_files", "close_files", "serde_json", "SuccessfulExit", "Crashed", "Bidi_Control"}
+COMMENT = {".rt": "//", ".antt": "--"}
 
 # The one crate that is not in crates/, and the endings of sources: its own is another one, since `rt ci` proves each .rt file.
 SIMULATOR = "tests/simulator"
@@ -233,6 +244,25 @@ def faults_in_drawings(path, text, files):
                 yield f"{short}:{number}: there is no file {name}"
 
 
+def faults_in_comments(crates):
+    """A comment names in a code span what its crate does not have, nor one below it."""
+    code, comments = {crate: set() for crate in crates}, []
+    for path in files_below("crates"):
+        sign = COMMENT.get(os.path.splitext(path)[1])
+        for number, line in enumerate(text_of(path).splitlines(), 1) if sign else ():
+            front, _, comment = line.partition(sign)
+            code[crate_of(path)].update(WORD.findall(front))
+            comments += [(path, number, span) for span in re.findall(r"`([^`]+)`", comment)]
+    known = {crate: set().union(*(code[it] for it in {crate, *kit.below(crate)})) for crate in crates}
+    for path, number, span in comments:
+        found = NAMED.fullmatch(span)
+        if not found or found[2] in crates or found[2] in OF_OTHERS or span in OUTSIDE:
+            continue
+        crate = found[1].split("::")[0]
+        if found[2] not in known[crate_of(path)] | code.get(crate, set()):
+            yield f"{os.path.relpath(path, TOP)}:{number}: a comment names {span}, which stands in no code here or below"
+
+
 def faults_in_plants():
     """A plant replaces what its file does not have, or has more than once."""
     for path in files_below("tests/simulator_plants"):
@@ -301,7 +331,7 @@ def main():
             faults.append(f"{path}: the gate tries {name} with other parts of this edit, and not alone")
     for path in documents():
         faults += [*faults_in_drawings(path, text_of(path), files), *faults_in_rows(path, text_of(path))]
-    faults += faults_in_plants()
+    faults += [*faults_in_comments(crates), *faults_in_plants()]
     print("\n".join([*faults, f"{len(faults)} faults"]))
     return 1 if faults else 0
 

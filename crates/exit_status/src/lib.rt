@@ -1,5 +1,5 @@
 //! The exit statuses of the three programs. Those from 64 on are of sysexits.h. `replay::status_of` says by a contract how
-//! `jobd replay` ended. A `jobctl` that was refused exits with the code of the first refusal (`Refusal::code`) in place of these.
+//! `jobd replay` ended. A `jobctl` that was refused exits with the code of the first refusal (`history_model::Refusal::code`) in place of these.
 #![tactic(auto)]
 
 /// Memory was refused: all three programs.

@@ -1,6 +1,6 @@
 //! The live loop: passes of waiting, reading the clock, polling children, checking paths, and serving the clients of
 //! the control socket and of jobs' sockets. A pass decides nothing. It delivers what it finds to its launcher, one by
-//! one. The loop is over any launcher that answers as `LoopHost` says; that of `jobd` is its `RoundLauncher`.
+//! one. The loop is over any launcher that answers as `LoopHost` says; that of `jobd` is `jobd::RoundLauncher`.
 #![tactic(auto)]
 
 mod children;
