@@ -68,9 +68,14 @@ def kept_shells(launcher):
     return [pid for pid in children_of(launcher.pid) if "while read" in text_at(f"/proc/{pid}/cmdline")]
 
 
+def wakes(pid):
+    """The process that reports exits, if there is one."""
+    return [child for child in children_of(pid) if text_at(f"/proc/{child}/cmdline").startswith("jobd-wake")]
+
+
 def descriptors(pid):
-    """How many are open, but for those of the launcher's look-outs: one each."""
-    return len(os.listdir(f"/proc/{pid}/fd")) - len(look_outs(pid))
+    """How many are open, but for those of the launcher's helpers: one each."""
+    return len(os.listdir(f"/proc/{pid}/fd")) - len(look_outs(pid)) - len(wakes(pid))
 
 
 def first_free(pid):
