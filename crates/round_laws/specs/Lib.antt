@@ -4,3 +4,4 @@ pub mod Receiving
 pub mod Following
 pub mod Called
 pub mod DueStarts
+pub mod Outside

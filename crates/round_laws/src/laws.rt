@@ -16,15 +16,15 @@ ghost use Rattle.launcher.specs.Journals.{JournalState};
 ghost use Rattle.launcher_laws.specs.Lasting.{Lasts};
 ghost use Rattle.launcher_laws.specs.TurnRuns.{AreTurns, Snapshot};
 ghost use Rattle.live_loop.specs.Looks.{IsEmpty};
-ghost use Rattle.live_loop.specs.Rounds.{AreRounds, IsNew as IsNobodyYet, IsRound, Left, one_round};
+ghost use Rattle.live_loop.specs.Rounds.{IsNew as IsNobodyYet, Left, one_round};
 ghost use Rattle.outside.specs.Stores.{StoreCall};
 ghost use Rattle.jobd.specs.declared.round_launcher.RoundLauncher.{RoundLauncher as Launcher};
 ghost use Rattle.round_laws.specs.Called.{AsksBetween};
-ghost use Rattle.round_laws.specs.DueStarts.{IsDueAt, IsStartedIn, StartsAllDue, StartsWhatWaits, turns_before};
-ghost use Rattle.round_laws.specs.Following.{AreFollowed, operations_of};
+ghost use Rattle.round_laws.specs.DueStarts.{IsDueAt, IsStartedIn, StartsAllDue, StartsWhatWaits};
+ghost use Rattle.round_laws.specs.Following.{AreFollowed};
 ghost use Rattle.round_laws.specs.Receiving.{DecideAsOne, Decides, ReceivedReadings, lines_of};
 ghost use Rattle.round_laws.specs.Marks.{Mark, snapshot, turns_in};
-ghost use Rattle.round_laws.specs.RoundMarks.{launcher, marks_of, of_round};
+ghost use Rattle.round_laws.specs.Outside.{ArePasses, IsPass, around, delivered, delivered_in, jobds, operations, turns, turns_of_pass, turns_up_to};
 
 use jobd::{RoundEdge, RoundLauncher};
 use outside::SettingStore;
@@ -33,10 +33,11 @@ use std::io::Write;
 /// Any passes are turns, one after another, between which only the edge was asked. They are the turns of what each pass
 /// found, in its order.
 pub fn rounds_are_turns<T: SettingStore, E: RoundEdge, W: Write>(round: &RoundLauncher<T, E, W>)
-    ensures { (first last : Left (Launcher T E W)) →
-        (rounds : AreRounds (launcher E.told T.told T.holds T.stamped E.Finds E.Looks E.Accepts E.Holds) first last) →
+    ensures { let by = around E.told T.told T.holds T.stamped E.Finds E.Looks E.Accepts E.Holds in
+        (first last : Left (Launcher T E W)) →
+        (rounds : ArePasses by first last) →
         AreTurns T.holds (snapshot E.told T.told first.host.host)
-        (turns_in (marks_of E.told T.told T.holds T.stamped E.Finds E.Looks E.Accepts E.Holds rounds))
+        (turns by rounds)
         (snapshot E.told T.told last.host.host) }
 {
     let _ = round;
@@ -48,10 +49,11 @@ pub fn rounds_are_turns<T: SettingStore, E: RoundEdge, W: Write>(round: &RoundLa
 pub fn between_turns_are_questions<T: SettingStore, E: RoundEdge, W: Write>(
     round: &RoundLauncher<T, E, W>,
 )
-    ensures { (first last : Left (Launcher T E W)) →
-        (rounds : AreRounds (launcher E.told T.told T.holds T.stamped E.Finds E.Looks E.Accepts E.Holds) first last) →
+    ensures { let by = around E.told T.told T.holds T.stamped E.Finds E.Looks E.Accepts E.Holds in
+        (first last : Left (Launcher T E W)) →
+        (rounds : ArePasses by first last) →
         AsksBetween (E.told first.host.host.edge)
-        (marks_of E.told T.told T.holds T.stamped E.Finds E.Looks E.Accepts E.Holds rounds)
+        (delivered by rounds)
         (E.told last.host.host.edge) }
 {
     let _ = round;
@@ -76,14 +78,15 @@ pub fn what_was_spared_changes_nothing<T: SettingStore>(store: &T)
 /// Where an observation was left out, each job that lists the path had last seen the same. All else was delivered at
 /// the last clock reading. The condition: memory was not wanting at a clock reading.
 pub fn rounds_decide_as_one<T: SettingStore, E: RoundEdge, W: Write>(round: &RoundLauncher<T, E, W>)
-    ensures { (header : Header) (calls : Option (List ToldCall)) (stores : Option (List StoreCall))
+    ensures { let by = around E.told T.told T.holds T.stamped E.Finds E.Looks E.Accepts E.Holds in
+        (header : Header) (calls : Option (List ToldCall)) (stores : Option (List StoreCall))
         (journal : JournalState) (before : T) (first last : Left (Launcher T E W)) →
         (new : IsNew header calls stores journal (stands E.told T.told first.host.host)
         (T.holds before) (T.holds first.host.host.store)) →
         first.host.at ≡ first.host.host.table.reading → IsEmpty first.known →
-        (rounds : AreRounds (launcher E.told T.told T.holds T.stamped E.Finds E.Looks E.Accepts E.Holds) first last) →
-        ReceivedReadings (marks_of E.told T.told T.holds T.stamped E.Finds E.Looks E.Accepts E.Holds rounds) →
-        Decides new.machine (marks_of E.told T.told T.holds T.stamped E.Finds E.Looks E.Accepts E.Holds rounds) }
+        (rounds : ArePasses by first last) →
+        ReceivedReadings (delivered by rounds) →
+        Decides new.machine (delivered by rounds) }
 {
     let _ = round;
 }
@@ -95,10 +98,10 @@ pub fn rounds_decide_as_one<T: SettingStore, E: RoundEdge, W: Write>(round: &Rou
 pub fn each_client_is_followed<T: SettingStore, E: RoundEdge, W: Write>(
     round: &RoundLauncher<T, E, W>,
 )
-    ensures { (first last : Left (Launcher T E W)) → IsNobodyYet first.desk →
-        (rounds : AreRounds (launcher E.told T.told T.holds T.stamped E.Finds E.Looks E.Accepts E.Holds) first last) →
-        AreFollowed (launcher E.told T.told T.holds T.stamped E.Finds E.Looks E.Accepts E.Holds)
-        (operations_of (launcher E.told T.told T.holds T.stamped E.Finds E.Looks E.Accepts E.Holds) rounds) }
+    ensures { let by = around E.told T.told T.holds T.stamped E.Finds E.Looks E.Accepts E.Holds in
+        (first last : Left (Launcher T E W)) → IsNobodyYet first.desk →
+        (rounds : ArePasses by first last) →
+        AreFollowed (jobds by) (operations by rounds) }
 {
     let _ = round;
 }
@@ -110,42 +113,45 @@ pub fn each_client_is_followed<T: SettingStore, E: RoundEdge, W: Write>(
 pub fn a_due_start_is_ordered_in_its_round<T: SettingStore, E: RoundEdge, W: Write>(
     round: &RoundLauncher<T, E, W>,
 )
-    ensures one { (old new : Left (Launcher T E W)) →
-        (round : IsRound (launcher E.told T.told T.holds T.stamped E.Finds E.Looks E.Accepts E.Holds) old new) →
-        ReceivedReadings (of_round E.told T.told T.holds T.stamped E.Finds E.Looks E.Accepts E.Holds old new round) →
+    ensures one { let by = around E.told T.told T.holds T.stamped E.Finds E.Looks E.Accepts E.Holds in
+        (old new : Left (Launcher T E W)) →
+        (round : IsPass by old new) →
+        ReceivedReadings (delivered_in by round) →
         (s : State) → KeepsState round.begins.begun.host.table s → IsLed s →
         is_clock_refused s.reading round.begins.begun.at ≡ false →
         (label : Label) (past : History) → IsDueAt s label past round.begins.begun.at →
         IsStartedIn label past round.begins.begun.at
-        (turns_in (of_round E.told T.told T.holds T.stamped E.Finds E.Looks E.Accepts E.Holds old new round)) }
+        (turns_of_pass by round) }
     // This holds in each pass of a new launcher: it takes only clock readings that the machine accepts.
-    ensures each { (header : Header) (calls : Option (List ToldCall)) (stores : Option (List StoreCall))
+    ensures each { let by = around E.told T.told T.holds T.stamped E.Finds E.Looks E.Accepts E.Holds in
+        (header : Header) (calls : Option (List ToldCall)) (stores : Option (List StoreCall))
         (journal : JournalState) (before : T) (first old new : Left (Launcher T E W)) →
         (opened : IsNew header calls stores journal (stands E.told T.told first.host.host)
         (T.holds before) (T.holds first.host.host.store)) →
         first.host.at ≡ first.host.host.table.reading →
-        (more : AreRounds (launcher E.told T.told T.holds T.stamped E.Finds E.Looks E.Accepts E.Holds) first old) →
-        (round : IsRound (launcher E.told T.told T.holds T.stamped E.Finds E.Looks E.Accepts E.Holds) old new) →
-        ReceivedReadings (marks_of E.told T.told T.holds T.stamped E.Finds E.Looks E.Accepts E.Holds (one_round more round)) →
-        StartsAllDue opened.machine (turns_before E.told T.told T.holds T.stamped E.Finds E.Looks E.Accepts E.Holds more round)
+        (more : ArePasses by first old) →
+        (round : IsPass by old new) →
+        ReceivedReadings (delivered by (one_round more round)) →
+        StartsAllDue opened.machine (turns_up_to by more round)
         round.begins.begun.host.table round.begins.begun.at
-        (turns_in (of_round E.told T.told T.holds T.stamped E.Finds E.Looks E.Accepts E.Holds old new round)) }
+        (turns_of_pass by round) }
     // And a job may wait so after any passes. It is started in the passes that come then, or in the first one whose
     // clock reading is late enough. This holds if nothing happens to it meanwhile but that the clocks are read.
-    ensures waits { (header : Header) (calls : Option (List ToldCall)) (stores : Option (List StoreCall))
+    ensures waits { let by = around E.told T.told T.holds T.stamped E.Finds E.Looks E.Accepts E.Holds in
+        (header : Header) (calls : Option (List ToldCall)) (stores : Option (List StoreCall))
         (journal : JournalState) (before : T) (first from old new : Left (Launcher T E W)) →
         (opened : IsNew header calls stores journal (stands E.told T.told first.host.host)
         (T.holds before) (T.holds first.host.host.store)) →
         first.host.at ≡ first.host.host.table.reading →
-        (more : AreRounds (launcher E.told T.told T.holds T.stamped E.Finds E.Looks E.Accepts E.Holds) first from) →
-        (meanwhile : AreRounds (launcher E.told T.told T.holds T.stamped E.Finds E.Looks E.Accepts E.Holds) from old) →
-        (round : IsRound (launcher E.told T.told T.holds T.stamped E.Finds E.Looks E.Accepts E.Holds) old new) →
-        ReceivedReadings (marks_of E.told T.told T.holds T.stamped E.Finds E.Looks E.Accepts E.Holds more) →
-        ReceivedReadings (marks_of E.told T.told T.holds T.stamped E.Finds E.Looks E.Accepts E.Holds (one_round meanwhile round)) →
-        StartsWhatWaits opened.machine (turns_in (marks_of E.told T.told T.holds T.stamped E.Finds E.Looks E.Accepts E.Holds more))
-        from.host.host.table (turns_before E.told T.told T.holds T.stamped E.Finds E.Looks E.Accepts E.Holds meanwhile round)
+        (more : ArePasses by first from) →
+        (meanwhile : ArePasses by from old) →
+        (round : IsPass by old new) →
+        ReceivedReadings (delivered by more) →
+        ReceivedReadings (delivered by (one_round meanwhile round)) →
+        StartsWhatWaits opened.machine (turns by more)
+        from.host.host.table (turns_up_to by meanwhile round)
         round.begins.begun.at
-        (turns_in (of_round E.told T.told T.holds T.stamped E.Finds E.Looks E.Accepts E.Holds old new round)) }
+        (turns_of_pass by round) }
 {
     let _ = round;
 }

@@ -2,8 +2,7 @@
 
 ghost use Rattle.std.specs.Prelude.{OnOk};
 ghost use Rattle.live_loop.specs.Kept.{left_in};
-ghost use Rattle.live_loop.specs.Rounds.{IsRound};
-ghost use Rattle.round_laws.specs.RoundMarks.{launcher};
+ghost use Rattle.round_laws.specs.Outside.{IsPass, around};
 
 use jobd::{RoundEdge, RoundLauncher};
 use live_loop::{Live, ServeFault, System};
@@ -17,8 +16,8 @@ pub fn round<R: System, T: SettingStore, E: RoundEdge, W: Write>(
     alloc: Global,
     live: &mut Live<RoundLauncher<T, E, W>>,
 ) -> Result<bool, ServeFault>
-    ensures { OnOk result (IsRound (launcher E.told T.told T.holds T.stamped E.Finds E.Looks E.Accepts E.Holds)
-        (left_in live.old) (left_in live.new)) }
+    ensures { let by = around E.told T.told T.holds T.stamped E.Finds E.Looks E.Accepts E.Holds in
+        OnOk result (IsPass by (left_in live.old) (left_in live.new)) }
 {
     live_loop::round(rt, alloc, live)
 }
