@@ -38,7 +38,7 @@ pub struct RoundLauncher<T: SettingStore, E: ChildEdge + SocketEdge, W: Write> {
 }
 
 impl<T: SettingStore, E: ChildEdge + SocketEdge, W: Write> RoundLauncher<T, E, W> {
-    ghost use Rattle.jobd.specs.Launches.{Received, ReceivedReading, Reads, ReadsIf, ReadsClock, DeliversNews, Shows, Gives, Tells, Begins, PollsRun, AnswersLine};
+    ghost use Rattle.jobd.specs.Launches.{ReceivedReading, Reads, ReadsIf, ReadsClock, DeliversNews, Shows, Gives, Tells, PollsRun};
 
     /// The launcher at its own latest clock reading, from which on sleeps count; `before` is what its edge said of
     /// sleeps then.
@@ -58,20 +58,6 @@ impl<T: SettingStore, E: ChildEdge + SocketEdge, W: Write> RoundLauncher<T, E, W
             is_active: false,
             has_loaded: false,
         }
-    }
-
-    /// Begins a pass of the loop at a new clock reading, and delivers it if it may change something. The pass has the
-    /// clock reading of the one before if the clock can't be read, or if a launcher would refuse what it shows now. If
-    /// the launcher had no memory for the clock reading before, that is delivered first.
-    pub fn begin(&mut self, alloc: Global)
-    where
-        E: SleepEdge,
-        ensures { Begins E.told T.told T.holds T.stamped self.old self.new }
-    {
-        self.is_active = false;
-        self.deliver_missed(alloc);
-        self.read();
-        self.deliver_news(alloc);
     }
 
     // Delivers the clock reading of the pass before, if the launcher had no memory for it.
@@ -134,23 +120,11 @@ impl<T: SettingStore, E: ChildEdge + SocketEdge, W: Write> RoundLauncher<T, E, W
     fn receive_time(&mut self, alloc: Global)
         ensures { ReceivedReading E.told T.told T.holds T.stamped self.old self.new }
     {
-        let reply = self.turn(alloc, Input::Clock(self.at));
+        let reply = self.host.turn(alloc, Input::Clock(self.at));
         let is_refused = reply.refusal.is_some();
         drop(reply);
         self.is_refused = is_refused;
         self.is_active = self.is_active | !is_refused;
-    }
-
-    // for the proof: what the launcher's turn says of itself ends here
-    fn turn(&mut self, alloc: Global, input: Input<'_>) -> Reply
-        ensures received { Received E.told T.told T.holds T.stamped (input_event input.entry) result.refusal result.text self.old.host self.new.host }
-        ensures at { self.new.at ≡ self.old.at }
-        ensures sleep { (self.new.before ≡ self.old.before) × (self.new.slept ≡ self.old.slept) }
-        ensures loaded { self.new.has_loaded ≡ self.old.has_loaded }
-        ensures refused { self.new.is_refused ≡ self.old.is_refused }
-        ensures memory { is_memory result.refusal ≡ true → wants_memory input.entry ≡ true }
-    {
-        self.host.turn(alloc, input)
     }
 
     /// Delivers what happened, after the clock reading of the pass. A refused wait comes in each pass, so it does not
@@ -162,16 +136,7 @@ impl<T: SettingStore, E: ChildEdge + SocketEdge, W: Write> RoundLauncher<T, E, W
         let is_active = self.is_active || !matches!(input, Input::WaitRefused(_, _));
         self.deliver_time(alloc);
         self.is_active = is_active;
-        self.turn(alloc, input)
-    }
-
-    /// Delivers a control client's line, and notes a load that was accepted.
-    pub fn answer_line(&mut self, alloc: Global, line: &[u8]) -> Reply
-        ensures { AnswersLine E.told T.told T.holds T.stamped line.now result self.old self.new }
-    {
-        let reply = self.give(alloc, Input::Line(line));
-        self.has_loaded = self.has_loaded | self.host.has_loaded();
-        reply
+        self.host.turn(alloc, input)
     }
 
     // Delivers what happened, and gives why it was refused.
@@ -237,9 +202,11 @@ impl<T: SettingStore, E: RoundEdge, W: Write> Answers for RoundLauncher<T, E, W>
 
     ghost Answered = { AnswersLine E.told T.told T.holds T.stamped };
 
+    // A load that was accepted is noted, for the path checks.
     fn answer(&mut self, alloc: Global, line: &[u8]) -> Reply {
-        let reply = self.answer_line(alloc, line);
+        let reply = self.give(alloc, Input::Line(line));
         let has_loaded = self.host.has_loaded();
+        self.has_loaded = self.has_loaded | has_loaded;
         self.host.edge().note_reply(line, has_loaded, reply.refusal);
         reply
     }
@@ -308,8 +275,13 @@ impl<T: SettingStore, E: RoundEdge, W: Write> LoopHost for RoundLauncher<T, E, W
 
     ghost rises = { λ first job old new polled. E.rises first job polled.0 old.host.edge polled.1 polled.3 };
 
+    // The pass has the clock reading of the one before if the clock can't be read, or if a launcher would refuse what it
+    // shows now. If the launcher had no memory for the clock reading before, that is delivered first.
     fn begin(&mut self, alloc: Global) {
-        RoundLauncher::begin(self, alloc);
+        self.is_active = false;
+        self.deliver_missed(alloc);
+        self.read();
+        self.deliver_news(alloc);
     }
 
     fn up_now(&mut self) -> u64 {

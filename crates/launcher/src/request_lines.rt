@@ -54,16 +54,6 @@ pub(crate) fn note_set<W: Write>(
     journal.note(alloc, &request.with(Outside { bind: true, store }));
 }
 
-/// Whether a refusal says that memory ran out.
-fn is_want(refusal: Refusal) -> bool
-    ensures { result ≡ is_memory (Some refusal) }
-{
-    match refusal {
-        Refusal::NoMemory => true,
-        _ => false,
-    }
-}
-
 /// Writes the line of a load that was refused before the outside was asked. One that found no memory is not an event
 /// and gets no line.
 pub(crate) fn note_load_refused<W: Write>(
@@ -76,7 +66,7 @@ pub(crate) fn note_load_refused<W: Write>(
         Grows journal.old journal.new (load_line load.now unasked) }
     ensures silent { is_memory (Some refusal) ≡ true → journal.new ≡ journal.old }
 {
-    if is_want(refusal) {
+    if is_want(Some(refusal)) {
         return;
     }
     note_load(journal, alloc, load, Outside::unasked());
@@ -96,7 +86,7 @@ pub(crate) fn note_set_refused<W: Write>(
         Grows journal.old journal.new (set_line label.now disabled unload true) }
     ensures silent { is_memory (Some refusal) ≡ true → journal.new ≡ journal.old }
 {
-    if is_want(refusal) {
+    if is_want(Some(refusal)) {
         return;
     }
     note_set(journal, alloc, label, disabled, unload, true);

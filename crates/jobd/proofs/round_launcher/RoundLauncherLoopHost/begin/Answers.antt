@@ -1,5 +1,5 @@
 -- What is delivered at the beginning of a pass.
-use Rattle.jobd.proofs.round_launcher.RoundLauncher.begin.Goals as goal
+use Rattle.jobd.proofs.round_launcher.RoundLauncherLoopHost.begin.Goals as goal
 
 pub returns : goal.returns
 returns g c = record {
