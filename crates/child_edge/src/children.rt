@@ -112,6 +112,8 @@ pub(crate) struct Children<P: OpenProcess + Drop> {
     runs: BTreeMap<RunKey, Run<P>>,
     /// The helper that reports exits may not know each child.
     pub(crate) has_unsent: bool,
+    // The helper knows each child, and nothing was heard of one since: a pass at rest looks at none.
+    is_quiet: bool,
 }
 
 impl<P: OpenProcess + Drop> Children<P> {
@@ -119,6 +121,7 @@ impl<P: OpenProcess + Drop> Children<P> {
         Children {
             runs: BTreeMap::new(alloc),
             has_unsent: false,
+            is_quiet: false,
         }
     }
 
@@ -166,6 +169,7 @@ impl<P: OpenProcess + Drop> Children<P> {
         };
         let room = self.runs.insert(key, run);
         self.has_unsent = true;
+        self.is_quiet = false;
         let has_room = room.is_ok();
         drop(room);
         if !has_room {
@@ -223,9 +227,13 @@ impl<P: OpenProcess + Drop> Children<P> {
             return Err(io::Error::from(ErrorKind::NotFound));
         };
         let pid = run.pid().unwrap_or(0);
-        match run.ask() {
-            Ok(None) => shell.term(rt, pid),
-            Ok(Some(_)) => Ok(()),
+        let answer = run.ask();
+        if matches!(answer, Ok(None)) {
+            return shell.term(rt, pid);
+        }
+        self.is_quiet = false;
+        match answer {
+            Ok(_) => Ok(()),
             Err(_) => Err(io::Error::other(
                 "it can't be waited for, so its PID may be another process's",
             )),
@@ -244,9 +252,13 @@ impl<P: OpenProcess + Drop> Children<P> {
     /// run. It stays until it is polled. If the helper that reports exits has answered, only those are asked about whose exit
     /// it reported, and those that it does not know: then `asks_all` is false.
     pub(crate) fn over_from(&mut self, job: JobNo, asks_all: bool) -> Option<RunKey> {
+        if self.is_quiet && !asks_all {
+            return None;
+        }
         let mut next = (job, 0);
         for _ in 0..self.runs.len() {
             let Some(key) = self.asked_from(next, asks_all) else {
+                self.is_quiet = !asks_all && next == (0, 0);
                 return None;
             };
             if !matches!(self.poll(key), Ok(None)) {
@@ -268,7 +280,9 @@ impl<P: OpenProcess + Drop> Children<P> {
     }
 
     /// The helper reported that the job's child of this PID has exited. It says whether that is news of a child.
-    pub(crate) fn reported(&mut self, job: JobNo, pid: u32) -> bool {
+    pub(crate) fn reported(&mut self, job: JobNo, pid: u32) -> bool
+        ensures { result ≡ true → self.new.is_quiet ≡ false }
+    {
         let mut next = (job, 0);
         for _ in 0..self.runs.len() {
             let Some(key) = key_from(&self.runs, next) else {
@@ -282,6 +296,7 @@ impl<P: OpenProcess + Drop> Children<P> {
                 None => false,
             };
             if is_news {
+                self.is_quiet = false;
                 return true;
             }
             next = (job, key.1.saturating_add(1));
@@ -310,11 +325,14 @@ impl<P: OpenProcess + Drop> Children<P> {
     }
 
     /// The helper that knew children was given up: the next one knows none.
-    pub(crate) fn none_sent(&mut self) {
+    pub(crate) fn none_sent(&mut self)
+        ensures { self.new.is_quiet ≡ false }
+    {
         for run in self.runs.values_mut() {
             run.watch = unsent(run.watch);
         }
         self.has_unsent = true;
+        self.is_quiet = false;
     }
 
     /// Whether no run has a child.
@@ -322,12 +340,18 @@ impl<P: OpenProcess + Drop> Children<P> {
         self.runs.is_empty()
     }
 
-    /// How the run's child exited, if it did. It stays until it is removed.
-    pub(crate) fn poll(&mut self, key: RunKey) -> io::Result<Option<Ended>> {
-        let Some(run) = self.runs.get_mut(&key) else {
-            return Err(io::Error::from(ErrorKind::NotFound));
+    /// How the run's child exited, if it did. It stays until it is removed, and each pass asks about it.
+    pub(crate) fn poll(&mut self, key: RunKey) -> io::Result<Option<Ended>>
+        ensures exit { IfOk result (λ answer. IfSome answer (λ _. self.new.is_quiet ≡ false)) }
+        ensures refusal { OnErr result (self.new.is_quiet ≡ false) }
+    {
+        let answer = match self.runs.get_mut(&key) {
+            Some(run) => run.ask(),
+            None => Err(io::Error::from(ErrorKind::NotFound)),
         };
-        match run.ask() {
+        let is_running = matches!(answer, Ok(None));
+        self.is_quiet = self.is_quiet & is_running;
+        match answer {
             Ok(None) => Ok(None),
             Ok(Some(status)) => Ok(Some(end_of(status))),
             Err(error) => Err(error),
