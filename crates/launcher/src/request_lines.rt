@@ -7,6 +7,7 @@ ghost use Rattle.launcher.specs.JournaledLines.{load_line, set_line, setting_ask
 ghost use Rattle.launcher.specs.LoadTurns.{is_memory};
 
 use crate::journal::Journal;
+use crate::replies::is_want;
 use ctl_protocol::{LoadRequest, Outside, Request};
 use history_model::{Refusal, TextRef};
 use std::alloc::Global;
