@@ -200,7 +200,7 @@ fn tell(
     };
     let unknown = tell_unknown(host, alloc, path, standing, labels)?;
     match of.task {
-        ScopeTask::Why if !of.is_json => put_failed(host, alloc, of, path, standing)?,
+        ScopeTask::Why if !of.is_json => put_failed(host, alloc, of, path, standing, second)?,
         _ => {}
     }
     Ok(Statuses {
@@ -223,8 +223,9 @@ fn put_failed(
     of: &ScopeCommand,
     path: &str,
     standing: &StatusRead,
+    second: u64,
 ) -> io::Result<()> {
-    let failed = failed_in(alloc, standing, of.words.as_slice())?;
+    let failed = failed_in(alloc, standing, of.words.as_slice(), second)?;
     if !of.is_failing && !failed.is_empty() {
         put(host, "\n")?;
     }

@@ -1,9 +1,14 @@
 //! What is known of a job's runs, by a journal or by its launcher's file. The sentences and objects of both are made of it.
 
+ghost use Rattle.std.specs.Option.{option_map};
+ghost use Rattle.std.specs.Prelude.{◌≡◌, is_some};
+ghost use Rattle.status_page.specs.Failing.{is_refused_last, is_start_refused, last_end_in};
+ghost use Rattle.scope.specs.KnownFaults.{end_in, past_in};
+
 use history_model::{Ended, Reading, StandingChild};
-use run_log::{RefusedStart, RunFacts};
+use run_log::{RefusedStart, RunEnd, RunFacts};
 use status_file::JobNote;
-use status_page::{LastEnd, is_crash, last_end_of};
+use status_page::{LastEnd, PastRuns, is_crash, is_refused_last, last_end_of};
 
 /// How the last run ended.
 #[derive(Clone, Copy)]
@@ -41,7 +46,7 @@ pub(crate) struct KnownRuns<'a> {
     pub(crate) term: Option<Reading>,
     pub(crate) kill: Option<Reading>,
     pub(crate) last: Option<KnownEnd>,
-    /// The last start that was answered, if it was refused.
+    /// The last start that was refused, if no run began after it.
     pub(crate) refused: Option<RefusedStart<'a>>,
 }
 
@@ -53,7 +58,12 @@ impl<'a> KnownRuns<'a> {
         began: Option<Reading>,
         is_ordered: bool,
         is_lost: bool,
-    ) -> KnownRuns<'a> {
+    ) -> KnownRuns<'a>
+        ensures { is_some result.refused ≡ is_refused_last
+            (option_map (λ start. start.run) facts.entry.refused)
+            (option_map (λ end. end.run) facts.entry.last_end)
+            (is_some began) }
+    {
         let last = match facts.last_end {
             Some(end) => Some(KnownEnd {
                 how: end.how,
@@ -71,16 +81,15 @@ impl<'a> KnownRuns<'a> {
             term: facts.term,
             kill: facts.kill,
             last,
-            refused: if facts.is_refused {
-                facts.refused
-            } else {
-                None
-            },
+            refused: last_refused(facts.refused, facts.last_end, began.is_some()),
         }
     }
 
     /// By what the launcher's file says of the job, and of its child.
-    pub(crate) fn noted(note: &JobNote<'a>, child: Option<StandingChild>) -> KnownRuns<'a> {
+    pub(crate) fn noted(note: &JobNote<'a>, child: Option<StandingChild>) -> KnownRuns<'a>
+        ensures refused { is_some result.refused ≡ is_start_refused note.now (is_some child) }
+        ensures last { end_in result.last ≡ last_end_in note.now }
+    {
         let began = match child {
             Some(_) => Some(note.since),
             None => None,
@@ -93,10 +102,7 @@ impl<'a> KnownRuns<'a> {
             term: note.term,
             kill: note.kill,
             last: end_noted(note),
-            refused: match note.refused {
-                Some(start) if start.run == note.run => Some(start),
-                _ => None,
-            },
+            refused: last_refused(note.refused, note.last_end, child.is_some()),
         }
     }
 
@@ -108,27 +114,71 @@ impl<'a> KnownRuns<'a> {
         }
     }
 
-    /// How the last run ended.
-    pub(crate) fn last_end(&self) -> Option<LastEnd> {
-        match &self.last {
-            Some(end) => Some(LastEnd {
-                how: end.how,
-                is_ordered: end.is_ordered,
-            }),
-            None => None,
+    /// What says whether a job with this `ThrottleInterval` is failing.
+    pub(crate) fn past(&self, throttle: u32) -> PastRuns
+        ensures { result ≡ past_in self.now throttle }
+    {
+        PastRuns {
+            is_refused: self.refused.is_some(),
+            last: last_of(self.last),
+            began: up_of(self.began),
+            throttle,
         }
     }
 }
 
-fn end_noted(note: &JobNote<'_>) -> Option<KnownEnd> {
-    let end = note.last_end?;
-    let is_ordered = match last_end_of(note) {
-        Some(last) => last.is_ordered,
-        None => false,
+fn up_of(at: Option<Reading>) -> Option<u64>
+    ensures { result ≡ option_map (λ at. at.up) at }
+{
+    match at {
+        Some(at) => Some(at.up),
+        None => None,
+    }
+}
+
+fn last_of(end: Option<KnownEnd>) -> Option<LastEnd>
+    ensures { result ≡ end_in end }
+{
+    match end {
+        Some(end) => Some(LastEnd {
+            how: end.how,
+            is_ordered: end.is_ordered,
+        }),
+        None => None,
+    }
+}
+
+// The last start that was refused, if no run began after it.
+fn last_refused<'a>(
+    refused: Option<RefusedStart<'a>>,
+    ended: Option<RunEnd>,
+    is_running: bool,
+) -> Option<RefusedStart<'a>>
+    ensures { is_some result ≡ is_refused_last
+        (option_map (λ start. start.run) refused.entry)
+        (option_map (λ end. end.run) ended)
+        is_running }
+{
+    let start = refused?;
+    let ended = match ended {
+        Some(end) => Some(end.run),
+        None => None,
     };
+    if is_refused_last(Some(start.run), ended, is_running) {
+        Some(start)
+    } else {
+        None
+    }
+}
+
+fn end_noted(note: &JobNote<'_>) -> Option<KnownEnd>
+    ensures { end_in result ≡ last_end_in note.now }
+{
+    let end = note.last_end?;
+    let last = last_end_of(note)?;
     Some(KnownEnd {
-        how: end.how,
-        is_ordered,
+        how: last.how,
+        is_ordered: last.is_ordered,
         began: end.began,
         ended: end.ended,
     })

@@ -382,7 +382,7 @@ fn put_failed(
     of: &ScopeCommand,
     as_of: AsOf,
 ) -> io::Result<()> {
-    let failed = failed_runs(alloc, journal, of.words.as_slice())?;
+    let failed = failed_runs(alloc, journal, of.words.as_slice(), as_of)?;
     if !of.is_failing && !failed.is_empty() {
         put(host, "\n")?;
     }
@@ -630,7 +630,7 @@ fn failing_front(
     let mut writer = TextWriter::new(alloc);
     if count > 0 {
         writer.put(text.as_str());
-        for run in &failed_runs(alloc, journal, labels)? {
+        for run in &failed_runs(alloc, journal, labels, as_of)? {
             add_errors(&mut writer, run);
             writer.put("\n");
         }

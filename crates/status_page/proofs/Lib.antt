@@ -1,1 +1,2 @@
+mod FailingExamples
 mod RowsLemmas

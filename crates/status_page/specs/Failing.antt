@@ -1,15 +1,17 @@
--- Which jobs are reported as failing.
+-- Which runs failed, and which jobs are failing now.
 use Rattle.std.specs.Option.{option_map}
-use Rattle.std.specs.Prelude.{◌≡◌, ◌==◌, ℕ, Bool, true, false, ◌||◌, ◌&&◌, not, nat_lt, Option, Some, None, is_some}
+use Rattle.std.specs.Prelude.{◌≡◌, ◌==◌, ◌-◌, ◌*◌, ℕ, Bool, true, false, ◌||◌, ◌&&◌, not, nat_lt, nat_le, max, Option, Some, None, is_some}
 use Rattle.history_model.specs.declared.Ended.{Ended}
 use Rattle.history_model.specs.declared.Ended.TheVariants as ends
 use Rattle.history_model.specs.declared.reasons.Reasons.{Reasons}
-use Rattle.history_model.specs.Levels.{is_crash_end}
+use Rattle.history_model.specs.declared.TheConstants.{SECOND}
 use Rattle.history_model.specs.Reasons.{some_want}
 use Rattle.status_file.specs.declared.status.JobNote.{JobNote}
 use Rattle.status_page.specs.declared.failing.Fault.{Fault}
 use Rattle.status_page.specs.declared.failing.Fault.TheVariants as faults
 use Rattle.status_page.specs.declared.failing.LastEnd.{LastEnd}
+use Rattle.status_page.specs.declared.failing.PastRuns.{PastRuns}
+use Rattle.status_page.specs.declared.failing.TheConstants.{MINUTE, THROTTLES}
 
 -- How the last run of a job ended, by what its launcher knows of it. The end counts as ordered if a later start followed
 -- it, or if TERM or KILL was ordered.
@@ -18,37 +20,82 @@ last_end_in note =
     option_map (λ end. record { how = end.how; is_ordered = not (end.run == note.run) || is_some note.term || is_some note.kill })
     note.last_end
 
--- a run ended badly: with a code above 0, by a crash, or by a signal if its end was not ordered
-abbrev pub ends_badly : Bool → Ended → Bool
-ends_badly ordered (ends.Code code) = nat_lt 0 code
-ends_badly ordered (ends.Signal signal) =
-    is_crash_end ordered (ends.Signal signal) || not ordered
+-- ---- which runs failed
 
-abbrev pub ended_badly : LastEnd → Bool
-ended_badly last = ends_badly last.is_ordered last.how
+-- the launcher gave this signal: TERM (15) or KILL (9), or an unknown one (0), to a run that it ordered to end
+abbrev pub is_given : Bool → ℕ → Bool
+is_given ordered signal = ordered && (signal == 0 || (signal == 9 || signal == 15))
 
-abbrev pub has_ended_badly : Option LastEnd → Bool
-has_ended_badly None = false
-has_ended_badly (Some last) = ended_badly last
+-- a run failed: it exited with a code above 0, or by a signal that the launcher did not give
+abbrev pub is_failure : Bool → Ended → Bool
+is_failure ordered (ends.Code code) = nat_lt 0 code
+is_failure ordered (ends.Signal signal) = not (is_given ordered signal)
 
--- it has a run that is running: if the launcher has exited, it has none, whatever its file says
-abbrev pub has_run : Bool → Reasons → Bool
-has_run lives r = lives && is_some r.child
+abbrev pub has_failed : Option LastEnd → Bool
+has_failed None = false
+has_failed (Some last) = is_failure last.is_ordered last.how
 
--- it is to run: something wants it, or it ran
-abbrev pub is_to_run : Reasons → Bool
-is_to_run r = some_want r.wants || is_some r.child
+-- a start was refused, and no run began after it: the run that ended last is an earlier one, and none is running
+abbrev pub is_refused_last : Option ℕ → Option ℕ → Bool → Bool
+is_refused_last None ended running = false
+is_refused_last (Some run) None running = not running
+is_refused_last (Some run) (Some ended) running = nat_lt ended run && not running
 
--- its last start was refused, its last run ended badly, or it is to run and does not
-abbrev pub is_failing : Bool → Reasons → Bool → Option LastEnd → Bool
-is_failing lives r refused last =
-    refused || has_ended_badly last || (is_to_run r && not (has_run lives r))
+-- so by what its launcher knows of a job
+abbrev pub is_start_refused : JobNote → Bool → Bool
+is_start_refused note running =
+    is_refused_last (option_map (λ start. start.run) note.refused) (option_map (λ end. end.run) note.last_end) running
+
+-- ---- which jobs are failing now
+
+-- how many milliseconds a job has to run until a failure is over: ten throttles, and a minute at least
+abbrev pub recovery_time : ℕ → ℕ
+recovery_time throttle = max MINUTE (THROTTLES * (SECOND * throttle))
+
+-- its present run, which began at this `up`, has been running for so long
+abbrev pub has_recovered : Option ℕ → ℕ → ℕ → Bool
+has_recovered None throttle now = false
+has_recovered (Some began) throttle now = nat_le (recovery_time throttle) (now - began)
+
+-- the last start was refused, or the last run failed
+abbrev pub last_failed : PastRuns → Bool
+last_failed runs = runs.is_refused || has_failed runs.last
+
+-- it should run: something wants it, and a start can come of its load
+abbrev pub should_run : Reasons → Bool
+should_run r = some_want r.wants && not (r.is_removing || r.is_launch_spent || r.are_runs_spent)
+
+-- its throttle has been over for a minute
+abbrev pub is_late : Option ℕ → ℕ → Bool
+is_late None now = false
+is_late (Some until) now = nat_le MINUTE (now - until)
+
+-- its launcher does not run it: it has exited, or the start has been overdue for a minute
+abbrev pub is_left : Bool → Reasons → ℕ → Bool
+is_left lives r now = not lives || is_late r.throttled_until now
+
+-- it should run and does not, since its launcher does not run it
+abbrev pub does_not_run : Bool → Reasons → ℕ → Bool
+does_not_run lives r now = should_run r && not (is_some r.child) && is_left lives r now
+
+-- it ran under a launcher that has exited
+abbrev pub lost_its_launcher : Bool → Reasons → Bool
+lost_its_launcher lives r = not lives && is_some r.child
+
+-- Failing now: the last run failed or the last start was refused, and the job has not run since for as long as ten
+-- throttles. Or it should run and does not, since its launcher does not run it.
+abbrev pub is_failing : Bool → Reasons → PastRuns → ℕ → Bool
+is_failing lives r runs now =
+    (last_failed runs && not (has_recovered runs.began runs.throttle now))
+    || (lost_its_launcher lives r || does_not_run lives r now)
 
 -- what is reported of it holds
-abbrev pub FaultHolds : Bool → Reasons → Bool → Option LastEnd → Fault → Type 0
-FaultHolds lives r refused last faults.Refused = refused ≡ true
-FaultHolds lives r refused last (faults.Ended how) =
-    (end : LastEnd) × (last ≡ Some end) × (end.how ≡ how) × (ended_badly end ≡ true)
-FaultHolds lives r refused last faults.NotRunning = (some_want r.wants ≡ true) × (has_run lives r ≡ false)
-FaultHolds lives r refused last faults.LauncherGone = (lives ≡ false) × (is_some r.child ≡ true)
-FaultHolds lives r refused last (faults.Missed minute) = false ≡ true
+abbrev pub FaultHolds : Bool → Reasons → PastRuns → ℕ → Fault → Type 0
+FaultHolds lives r runs now faults.Refused =
+    (runs.is_refused ≡ true) × (has_recovered runs.began runs.throttle now ≡ false)
+FaultHolds lives r runs now (faults.Ended how) =
+    (end : LastEnd) × (runs.last ≡ Some end) × (end.how ≡ how) × (is_failure end.is_ordered end.how ≡ true)
+    × (has_recovered runs.began runs.throttle now ≡ false)
+FaultHolds lives r runs now faults.NotRunning = does_not_run lives r now ≡ true
+FaultHolds lives r runs now faults.LauncherGone = lost_its_launcher lives r ≡ true
+FaultHolds lives r runs now (faults.Missed minute) = false ≡ true

@@ -1,15 +1,21 @@
-//! Which jobs are reported as failing: those that are wanted and do not run, whose last start was refused, or whose last end was a failure or a
-//! crash.
+//! Which runs failed, and which jobs are reported as failing: those whose last start was refused or whose last run failed, until they ran for long
+//! enough since. Also those that should run and do not, since their launcher does not run them.
 
-ghost use Rattle.std.specs.Prelude.{◌≡◌, is_some, IfSome};
+ghost use Rattle.std.specs.Prelude.{◌≡◌, ◌-◌, is_some, nat_le, IfSome};
 ghost use Rattle.history_model.specs.Levels.{is_crash_end};
-ghost use Rattle.status_page.specs.Failing.{ended_badly, is_failing, last_end_in, FaultHolds};
+ghost use Rattle.status_page.specs.Failing.{does_not_run, has_failed, has_recovered, is_failing, is_failure, is_given, is_late, is_refused_last, is_start_refused, last_end_in, recovery_time, should_run, FaultHolds};
 
 use crate::clocks::is_wanted;
-use history_model::{Ended, Reading, Reasons};
+use history_model::{Ended, Reading, Reasons, SECOND};
 use run_times::Filling::{Number, Text, Time};
 use run_times::Page;
 use status_file::JobNote;
+
+/// How many milliseconds a job has to run at least until a failure is over, and how long a start is overdue until its launcher counts as not running it.
+pub const MINUTE: u64 = 60_000;
+
+/// How many throttles a job has to run at least until a failure is over.
+pub const THROTTLES: u64 = 10;
 
 /// How the last run of a job ended, and whether its end had been ordered, as far as that is known. If another run came after it, its end counts as
 /// ordered.
@@ -19,6 +25,19 @@ pub struct LastEnd {
     pub is_ordered: bool,
 }
 
+/// What is known of the runs of a job's load, as far as it says whether the job is failing.
+#[derive(Clone, Copy)]
+pub struct PastRuns {
+    /// Whether its last start was refused: no run began after it.
+    pub is_refused: bool,
+    /// How its last run ended.
+    pub last: Option<LastEnd>,
+    /// At which `up` its present run began, if one is running.
+    pub began: Option<u64>,
+    /// Its `ThrottleInterval`, in seconds.
+    pub throttle: u32,
+}
+
 /// Why a job is reported as failing.
 #[derive(Clone, Copy)]
 pub enum Fault {
@@ -26,7 +45,7 @@ pub enum Fault {
     Refused,
     /// Its last run ended so.
     Ended(Ended),
-    /// It is wanted, and it has no run.
+    /// It should run, and its launcher has exited or does not start it.
     NotRunning,
     /// It ran under a launcher that has exited.
     LauncherGone,
@@ -46,46 +65,128 @@ pub fn is_crash(how: Ended, is_ordered_to_end: bool) -> bool
     }
 }
 
-fn is_bad(last: LastEnd) -> bool
-    ensures { result ≡ ended_badly last }
+/// Whether a run failed: it exited with a code above 0, or by a signal that the launcher did not give. The launcher gives TERM and KILL, if it ordered
+/// the run to end.
+pub fn is_failure(how: Ended, is_ordered_to_end: bool) -> bool
+    ensures { result ≡ is_failure is_ordered_to_end how }
 {
-    match last.how {
+    match how {
         Ended::Code(code) => code > 0,
-        how => is_crash(how, last.is_ordered) || !last.is_ordered,
+        Ended::Signal(signal) => !is_given(is_ordered_to_end, signal),
     }
 }
 
-/// Why a job is reported as failing, if it is: by its reasons, whether its last start was refused, and how its last run ended.
-pub fn fault_of(
-    may_live: bool,
-    reasons: &Reasons,
-    is_refused: bool,
-    last: Option<LastEnd>,
-) -> Option<Fault>
-    ensures exactly { is_some result ≡ is_failing may_live reasons.now is_refused last }
-    ensures so { IfSome result (λ fault. FaultHolds may_live reasons.now is_refused last fault) }
+// Whether the launcher gave the signal. One that is not known counts as given to a run that was ordered to end.
+fn is_given(is_ordered_to_end: bool, signal: u8) -> bool
+    ensures { result ≡ is_given is_ordered_to_end signal }
 {
-    if is_refused {
+    is_ordered_to_end && (signal == 0 || signal == 9 || signal == 15)
+}
+
+/// Whether the last run failed.
+pub fn has_failed(last: Option<LastEnd>) -> bool
+    ensures { result ≡ has_failed last }
+{
+    match last {
+        Some(last) => is_failure(last.how, last.is_ordered),
+        None => false,
+    }
+}
+
+/// Whether the last start was refused, by the run whose start was refused last, the run that ended last, and whether one is running: no run began after
+/// it.
+pub fn is_refused_last(refused: Option<u64>, ended: Option<u64>, is_running: bool) -> bool
+    ensures { result ≡ is_refused_last refused ended is_running }
+{
+    match (refused, ended) {
+        (Some(run), Some(ended)) => ended < run && !is_running,
+        (Some(_), None) => !is_running,
+        (None, _) => false,
+    }
+}
+
+// How many milliseconds a job has to run until a failure is over.
+fn recovery_time(throttle: u32) -> u64
+    ensures { result ≡ recovery_time throttle }
+{
+    let throttles = THROTTLES * (SECOND * u64::from(throttle));
+    MINUTE.max(throttles)
+}
+
+// Whether its present run has been running for so long.
+fn has_recovered(began: Option<u64>, throttle: u32, now: u64) -> bool
+    ensures { result ≡ has_recovered began throttle now }
+{
+    match began {
+        Some(began) => is_past(began, recovery_time(throttle), now),
+        None => false,
+    }
+}
+
+// Whether this many milliseconds or more passed since then.
+fn is_past(then: u64, length: u64, now: u64) -> bool
+    ensures { result ≡ nat_le length (now - then) }
+{
+    now.saturating_sub(then) >= length
+}
+
+// Whether it should run: something wants it, and a start can come of its load.
+fn should_run(reasons: &Reasons) -> bool
+    ensures { result ≡ should_run reasons.now }
+{
+    is_wanted(&reasons.wants)
+        && !(reasons.is_removing || reasons.is_launch_spent || reasons.are_runs_spent)
+}
+
+fn is_late(throttled_until: Option<u64>, now: u64) -> bool
+    ensures { result ≡ is_late throttled_until now }
+{
+    match throttled_until {
+        Some(until) => is_past(until, MINUTE, now),
+        None => false,
+    }
+}
+
+// Whether it should run and does not, since its launcher does not run it.
+fn does_not_run(may_live: bool, reasons: &Reasons, now: u64) -> bool
+    ensures { result ≡ does_not_run may_live reasons.now now }
+{
+    let is_left = !may_live || is_late(reasons.throttled_until, now);
+    should_run(reasons) && reasons.child.is_none() && is_left
+}
+
+/// Why a job is reported as failing at this `up`, if it is: by its reasons, and by what is known of its runs.
+pub fn fault_of(may_live: bool, reasons: &Reasons, runs: PastRuns, now: u64) -> Option<Fault>
+    ensures exactly { is_some result ≡ is_failing may_live reasons.now runs now }
+    ensures so { IfSome result (λ fault. FaultHolds may_live reasons.now runs now fault) }
+{
+    let is_over = has_recovered(runs.began, runs.throttle, now);
+    if runs.is_refused && !is_over {
         return Some(Fault::Refused);
     }
-    if let Some(last) = last {
-        if is_bad(last) {
-            return Some(Fault::Ended(last.how));
+    match runs.last {
+        Some(last) if is_failure(last.how, last.is_ordered) && !is_over => {
+            Some(Fault::Ended(last.how))
         }
+        _ if !may_live && reasons.child.is_some() => Some(Fault::LauncherGone),
+        _ if does_not_run(may_live, reasons, now) => Some(Fault::NotRunning),
+        _ => None,
     }
-    let has_child = reasons.child.is_some();
-    if has_child {
-        return if may_live {
-            None
-        } else {
-            Some(Fault::LauncherGone)
-        };
-    }
-    if is_wanted(&reasons.wants) {
-        Some(Fault::NotRunning)
-    } else {
-        None
-    }
+}
+
+/// Whether the last start of a job was refused, by what its launcher knows of it and whether a run of it is running.
+pub fn is_start_refused(note: &JobNote<'_>, is_running: bool) -> bool
+    ensures { result ≡ is_start_refused note.now is_running }
+{
+    let refused = match &note.refused {
+        Some(start) => Some(start.run),
+        None => None,
+    };
+    let ended = match &note.last_end {
+        Some(end) => Some(end.run),
+        None => None,
+    };
+    is_refused_last(refused, ended, is_running)
 }
 
 /// How the last run of a job ended, by what its launcher knows of it. The end counts as ordered if a later start followed it, or if TERM or

@@ -25,7 +25,10 @@ pub use clocks::{
     FARTHEST, StartWhen, can_start_again, gone_on, is_wanted, start_when, within_limits,
 };
 pub use counts::{RunCount, RunCounts};
-pub use failing::{Failing, Fault, LastEnd, add_failing, fault_of, is_crash, last_end_of};
+pub use failing::{
+    Failing, Fault, LastEnd, PastRuns, add_failing, fault_of, is_crash, is_failure,
+    is_refused_last, is_start_refused, last_end_of,
+};
 pub use head::add_head;
 pub use left_out::{add_left_out, is_told};
 pub use passed::{Down, passed_minute};

@@ -1,11 +1,13 @@
 //! What the table says of each job, as plain data.
 
-ghost use Rattle.std.specs.Prelude.{◌-◌, ◌≡◌, ◌≤◌};
+ghost use Rattle.std.specs.Prelude.{◌-◌, ◌≡◌, ◌≤◌, is_some};
 ghost use Rattle.history_model.specs.declared.TheConstants.{MAX_UP, MAX_WALL};
 ghost use Rattle.calendar_due.specs.ZoneRules.{minute_at};
+ghost use Rattle.status_page.specs.Failing.{has_failed, is_start_refused, last_end_in};
 ghost use Rattle.status_page.specs.Rows.{last_refused, last_shown, process_shown, state_shown, state_word, EndsThrottle, TellsNext};
 
 use crate::clocks::{StartWhen, can_start_again, start_when};
+use crate::failing::{has_failed, is_start_refused, last_end_of};
 use crate::throttles::{ThrottleEnd, throttle_by, throttle_end};
 use crate::usage::Usage;
 use calendar_due::Zone;
@@ -51,6 +53,8 @@ pub struct StatusRow<'a> {
     pub throttle: Option<ThrottleEnd>,
     /// Whether its last start was refused.
     pub is_refused: bool,
+    /// Whether its last run failed.
+    pub has_failed: bool,
     /// What its process takes, where that was looked at.
     pub usage: Option<Usage>,
 }
@@ -76,6 +80,8 @@ pub fn row_of<'a>(
     ensures refusals { result.refusals ≡ job.now.note.refusals }
     ensures next { TellsNext may_live (minute_at zone.now) job.now.facts entries.now at second result.next }
     ensures throttle { EndsThrottle job.now at result.throttle }
+    ensures refused { result.is_refused ≡ is_start_refused job.now.note (is_some job.now.facts.reasons.child) }
+    ensures failed { result.has_failed ≡ has_failed (last_end_in job.now.note) }
 {
     let reasons = &job.facts.reasons;
     StatusRow {
@@ -89,7 +95,8 @@ pub fn row_of<'a>(
         refusals: job.note.refusals,
         next: next_of(job, entries, zone, may_live, at, second),
         throttle: throttle_of(job, at),
-        is_refused: last_refused(&job.note).is_some(),
+        is_refused: is_start_refused(&job.note, reasons.child.is_some()),
+        has_failed: has_failed(last_end_of(&job.note)),
         usage: None,
     }
 }

@@ -503,12 +503,12 @@ fn digits_of(number: u64) -> usize {
     digits
 }
 
-// Green of what runs, yellow of what is on its way, red of what failed last; nothing of the others.
+// Green of what runs, yellow of what is on its way, red of what failed last or was refused; nothing of the others.
 fn colour_of(row: &StatusRow<'_>) -> &'static str {
-    match (row.state, row.last) {
+    match (row.state, row.is_refused || row.has_failed) {
         (ShownState::Is(JobState::Running), _) => "\x1b[32m",
-        (ShownState::Is(JobState::Idle), Some(Ended::Code(0)) | None) => "",
-        (ShownState::Is(JobState::Idle), Some(_)) => "\x1b[31m",
+        (ShownState::Is(JobState::Idle), false) => "",
+        (ShownState::Is(JobState::Idle), true) => "\x1b[31m",
         (ShownState::Is(_), _) => "\x1b[33m",
         (ShownState::Unknown, _) => "\x1b[31m",
     }

@@ -8,7 +8,7 @@ use history_model::{Answer, DemandKind, Ended, JobItem, Reading, SECOND};
 use job_defs::Def;
 use pace::Signal;
 use run_log::{RunItem, RunLog};
-use status_page::is_crash;
+use status_page::{is_crash, is_failure};
 
 /// After this many exits with code 0, each within a second of its begin, `why` asks whether the program puts itself in the background.
 const QUICK_ENDS: u64 = 3;
@@ -42,6 +42,8 @@ pub(crate) struct Totals {
     pub(crate) nonzero: u64,
     /// Runs that ended by a crash; each is among the signals.
     pub(crate) crashes: u64,
+    /// Runs that failed: with a code above 0, or by a signal that the launcher did not give.
+    pub(crate) failed: u64,
     /// How long its completed runs ran, in all.
     pub(crate) lived: u64,
     /// The time that loads which are over lasted.
@@ -61,6 +63,7 @@ const NOTHING: Totals = Totals {
     nonzero: 0,
     signals: 0,
     crashes: 0,
+    failed: 0,
     lived: 0,
     loaded: 0,
     gap: 0,
@@ -314,6 +317,8 @@ impl Record {
         if run.is_crash {
             totals.crashes = totals.crashes.saturating_add(1);
         }
+        let has_failed = is_failure(how, run.is_ordered_to_end);
+        totals.failed = totals.failed.saturating_add(u64::from(has_failed));
         let lived = run.lived(at);
         let begun = run.begun.up.max(self.counted.up);
         totals.lived = totals.lived.saturating_add(at.up.saturating_sub(begun));

@@ -58,6 +58,7 @@ fn put_job(page: &mut Page<'_>, lengths: &[(u64, u64)], label: &str, job: &KeptJ
         Field("up_ms", Number(totals.lived)),
         Field("loaded_ms", Number(totals.loaded)),
         Field("gap_ms", Number(totals.gap)),
+        Field("failed", Number(totals.failed)),
     ];
     put_line(page, "label", label, &fields);
 }

@@ -11,15 +11,15 @@ use crate::objects::job::{
 use crate::objects::left::put_left;
 use crate::objects::left_out::put_left_out;
 use crate::objects::lines::{moment_of, text_of};
-use crate::texts::failing::job_fault;
+use crate::texts::failing::{LauncherNow, job_fault};
 use crate::texts::since::start_second;
-use crate::texts::standing::{disabled_at, is_failed_run, line_fault, told_of};
+use crate::texts::standing::{disabled_at, is_failed_run, launcher_now, line_fault, told_of};
 use crate::texts::told::ToldJob;
 use crate::texts::why::{asked_labels, throttle_shown, told_job};
 use calendar_due::Zone;
 use history_model::{Entry, Reading};
 use json_lines::Value;
-use json_lines::Value::{Absent, Json, Moment, Text};
+use json_lines::Value::{Absent, Json, Moment};
 use launchctl_words::ScopeCommand;
 use leftovers::RunProcess;
 use run_times::Page;
@@ -74,7 +74,11 @@ fn put_known(
         }
         return false;
     };
-    let fault = job_fault(journal, job, &facts, around.may_live);
+    let now = LauncherNow {
+        may_live: around.may_live,
+        up: clock.up,
+    };
+    let fault = job_fault(journal, job, &facts, now);
     if fault.is_some() || !is_failing {
         let mut beside = Beside {
             state: "unknown",
@@ -190,11 +194,12 @@ fn objects_in(
     let mut page = Page::new(alloc, &shown, told_as_of(standing, last, second));
     let around = around_file(standing.seen, last);
     let clock = gone_on(last, second);
+    let now = launcher_now(standing, second);
     let mut count: u64 = 0;
     for line in standing.jobs() {
         if let Ok(job) = line.job() {
             if is_asked(of.words.as_slice(), job.label) {
-                let fault = line_fault(alloc, standing, line, &job, zone)?;
+                let fault = line_fault(alloc, standing, line, &job, zone, now)?;
                 if fault.is_some() || !of.is_failing {
                     let beside = Beside {
                         state: "unknown",
@@ -290,12 +295,10 @@ fn errors_of(fault: Option<Fault>, errors: Option<&str>) -> Value<'_> {
 
 // What the system said of the last start, if it refused that.
 fn reason_of<'a>(job: &JobStatus<'a>) -> Value<'a> {
-    match job.note.refused {
-        Some(start) if start.run == job.note.run => match start.reason {
-            Some(reason) => Text(reason),
-            None => Absent,
-        },
-        _ => Absent,
+    let runs = KnownRuns::noted(&job.note, job.facts.reasons.child);
+    match runs.refused {
+        Some(start) => text_of(start.reason),
+        None => Absent,
     }
 }
 

@@ -1,13 +1,17 @@
-//! Which jobs of a journal fail.
+//! Which jobs of a journal fail, and by which rule jobs of a journal and of a file do.
 
-use crate::age::{AsOf, add_head, reading_as_of};
+ghost use Rattle.std.specs.Prelude.{◌≡◌, is_some, IfSome};
+ghost use Rattle.status_page.specs.Failing.{is_failing, FaultHolds};
+ghost use Rattle.scope.specs.KnownFaults.{past_in};
+
+use crate::age::{AsOf, add_head, clock_as_of, reading_as_of};
 use crate::errors::FailedRun;
 use crate::journal::job::KeptJob;
 use crate::journal::reader::OpenJournal;
 use crate::known_runs::KnownRuns;
 use crate::texts::standing::{is_failed_run, missed_fault};
 use calendar_due::Zone;
-use history_model::Text;
+use history_model::{Reading, Text};
 use run_times::Page;
 use status_file::JobFacts;
 use status_page::{Failing, Fault, add_failing, fault_of, is_asked, passed_minute};
@@ -24,11 +28,11 @@ pub(crate) fn failing_text(
     let last = journal.table.reading();
     let mut page = Page::new(alloc, zone, reading_as_of(as_of, last));
     add_head(&mut page, as_of, last);
-    let may_live = as_of.may_live();
+    let seen = LauncherNow::of(as_of, last);
     let mut count: u64 = 0;
     for (label, job) in &journal.past.jobs {
         let label = label.as_str();
-        if is_asked(labels, label) && add_if_failing(&mut page, journal, label, job, may_live) {
+        if is_asked(labels, label) && add_if_failing(&mut page, journal, label, job, seen) {
             count = count.saturating_add(1);
         }
     }
@@ -38,18 +42,37 @@ pub(crate) fn failing_text(
     }
 }
 
+/// As of when it is asked which jobs fail.
+#[derive(Clone, Copy)]
+pub(crate) struct LauncherNow {
+    /// Whether the launcher may be running then.
+    pub(crate) may_live: bool,
+    /// The `up` of its clock, if it went on since.
+    pub(crate) up: u64,
+}
+
+impl LauncherNow {
+    /// Of a journal that is reported as of then, if `last` is the clock reading of its last event.
+    pub(crate) fn of(as_of: AsOf, last: Reading) -> LauncherNow {
+        LauncherNow {
+            may_live: as_of.may_live(),
+            up: clock_as_of(as_of, last).up,
+        }
+    }
+}
+
 fn add_if_failing(
     page: &mut Page<'_>,
     journal: &OpenJournal,
     label: &str,
     job: &KeptJob,
-    may_live: bool,
+    now: LauncherNow,
 ) -> bool {
     let Some(facts) = journal.facts(label) else {
         return false;
     };
     let runs = job.record.known();
-    let Some(fault) = job_fault(journal, job, &facts, may_live) else {
+    let Some(fault) = job_fault(journal, job, &facts, now) else {
         return false;
     };
     let ended = match &runs.last {
@@ -74,7 +97,10 @@ pub(crate) fn failed_runs<'a>(
     alloc: Global,
     journal: &'a OpenJournal,
     labels: &[Text],
+    as_of: AsOf,
 ) -> Result<Vec<FailedRun<'a>>, AllocError> {
+    let up = clock_as_of(as_of, journal.table.reading()).up;
+    let now = LauncherNow { may_live: true, up };
     let mut failed = Vec::new(alloc);
     for (label, job) in &journal.past.jobs {
         let label = label.as_str();
@@ -83,7 +109,8 @@ pub(crate) fn failed_runs<'a>(
             journal.facts(label),
             is_asked(labels, label),
         ) {
-            if is_failed_run(fault_in(&facts, &job.record.known(), true)) {
+            let throttle = def.throttle_interval();
+            if is_failed_run(fault_in(&facts, &job.record.known(), throttle, now)) {
                 failed.push(FailedRun {
                     label,
                     errors: def.standard_error_path(),
@@ -100,9 +127,13 @@ pub(crate) fn job_fault(
     journal: &OpenJournal,
     job: &KeptJob,
     facts: &JobFacts<'_>,
-    may_live: bool,
+    now: LauncherNow,
 ) -> Option<Fault> {
-    match fault_in(facts, &job.record.known(), may_live) {
+    let throttle = match &job.def {
+        Some(def) => def.throttle_interval(),
+        None => 0,
+    };
+    match fault_in(facts, &job.record.known(), throttle, now) {
         Some(fault) => Some(fault),
         None => missed_fault(missed_by(journal, job)),
     }
@@ -120,12 +151,16 @@ pub(crate) fn missed_by(journal: &OpenJournal, job: &KeptJob) -> Option<u64> {
     )
 }
 
-// Why a job is reported as failing, if it is, by what is kept of its past.
-fn fault_in(facts: &JobFacts<'_>, runs: &KnownRuns<'_>, may_live: bool) -> Option<Fault> {
-    fault_of(
-        may_live,
-        &facts.reasons,
-        runs.refused.is_some(),
-        runs.last_end(),
-    )
+/// Why a job with this `ThrottleInterval` is reported as failing, if it is, by its facts and by what is known of its runs. Of a journal and of a file
+/// this decides.
+pub(crate) fn fault_in(
+    facts: &JobFacts<'_>,
+    runs: &KnownRuns<'_>,
+    throttle: u32,
+    now: LauncherNow,
+) -> Option<Fault>
+    ensures exactly { is_some result ≡ is_failing now.may_live facts.now.reasons (past_in runs.now throttle) now.up }
+    ensures so { IfSome result (λ fault. FaultHolds now.may_live facts.now.reasons (past_in runs.now throttle) now.up fault) }
+{
+    fault_of(now.may_live, &facts.reasons, runs.past(throttle), now.up)
 }

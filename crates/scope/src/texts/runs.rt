@@ -8,13 +8,13 @@ use run_times::{Piece, TextWriter};
 use std::alloc::{AllocError, Global};
 
 const HEAD: &str =
-    "label\tstarts\trefused\tcode\tsignal\tcrashes\tshortest\tmedian\tlongest\tup\tgap\tnonzero\n";
+    "label\tstarts\trefused\tcode\tsignal\tcrashes\tshortest\tmedian\tlongest\tup\tgap\tnonzero\tfailed\n";
 
 /// A head, and a line for each job, or for each of the named ones that the journal has. Its first columns are starts, refused starts, exits
 /// with a code and by a signal, and crashes. Then come the shortest, median and longest run in seconds. The median is that of the completed
 /// runs that are kept; of an even number it is the lower of the two in the middle. Then come the share of the time that the job was up
-/// while it was loaded, and the longest time without a run in seconds. The last column is the exits with a code above 0. `-` means that
-/// there is no value.
+/// while it was loaded, and the longest time without a run in seconds. Then come the exits with a code above 0. The last column counts the
+/// runs that failed. `-` means that there is no value.
 pub(crate) fn runs_table(
     alloc: Global,
     past: &Past,
@@ -91,6 +91,8 @@ fn add_row(
     writer.put_all(&[
         Piece::Text("\t"),
         Piece::Number(totals.nonzero),
+        Piece::Text("\t"),
+        Piece::Number(totals.failed),
         Piece::Text("\n"),
     ]);
 }

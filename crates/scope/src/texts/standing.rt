@@ -8,6 +8,7 @@ use crate::errors::FailedRun;
 use crate::journal::labels::{KnownLabel, KnownLabels};
 use crate::known_runs::KnownRuns;
 use crate::texts::coming::calendar_next;
+use crate::texts::failing::{LauncherNow, fault_in};
 use crate::texts::since::add_coming;
 use crate::texts::told::ToldJob;
 use crate::texts::why::{
@@ -20,8 +21,8 @@ use run_times::Filling::{Number, Text, Time};
 use run_times::Page;
 use status_file::{DisabledBy, JobNote, JobStatus, StatusLine};
 use status_page::{
-    Down, Failing, Fault, StatusRead, add_failing, add_head, add_left_out, fault_of, gone_on,
-    is_asked, last_end_of, passed_minute, reading_of, told_as_of, within_limits,
+    Down, Failing, Fault, StatusRead, add_failing, add_head, add_left_out, gone_on, is_asked,
+    passed_minute, reading_of, told_as_of, within_limits,
 };
 use std::alloc::{AllocError, Global};
 
@@ -321,11 +322,12 @@ fn failing_by(
     let last = reading_of(standing);
     let mut page = Page::new(alloc, &shown, told_as_of(standing, last, second));
     add_head(&mut page, standing, second);
+    let now = launcher_now(standing, second);
     let mut count: u64 = 0;
     for line in standing.jobs() {
         if let Ok(job) = line.job() {
             if is_asked(labels, job.label)
-                && add_if_failing(&mut page, standing, line, &job, zone)
+                && add_if_failing(&mut page, standing, line, &job, zone, now)
             {
                 count = count.saturating_add(1);
             }
@@ -347,13 +349,14 @@ fn add_if_failing(
     line: &StatusLine,
     job: &JobStatus<'_>,
     zone: &Zone,
+    now: LauncherNow,
 ) -> bool {
-    let note = &job.note;
-    let (refused, reason) = match &note.refused {
-        Some(start) if start.run == note.run => (Some(start.at), start.reason),
-        _ => (None, None),
+    let runs = KnownRuns::noted(&job.note, job.facts.reasons.child);
+    let reason = match &runs.refused {
+        Some(start) => start.reason,
+        None => None,
     };
-    let fault = match line_fault(page.alloc, standing, line, job, zone) {
+    let fault = match line_fault(page.alloc, standing, line, job, zone, now) {
         Ok(Some(fault)) => fault,
         Ok(None) => return false,
         Err(_) => {
@@ -361,7 +364,7 @@ fn add_if_failing(
             return false;
         }
     };
-    let ended = match note.last_end {
+    let ended = match job.note.last_end {
         Some(end) => Some(end.ended),
         None => None,
     };
@@ -370,7 +373,7 @@ fn add_if_failing(
         &Failing {
             label: job.label,
             fault,
-            refused,
+            refused: runs.refused_at(),
             reason,
             ended,
         },
@@ -385,8 +388,9 @@ pub(crate) fn line_fault(
     line: &StatusLine,
     job: &JobStatus<'_>,
     zone: &Zone,
+    now: LauncherNow,
 ) -> Result<Option<Fault>, AllocError> {
-    let fault = file_fault(job, standing.may_live());
+    let fault = file_fault(job, now);
     if fault.is_some() || standing.boot.down.is_none() {
         return Ok(fault);
     }
@@ -397,6 +401,14 @@ pub(crate) fn line_fault(
             Ok(missed_fault(minute))
         }
         Err(_) => Err(AllocError),
+    }
+}
+
+/// Whether the launcher of a file may be running at a second, and the `up` of its clock then.
+pub(crate) fn launcher_now(standing: &StatusRead, second: u64) -> LauncherNow {
+    LauncherNow {
+        may_live: standing.may_live(),
+        up: gone_on(reading_of(standing), second).up,
     }
 }
 
@@ -413,12 +425,14 @@ pub(crate) fn failed_in<'a>(
     alloc: Global,
     standing: &'a StatusRead,
     labels: &[history_model::Text],
+    second: u64,
 ) -> Result<Vec<FailedRun<'a>>, AllocError> {
+    let now = launcher_now(standing, second);
     let mut failed = Vec::new(alloc);
     for line in standing.jobs() {
         if let Ok(job) = line.job() {
             let is_told = job.keys.knows_errors && is_asked(labels, job.label);
-            if is_told && is_failed_run(file_fault(&job, standing.may_live())) {
+            if is_told && is_failed_run(file_fault(&job, now)) {
                 failed.push(FailedRun {
                     label: job.label,
                     errors: job.keys.errors,
@@ -439,11 +453,7 @@ pub(crate) fn is_failed_run(fault: Option<Fault>) -> bool {
 }
 
 // Why a job of a file is reported as failing, if it is, by its runs.
-fn file_fault(job: &JobStatus<'_>, may_live: bool) -> Option<Fault> {
-    let note = &job.note;
-    let is_refused = match &note.refused {
-        Some(start) => start.run == note.run,
-        None => false,
-    };
-    fault_of(may_live, &job.facts.reasons, is_refused, last_end_of(note))
+fn file_fault(job: &JobStatus<'_>, now: LauncherNow) -> Option<Fault> {
+    let runs = KnownRuns::noted(&job.note, job.facts.reasons.child);
+    fault_in(&job.facts, &runs, job.keys.throttle_interval, now)
 }
