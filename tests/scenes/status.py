@@ -740,11 +740,12 @@ def why_and_status_of_now(stage):
         shell_job("waits", "exec sleep 600", KeepAlive={"PathState": {flag: True}}),
         shell_job("crashed", "kill -SEGV $$", RunAtLoad=True),
         shell_job("stopped", "exec sleep 600", RunAtLoad=True),
-        shell_job("spent", "exit 0", RunAtLoad=True, LaunchOnlyOnce=True),
+        shell_job("spent", "exit 0", KeepAlive=True, LaunchOnlyOnce=True),
+        shell_job("halted", "exec sleep 600", KeepAlive=True, ThrottleInterval=600),
         shell_job("disabled", "exec sleep 600", RunAtLoad=True),
     ):
         launcher.load(definition)
-    comes_to_say(stage, path, "runs", "runs is running.", "It is wanted: KeepAlive is true.")
+    comes_to_say(stage, path, "runs", "runs is running.", "It is wanted: KeepAlive is true.\n  When it exits, it starts again")
     comes_to_say(stage, path, "refused", "was refused, at ", f": {MISSING}.", "It is wanted: it starts at its load (RunAtLoad is true).")
     comes_to_say(stage, path, "throttled", "It is throttled until ", "ThrottleInterval is 600.", "Its last run exited with code 3", "It starts at ")
     comes_to_say(stage, path, "waits", f"once {flag} exists (KeepAlive PathState)")
@@ -755,19 +756,24 @@ def why_and_status_of_now(stage):
     job_where(path, "stopped", lambda job: job["state"] == "running")
     launcher.ask({"req": "stop", "job": "stopped"})
     comes_to_say(stage, path, "stopped", "Its last run was killed by signal 15, ", "Nothing wants it.")
+    job_where(path, "halted", lambda job: job["state"] == "running")
+    launcher.ask({"req": "stop", "job": "halted"})
+    comes_to_say(stage, path, "halted", "Its last run was killed by signal 15, ", "It is throttled until ", "It is wanted: KeepAlive is true.")
 
     rows = cells(stage, path)
     check(rows["runs"][1:3] == ["running", str(told(path)[1]["runs"]["pid"])] and rows["runs"][-1] == "-", f"of runs: {rows['runs']}")
     check(rows["waits"][1:3] == ["idle", "-"] and rows["waits"][-2:] == ["a", "path"], f"of waits: {rows['waits']}")
     check(rows["spent"][-2:] == ["a", "load"] and rows["crashed"][4:6] == ["signal", "11"], f"{rows['spent']}, {rows['crashed']}")
-    check(len(rows) == 8, f"it has {len(rows)} rows")
-    status, text, _ = asked(stage, path, "why", "--failing")
-    failing = [line.partition(":")[0] for line in text.splitlines() if ": its last " in line or ": it is wanted" in line]
-    check(status == 2 and failing == ["crashed", "refused", "throttled"], f"failing are {failing}, with status {status}: {text}")
+    check(len(rows) == 9, f"it has {len(rows)} rows")
+    # Neither a job that was stopped and waits for its throttle, nor one that was to run once.
+    for source in ([], ["--journal", stage.at("journal")]):
+        status, text, _ = asked(stage, path, "why", "--failing", *source)
+        failing = [line.partition(":")[0] for line in text.splitlines() if ": its last " in line or ": it is wanted" in line]
+        check(status == 2 and failing == ["crashed", "refused", "throttled"], f"failing by {source} are {failing}, with status {status}: {text}")
     status, text, error = asked(stage, path, "why", "run")
     check(status == 65 and "nothing here names run; near it: runs" in error, f"of a label that is not there: {status}, {error!r}")
     coming, error = starting(stage, path)
-    check(coming - {"refused"} == {"throttled"} and " of 8 have no schedule" in error, f"coming starts are {coming}, and told is {error!r}")
+    check(coming - {"refused"} == {"halted", "throttled"} and not error, f"coming starts are {coming}, and told is {error!r}")
 
     pids = [job["pid"] for job in told(path)[1].values() if job["pid"]]
     launcher.kill()

@@ -5,3 +5,4 @@ pub mod ReceivingLemmas
 pub mod LineLemmas
 pub mod ObjectsLemmas
 pub mod ReadingLemmas
+mod ShownLemmas

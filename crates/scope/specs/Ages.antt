@@ -1,6 +1,7 @@
 -- What the clocks make due after a last event.
-use Rattle.std.specs.Prelude.{◌≡◌, ℕ, nat_le, Bool, true, false, Option, Some, None, if◌then◌else◌}
+use Rattle.std.specs.Prelude.{◌≡◌, ◌-◌, ℕ, nat_le, nat_lt, Bool, true, false, Option, Some, None, if◌then◌else◌}
 use Rattle.history_model.specs.declared.reasons.Reasons.{Reasons}
+use Rattle.scope.specs.declared.texts.since.TheConstants.{ON_TIME}
 
 -- an `up` that is still to come at this `up`
 abbrev pub still_coming : Option ℕ → ℕ → Option ℕ
@@ -17,3 +18,7 @@ abbrev pub ComesSince : (ℕ → Bool) → ℕ → ℕ → Option ℕ → Type 0
 ComesSince may last now None = may now ≡ true → may last ≡ true
 ComesSince may last now (Some at) =
     (may last ≡ false) × (may now ≡ true) × ((up : ℕ) → may up ≡ nat_le at up)
+
+-- a start that comes at one second is overdue at another: more than two seconds passed
+abbrev pub is_overdue : ℕ → ℕ → Bool
+is_overdue at now = nat_lt ON_TIME (now - at)

@@ -9,7 +9,7 @@ use Rattle.run_times.specs.declared.writer.TextWriter.{TextWriter}
 use Rattle.run_times.specs.Written.{Adds}
 use Rattle.scope.specs.declared.journal.telling.JobCause.{JobCause}
 use Rattle.scope.specs.declared.journal.telling.JobCause.TheVariants.{Removing, Child, Awaited, LaunchSpent, RunsSpent, Throttled, NotWanted, Demand, Connections, KeepAlive, SuccessfulExit, Crashed, PathState, QueueDirectories}
-use Rattle.scope.specs.Causes.{AreCauses}
+use Rattle.scope.specs.ShownCauses.{AreShown}
 
 -- of an order whose answer is awaited
 abbrev pub front_of_order : Act → List ℕ
@@ -58,7 +58,7 @@ AreLines (cause ∷ causes) text =
 abbrev pub TellsEach : List JobCause → TextWriter → TextWriter → Type 0
 TellsEach causes old new = (text : List ℕ) × AreLines causes text × Adds text old new
 
--- so for each cause that the reasons say, in order
+-- so for each cause that the reasons say, in order, but for those that are left out
 abbrev pub TellsCauses : Reasons → TextWriter → TextWriter → Type 0
 TellsCauses reasons old new =
-    (causes : List JobCause) × AreCauses reasons causes × TellsEach causes old new
+    (causes : List JobCause) × AreShown reasons causes × TellsEach causes old new

@@ -1,9 +1,11 @@
 -- What the report on a job needs: the facts as of a clock reading, what was asked of it, and the next minute of its calendar.
-use Rattle.std.specs.Prelude.{◌≡◌, ◌≢◌, ◌+◌, ℕ, List, [], min, nat_lt, Option, Some, None, if◌then◌else◌}
+use Rattle.std.specs.Prelude.{◌≡◌, ◌≢◌, ◌+◌, ◌||◌, ℕ, Bool, true, List, [], min, nat_le, nat_lt, not, Option, Some, None, if◌then◌else◌}
 use Rattle.calendar_due.specs.Next.{IsFirstDue}
 use Rattle.history_model.specs.Calendar.{Zone}
 use Rattle.history_model.specs.declared.Entry.{Entry}
 use Rattle.history_model.specs.declared.Reading.{Reading}
+use Rattle.history_model.specs.declared.Refusal.{Refusal}
+use Rattle.history_model.specs.declared.Refusal.TheVariants.{AlreadyLoaded}
 use Rattle.history_model.specs.declared.TheConstants.{MAX_WALL}
 use Rattle.status_file.specs.declared.facts.JobFacts.{JobFacts}
 use Rattle.status_page.specs.declared.clocks.TheConstants.{FARTHEST}
@@ -36,3 +38,9 @@ abbrev pub IsCalendarNext : Zone → List Entry → ℕ → CalendarNext → Typ
 IsCalendarNext zone entries after Absent = entries ≡ []
 IsCalendarNext zone entries after Far = (entries ≢ []) × IsFirstDue zone entries after (last_looked_at after) None
 IsCalendarNext zone entries after (At wall) = IsFirstDue zone entries after (last_looked_at after) (Some wall)
+
+-- A refused load of a loaded job is reported. One that was refused since the job was loaded already is so only if it had
+-- another definition, or if nothing happened to the job later.
+abbrev pub is_refusal_told : Refusal → Bool → ℕ → ℕ → Bool
+is_refusal_told AlreadyLoaded same at newest = not same || nat_le newest at
+is_refusal_told _ same at newest = true

@@ -13,7 +13,7 @@ use crate::settings::settings_of;
 use crate::subcommands::Statuses;
 use crate::texts::standing::{failed_in, failing_in, standing_text};
 use crate::texts::standing_next::standing_lines;
-use crate::texts::starts::ComingLines;
+use crate::texts::starts::{ComingLines, tells_clockless};
 use crate::texts::unknown::unknown_in;
 use definition_files::tell_clockless;
 use exit_status::{BAD_CLOCK, BAD_FILE, DIFFERS};
@@ -248,7 +248,9 @@ fn put_next(
         jobs,
         clockless,
     } = standing_lines(alloc, standing, of, second)?;
-    tell_clockless(host, path, clockless, jobs);
+    if tells_clockless(of.is_all, clockless, jobs) {
+        tell_clockless(host, path, clockless, jobs);
+    }
     put_made(host, Ok(text))
 }
 

@@ -11,6 +11,7 @@ mod noting;
 pub(crate) mod past;
 pub(crate) mod reader;
 pub(crate) mod run;
+pub(crate) mod shown;
 pub(crate) mod source;
 pub(crate) mod telling;
 pub(crate) mod waiting;

@@ -28,7 +28,7 @@ use crate::texts::log_ends::add_end;
 use crate::texts::next::{AskedStarts, next_lines};
 use crate::texts::runs::runs_table;
 use crate::texts::show::show_text;
-use crate::texts::starts::{ComingLines, Telling};
+use crate::texts::starts::{ComingLines, Telling, tells_clockless};
 use crate::texts::unknown::unknown_text;
 use crate::texts::why::{is_known, why_text};
 use crate::window::window_of;
@@ -462,7 +462,9 @@ fn put_next(
         jobs,
         clockless,
     } = next_lines(alloc, journal, asked)?;
-    tell_clockless(host, name, clockless, jobs);
+    if tells_clockless(of.is_all, clockless, jobs) {
+        tell_clockless(host, name, clockless, jobs);
+    }
     put_made(host, Ok(text))
 }
 

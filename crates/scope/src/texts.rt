@@ -1,5 +1,6 @@
 //! The texts that are written of a journal: why each job is in its state, what its runs came to, and the journal for people.
 
+pub(crate) mod after_exit;
 pub(crate) mod by_facts;
 pub(crate) mod cause_lines;
 pub(crate) mod causes;

@@ -214,6 +214,19 @@ impl Record {
         self.log.facts().loaded
     }
 
+    /// The `up` at which something happened to the job last: it was loaded, a start or a signal was ordered, a run began or ended, or something was asked.
+    pub(crate) fn newest(&self) -> u64 {
+        let facts = self.log.facts();
+        let mut newest = facts.since.up;
+        for at in [facts.started, facts.term, facts.kill] {
+            newest = newest.max(up_or_0(at));
+        }
+        match self.asked {
+            Some((_, at)) => newest.max(at.up),
+            None => newest,
+        }
+    }
+
     /// What is known of the runs of its last load.
     pub(crate) fn known(&self) -> KnownRuns<'_> {
         let began = match &self.current {
@@ -386,6 +399,13 @@ impl Record {
             totals.gap = self.gap_at(at);
         }
         totals
+    }
+}
+
+fn up_or_0(at: Option<Reading>) -> u64 {
+    match at {
+        Some(at) => at.up,
+        None => 0,
     }
 }
 

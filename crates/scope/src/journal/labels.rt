@@ -22,6 +22,8 @@ pub(crate) struct KnownLabel {
     pub(crate) disabled: Option<DisabledBy>,
     /// Why its last load was refused, and when, if it was.
     pub(crate) refused: Option<(Refusal, Reading)>,
+    /// Whether that load had the text of the definition that was loaded then.
+    pub(crate) is_same: bool,
 }
 
 impl KnownLabel {
@@ -37,6 +39,7 @@ impl KnownLabel {
 const NOTHING: KnownLabel = KnownLabel {
     disabled: None,
     refused: None,
+    is_same: false,
 };
 
 // By what a label is disabled, if it was disabled by `before` at the end of an earlier launcher.
@@ -80,15 +83,17 @@ impl KnownLabels {
         self.keep(alloc, label, known)
     }
 
-    /// The label's last load was refused so, or accepted by None.
+    /// The label's last load was refused so, or accepted by None. `is_same`: it had the text of the definition that is loaded.
     pub(crate) fn load(
         &mut self,
         alloc: Global,
         label: &str,
         refused: Option<(Refusal, Reading)>,
+        is_same: bool,
     ) -> Result<(), AllocError> {
         let mut known = self.of(label);
         known.refused = refused;
+        known.is_same = is_same;
         self.keep(alloc, label, known)
     }
 

@@ -115,7 +115,7 @@ impl Past {
             return Err(AllocError);
         };
         let told = self.add_news(alloc, def.label(), What::Loaded);
-        let known = self.labels.load(alloc, def.label(), None);
+        let known = self.labels.load(alloc, def.label(), None, false);
         let enabled = if writes_setting {
             self.labels.set(alloc, def.label(), None)
         } else {
@@ -145,12 +145,24 @@ impl Past {
         let known = if label.is_empty() {
             Ok(())
         } else {
-            self.labels.load(alloc, label, Some((refusal, at)))
+            let is_same = self.is_loaded_so(label, def);
+            self.labels.load(alloc, label, Some((refusal, at)), is_same)
         };
         drop(value);
         match told {
             Ok(()) => known,
             Err(error) => Err(error),
+        }
+    }
+
+    // Whether the label is loaded by this text.
+    fn is_loaded_so(&self, label: &str, def: &str) -> bool {
+        match self.jobs.get(label) {
+            Some(job) => match &job.text {
+                Some(text) => text.as_str() == def,
+                None => false,
+            },
+            None => false,
         }
     }
 

@@ -306,4 +306,5 @@ fn reason_of<'a>(job: &JobStatus<'a>) -> Value<'a> {
 const NOTHING: KnownLabel = KnownLabel {
     disabled: None,
     refused: None,
+    is_same: false,
 };

@@ -4,7 +4,8 @@ ghost use Rattle.std.specs.Prelude.{◌≡◌, ◌++◌, ◌∷◌, ℕ, List, [
 ghost use Rattle.run_times.specs.Written.{Adds, Grows};
 ghost use Rattle.scope.specs.Fronts.{front_of, TellsCauses, TellsEach};
 
-use crate::journal::telling::{JobCause, causes};
+use crate::journal::shown::shown_causes;
+use crate::journal::telling::JobCause;
 use crate::texts::causes::{path_said, queue_said, sentences_of};
 use crate::texts::coming::{asked_said, conditions_said, queued_said, unmet_said, watched_said};
 use crate::texts::fronts::put_front;
@@ -12,13 +13,13 @@ use crate::texts::told::{Sentence, ToldJob};
 use run_times::Page;
 use status_page::can_start_again;
 
-/// Adds a line for each cause of the job, in order: for each thing that the table's reasons say, and for nothing else. It returns whether the
-/// only one is that nothing wants the job.
+/// Adds a line for each cause of the job, in order: for each thing that the table's reasons say, but for what can't matter, and for nothing else. It
+/// returns whether the only one is that nothing wants the job.
 pub(crate) fn add_causes(page: &mut Page<'_>, told: &ToldJob<'_>) -> bool
     ensures { page.new.writer.is_refused ≡ false →
         TellsCauses told.now.facts.reasons page.old.writer page.new.writer }
 {
-    let Ok(list) = causes(page.alloc, &told.facts.reasons) else {
+    let Ok(list) = shown_causes(page.alloc, &told.facts.reasons) else {
         page.writer.refuse();
         return false;
     };
@@ -64,8 +65,8 @@ fn add_end(page: &mut Page<'_>, told: &ToldJob<'_>, cause: JobCause)
     }
 }
 
-// Why its conditions do not want it, and the ways by which it comes to be wanted.
-fn add_ways(page: &mut Page<'_>, told: &ToldJob<'_>)
+/// Adds why its conditions do not want it, and the ways by which it comes to be wanted.
+pub(crate) fn add_ways(page: &mut Page<'_>, told: &ToldJob<'_>)
     ensures { Grows page.old.writer page.new.writer }
 {
     add_sentences(page, &unmet_said(told));

@@ -5,7 +5,7 @@ ghost use Rattle.history_model.specs.declared.TheConstants.{MAX_UP, MAX_WALL};
 ghost use Rattle.history_model.specs.Items.{History};
 ghost use Rattle.history_model.specs.NextMomentByFacts.{has_come};
 ghost use Rattle.job_core.specs.JobMoments.{AreMoments, may_kill_when, may_term_when};
-ghost use Rattle.scope.specs.Ages.{ComesSince, reasons_then};
+ghost use Rattle.scope.specs.Ages.{ComesSince, is_overdue, reasons_then};
 
 use calendar_due::Zone;
 use history_model::{Entry, Reading, Reasons};
@@ -53,6 +53,16 @@ pub(crate) fn reasons_then(reasons: &Reasons, up: u64) -> Reasons
     then
 }
 
+/// How many seconds after its time a start is not overdue yet: a launcher that runs orders it meanwhile, and says so in its journal and its file.
+pub const ON_TIME: u64 = 2;
+
+// Whether a start that comes at one second is overdue at another.
+fn is_overdue(at: u64, now: u64) -> bool
+    ensures { result ≡ is_overdue at now }
+{
+    now.saturating_sub(at) > ON_TIME
+}
+
 /// Adds when time alone starts the job, or what came due after the last clock reading and up to now. If the job waits only to be wanted, the ways
 /// to its start have named the coming start already.
 pub(crate) fn add_coming(
@@ -76,12 +86,13 @@ pub(crate) fn add_coming(
         last,
         now.wall,
     ) {
-        StartWhen::Since(at) => {
+        StartWhen::Since(at) if is_overdue(at, now.wall) => {
             page.add(
                 "  Its start has been overdue since $.\n",
                 &[Time(second_told(throttle, at))],
             );
         }
+        StartWhen::Since(_) => page.writer.put("  Its start is due.\n"),
         StartWhen::At(at) if !is_idle => {
             let at = Time(second_told(throttle, at));
             page.add("  It starts at $, if nothing else happens.\n", &[at]);

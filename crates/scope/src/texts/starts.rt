@@ -1,5 +1,7 @@
 //! Coming starts by time alone, in the order of time: a line each, or an object.
 
+ghost use Rattle.std.specs.Prelude.{◌≡◌, ◌==◌, ◌||◌};
+
 use crate::objects::job::ReportContext;
 use crate::objects::lines::number_of;
 use calendar_due::Zone;
@@ -41,6 +43,13 @@ pub(crate) struct Telling {
     pub(crate) is_json: bool,
     /// As of when, and what is known of the launcher.
     pub(crate) around: ReportContext,
+}
+
+/// Whether it is reported how many of the jobs have no schedule: if all starts are asked for, or if there is none to show.
+pub(crate) fn tells_clockless(is_all: bool, clockless: u64, jobs: u64) -> bool
+    ensures { result ≡ (is_all || clockless == jobs) }
+{
+    is_all || clockless == jobs
 }
 
 /// Adds the starts, the soonest first, each followed by the next of the same clock, if its definition is there. The zone is that of the calendars.

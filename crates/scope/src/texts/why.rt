@@ -2,13 +2,14 @@
 
 ghost use Rattle.std.specs.Prelude.{◌≡◌};
 ghost use Rattle.calendar_due.specs.ZoneRules.{minute_at};
-ghost use Rattle.scope.specs.Told.{IsCalendarNext, asked_in, facts_then};
+ghost use Rattle.scope.specs.Told.{IsCalendarNext, asked_in, facts_then, is_refusal_told};
 
 use crate::age::{AsOf, add_head, clock_as_of, reading_as_of};
 use crate::journal::job::{KeptJob, Record};
 use crate::journal::labels::{DisabledBy, KnownLabel};
 use crate::journal::reader::OpenJournal;
 use crate::known_runs::KnownRuns;
+use crate::texts::after_exit::add_after_exit;
 use crate::texts::cause_lines::add_causes;
 use crate::texts::causes::throttle_of;
 use crate::texts::coming::calendar_next;
@@ -154,7 +155,7 @@ fn add_job<'x>(
     add_missed(page, missed_by(journal, job));
     add_background(page, &job.record);
     add_inert(page, def.not_acted_on());
-    add_label(page, label, journal.past.labels.of(label));
+    add_label(page, label, label_of_loaded(journal, label, job));
     let last = within_limits(journal.table.reading());
     let end = throttle_shown(&told, &facts, last);
     add_coming(
@@ -181,7 +182,29 @@ fn add_at_end(page: &mut Page<'_>, journal: &OpenJournal, label: &str, job: &Kep
     add_past(page, &job.record);
     add_missed(page, missed_by(journal, job));
     add_background(page, &job.record);
-    add_label(page, label, journal.past.labels.of(label));
+    add_label(page, label, label_of_loaded(journal, label, job));
+}
+
+// What is reported of the label of a loaded job besides: a load that was refused since the job was loaded already only as long as it matters.
+fn label_of_loaded(journal: &OpenJournal, label: &str, job: &KeptJob) -> KnownLabel {
+    let mut known = journal.past.labels.of(label);
+    if let Some((refusal, at)) = known.refused {
+        if !is_refusal_told(refusal, known.is_same, at.up, job.record.newest()) {
+            known.refused = None;
+        }
+    }
+    known
+}
+
+// Whether a refused load of a loaded job is reported. A load of a job that was loaded already is reported only if it had another definition, or if
+// nothing happened to the job since.
+fn is_refusal_told(refusal: Refusal, is_same: bool, at: u64, newest: u64) -> bool
+    ensures { result ≡ is_refusal_told refusal is_same at newest }
+{
+    match refusal {
+        Refusal::AlreadyLoaded => !is_same || newest <= at,
+        _ => true,
+    }
 }
 
 /// Adds the state that a job had then, and its process, of which it is not known whether it still runs.
@@ -223,8 +246,8 @@ pub(crate) fn told_job<'a>(
     }
 }
 
-/// Adds the state of the job, and a line for each thing that keeps it from a start or wants it. It returns whether the only one is that nothing wants
-/// the job: then it has added the ways by which the job comes to start.
+/// Adds the state of the job, a line for each thing that keeps it from a start or wants it, and what happens once its run exits. It returns whether the
+/// only one is that nothing wants the job: then it has added the ways by which the job comes to start.
 pub(crate) fn add_stand(
     page: &mut Page<'_>,
     label: &str,
@@ -235,7 +258,9 @@ pub(crate) fn add_stand(
         "\n$ $.\n",
         &[Text(label), Text(state_words(&facts.reasons))],
     );
-    add_causes(page, told)
+    let is_idle = add_causes(page, told);
+    add_after_exit(page, told);
+    is_idle
 }
 
 /// The end of the throttle, as of the last clock reading.
