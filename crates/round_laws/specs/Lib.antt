@@ -5,3 +5,4 @@ pub mod Following
 pub mod Called
 pub mod DueStarts
 pub mod Outside
+pub mod BeforeClocks

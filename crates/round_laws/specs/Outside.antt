@@ -1,5 +1,5 @@
 -- What is outside of the launcher of `jobd`, its edge and its store, by what they promise; and the passes over them.
-use Rattle.std.specs.Prelude.{ℕ, ◌×◌, Bool, List, Option, Result}
+use Rattle.std.specs.Prelude.{ℕ, Bool, List, Option, Result}
 use Rattle.history_model.specs.declared.Obs.{Obs}
 use Rattle.history_model.specs.declared.event.Setting.{Setting}
 use Rattle.launcher_laws.specs.TurnRuns.{Turn}
@@ -8,8 +8,6 @@ use Rattle.child_edge.specs.declared.plain.EdgeFault.{EdgeFault}
 use Rattle.outside.specs.Stores.{Stamp, StoreCall}
 use Rattle.live_loop.specs.Rounds.{AreRounds, IsRound, Launcher as AnyLauncher, Left}
 use Rattle.jobd.specs.declared.round_launcher.RoundLauncher.{RoundLauncher}
-use Rattle.round_laws.specs.DueStarts.{turns_before}
-use Rattle.round_laws.specs.Following.{Operation, operations_of}
 use Rattle.round_laws.specs.Marks.{Mark, turns_in}
 use Rattle.round_laws.specs.RoundMarks.{launcher, marks_of, of_round}
 
@@ -50,7 +48,7 @@ module _ {T E W : Type 0} (by : Outside T E) where
   abbrev pub ArePasses : (first last : Left (RoundLauncher T E W)) → Type 0
   ArePasses first last = AreRounds jobds first last
 
-  -- what they deliver, the turns of that, and what happens to clients
+  -- what they deliver, and the turns of that
   abbrev pub delivered : {first last : Left (RoundLauncher T E W)} → ArePasses first last → List (Mark T)
   delivered passes = marks_of by.calls by.stores by.holds by.stamped by.Finds by.Looks by.Accepts by.Holds passes
 
@@ -62,10 +60,3 @@ module _ {T E W : Type 0} (by : Outside T E) where
 
   abbrev pub turns_of_pass : {old new : Left (RoundLauncher T E W)} → IsPass old new → List (Turn T)
   turns_of_pass pass = turns_in (delivered_in pass)
-
-  -- those of some passes, and of the next one those before its clocks are read
-  abbrev pub turns_up_to : {first mid last : Left (RoundLauncher T E W)} → ArePasses first mid → IsPass mid last → List (Turn T)
-  turns_up_to more pass = turns_before by.calls by.stores by.holds by.stamped by.Finds by.Looks by.Accepts by.Holds more pass
-
-  abbrev pub operations : {first last : Left (RoundLauncher T E W)} → ArePasses first last → List (Operation (RoundLauncher T E W))
-  operations passes = operations_of jobds passes

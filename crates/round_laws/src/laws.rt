@@ -20,11 +20,12 @@ ghost use Rattle.live_loop.specs.Rounds.{IsNew as IsNobodyYet, Left, one_round};
 ghost use Rattle.outside.specs.Stores.{StoreCall};
 ghost use Rattle.jobd.specs.declared.round_launcher.RoundLauncher.{RoundLauncher as Launcher};
 ghost use Rattle.round_laws.specs.Called.{AsksBetween};
+ghost use Rattle.round_laws.specs.BeforeClocks.{turns_up_to};
 ghost use Rattle.round_laws.specs.DueStarts.{IsDueAt, IsStartedIn, StartsAllDue, StartsWhatWaits};
-ghost use Rattle.round_laws.specs.Following.{AreFollowed};
+ghost use Rattle.round_laws.specs.Following.{AreFollowed, operations_of};
 ghost use Rattle.round_laws.specs.Receiving.{DecideAsOne, Decides, ReceivedReadings, lines_of};
 ghost use Rattle.round_laws.specs.Marks.{Mark, snapshot, turns_in};
-ghost use Rattle.round_laws.specs.Outside.{ArePasses, IsPass, around, delivered, delivered_in, jobds, operations, turns, turns_of_pass, turns_up_to};
+ghost use Rattle.round_laws.specs.Outside.{ArePasses, IsPass, around, delivered, delivered_in, jobds, turns, turns_of_pass};
 
 use jobd::{RoundEdge, RoundLauncher};
 use outside::SettingStore;
@@ -101,7 +102,7 @@ pub fn each_client_is_followed<T: SettingStore, E: RoundEdge, W: Write>(
     ensures { let by = around E.told T.told T.holds T.stamped E.Finds E.Looks E.Accepts E.Holds in
         (first last : Left (Launcher T E W)) → IsNobodyYet first.desk →
         (rounds : ArePasses by first last) →
-        AreFollowed (jobds by) (operations by rounds) }
+        AreFollowed (jobds by) (operations_of (jobds by) rounds) }
 {
     let _ = round;
 }
