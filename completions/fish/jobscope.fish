@@ -20,12 +20,14 @@ function __jobscope_journal
     end
 end
 
-# The labels of the jobs whose load the journal tells, one a line.
+# The labels of the jobs whose load the journal tells, one a line: that journal, or the one that jobscope finds.
 function __jobscope_labels
     set -l journal (__jobscope_journal)
-    if test -n "$journal"
-        jobscope runs --journal $journal 2>/dev/null | awk -F '\t' 'NR > 1 { print $1 }'
+    set -l named
+    if test -n "$journal" -a "$journal" != -
+        set named --journal $journal
     end
+    jobscope runs $named 2>/dev/null </dev/null | awk -F '\t' 'NR > 1 { print $1 }'
 end
 
 # The files that may be definitions, and the folders.

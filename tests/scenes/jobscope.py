@@ -18,7 +18,7 @@ import subprocess
 import sys
 import tempfile
 
-from harness import BOUND, HERE, Late, check, make, patience, sees_all, text_at, wait_for
+from harness import BOUND, HERE, Late, check, in_time, make, patience, seconds, sees_all, text_at, wait_for
 from pictures import faults_of
 
 # A case may look through years minute by minute.
@@ -50,7 +50,7 @@ class Case:
 
 def came(stage, folder, case):
     """What the program ends with and writes, in the folder of the case."""
-    around = {key: value for key, value in os.environ.items() if key not in ("JOBD_JOURNAL", "JOBD_STATUS_FILE", "COLUMNS", "NO_COLOR", "HOME", "LOGNAME")}
+    around = {key: value for key, value in os.environ.items() if key not in ("JOBD_JOURNAL", "JOBD_SOCKET", "JOBD_STATUS_FILE", "COLUMNS", "NO_COLOR", "HOME", "LOGNAME")}
     around.update(line.split("=", 1) for line in case.lines("environment"))
     command = [*stage.given.jobscope, *case.lines("words")]
     try:
@@ -314,7 +314,8 @@ As of 2026-11-25 Wed 14:02:57 +0100, the journal's last event, 2 days 7 h ago.
 
 web is running.
   Run 1 is running, PID 5, since {since} (for {lived}).
-{throttled}  It is wanted: KeepAlive is true.
+  It is wanted: KeepAlive is true.
+  When it exits, it starts again.
 """
 # The same if its launcher is not known to run.
 AT_END = """\
@@ -334,7 +335,7 @@ def a_journal_that_is_held(stage):
     path = make(stage.at("held"), HEADER + load + '\n{"ev":"spawned","job":"web","run":1,"pid":5}\n')
     other = make(stage.at("beside"), "")
     lives = f"The launcher that writes this journal is running (PID {os.getpid()}): durations are measured to the present."
-    writes = HELD.format(writer=lives, since="2026-11-25 Wed 14:02:57 +0100", lived="2 days 7 h", throttled="")
+    writes = HELD.format(writer=lives, since="2026-11-25 Wed 14:02:57 +0100", lived="2 days 7 h")
     ended = AT_END.format(writer=NOBODY if sees_all() else NOT_SEEN)
     for file, lock, wanted in ((path, fcntl.LOCK_EX, writes), (path, fcntl.LOCK_SH, ended), (other, fcntl.LOCK_EX, ended)):
         with open(file, encoding="utf-8") as held:
@@ -385,6 +386,85 @@ def jobscope_journal(stage):
     a_launcher_that_is_killed(stage)
     a_line_too_long(stage)
     a_journal_put_aside(stage)
+
+
+def from_a_pipe(stage, words, given=None, **env):
+    """What the program ends with and writes, and in how many seconds, with an open pipe as its standard input to which nobody writes more than this, and
+    with no variable but these that names a launcher."""
+    around = {key: value for key, value in os.environ.items() if key not in ("JOBD_JOURNAL", "JOBD_SOCKET", "JOBD_STATUS_FILE", "COLUMNS")}
+    reading, writing = os.pipe()
+    begun = seconds()
+    try:
+        if given:
+            os.write(writing, given)
+        it = subprocess.run([*stage.given.jobscope, *words], env={**around, **env}, stdin=reading, capture_output=True, timeout=patience(), text=True)
+    except subprocess.TimeoutExpired:
+        raise Late(f"jobscope {' '.join(words)} waits for its standard input") from None
+    finally:
+        os.close(reading)
+        os.close(writing)
+    in_time(seconds() - begun < 1, f"jobscope {' '.join(words)} took {seconds() - begun:.1f} s")
+    return it.returncode, it.stdout, it.stderr
+
+
+# Each subcommand that reads a launcher, and a part of what it says of a job `web` that is running.
+OF_A_LAUNCHER = (
+    ("status", "web "), ("metrics", 'jobd_job_running{label="web"} 1'), ("why", "web is running."), ("why --failing", ""), ("next", "hourly"), ("log", "web: loaded"),
+    ("runs", "web\t1\t0\t"), ("show", "web was loaded at"), ("picture", "<svg"), ("drift web.json", "same\tweb\t"), ("why --at -0s", "web"),
+)
+# What is looked for where nothing names a launcher and the package's is not there.
+PLACES = ("/run/jobd/jobd.sock.places", "/var/lib/jobd/journal.jsonl", "/run/jobd/status.jsonl")
+
+
+def jobscope_without_an_option(stage):
+    """Without an option and away from a terminal the launcher of `JOBD_SOCKET` is read, which its places file names; without one the fault says what was
+    looked for. Standard input is read only for `-`."""
+    web, path = {"Label": "web", "ProgramArguments": ["/bin/sleep", "600"], "KeepAlive": True}, stage.at("standing/status.jsonl")
+    os.mkdir(stage.at("standing"), 0o700)
+    launcher = stage.serve(env={"JOBD_STATUS_FILE": path}, journal="journal")
+    for job in (web, {"Label": "hourly", "ProgramArguments": ["/bin/true"], "StartInterval": 3600}):
+        launcher.load(job)
+    launcher.tells("web", "state = running")
+    wait_for(lambda: '"state":"running"' in text_at(path), "the status file does not have the run")
+    make(stage.at("web.json"), json.dumps(web))
+    named = {"JOBD_SOCKET": stage.at("socket")}
+    for line, part in OF_A_LAUNCHER:
+        words = [stage.at(word) if word.endswith(".json") else word for word in line.split()]
+        status, output, error = from_a_pipe(stage, words, **named)
+        # (`next` counts the jobs without a schedule there)
+        check(status == (2 if words[0] == "drift" else 0) and part in output and (not error or words[0] == "next"), f"{line}: {status} {output!r} {error!r}")
+    # What a variable names comes before the launcher.
+    other = make(stage.at("other"), HEADER + load_of("mail"))
+    status, output, _ = from_a_pipe(stage, ["runs"], JOBD_JOURNAL=other, **named)
+    check(status == 0 and "mail\t" in output and "web\t" not in output, f"with JOBD_JOURNAL: {status} {output!r}")
+    status, output, _ = from_a_pipe(stage, ["status", "--json"], JOBD_STATUS_FILE=path)
+    check(status == 0 and '"label":"web"' in output, f"with JOBD_STATUS_FILE: {status} {output!r}")
+    # By the status file if the journal can't be opened.
+    os.rename(stage.at("journal"), stage.at("away"))
+    status, output, error = from_a_pipe(stage, ["why", "web"], **named)
+    check(status == 0 and "web is running." in output and "The launcher is running (PID" in output, f"without its journal: {status} {output!r} {error!r}")
+    status, output, error = from_a_pipe(stage, ["log"], **named)
+    check((status, output) == (65, "") and error.startswith(f"jobscope: {stage.at('journal')}: No such file"), f"log without its journal: {status} {output!r} {error!r}")
+    os.rename(stage.at("away"), stage.at("journal"))
+    launcher.shut_down()
+    # Of a launcher that is gone, and of one without a journal and a status file.
+    gone = f"jobscope: {stage.at('socket')}.places: not there: does a launcher run at the socket of JOBD_SOCKET?\n"
+    for word in ("why", "log", "status"):
+        check((got := from_a_pipe(stage, [word], **named)) == (65, "", gone), f"{word} of a launcher that is gone: {got}")
+    plain = stage.serve(socket="plain", store="plain.store", spool="spool")
+    for word, what in (("why", "no journal and no status file"), ("log", "no journal"), ("status", "no status file")):
+        told = f"jobscope: {stage.at('plain')}.places: its launcher writes {what}\n"
+        check((got := from_a_pipe(stage, [word], JOBD_SOCKET=stage.at("plain"))) == (65, "", told), f"{word} of a launcher that writes nothing: {got}")
+    plain.shut_down()
+    # With nothing set, where the package has no launcher.
+    if not any(os.path.exists(place) for place in PLACES):
+        for word, looked in (("why", PLACES), ("why --failing", PLACES), ("next", PLACES), ("log", PLACES[:2]), ("runs", PLACES[:2]), ("status", PLACES[::2]), ("metrics", PLACES[::2])):
+            status, output, error = from_a_pipe(stage, word.split())
+            check((status, output) == (65, "") and error.startswith("jobscope: JOBD_SOCKET: not set, and "), f"{word} without a launcher: {status} {output!r} {error!r}")
+            check([place for place in PLACES if place in error] == list(looked), f"{word} without a launcher looked for other places: {error!r}")
+    # Standard input is read for `-`, to its end.
+    it = subprocess.run([*stage.given.jobscope, "runs", "--journal", "-"], input=(HEADER + load_of("mail")).encode(), capture_output=True, timeout=patience())
+    check(it.returncode == 0 and b"mail\t" in it.stdout, f"by standard input: {it}")
 
 
 # Three jobs of which one lives, one is stopped by KILL, and runs that end by a code, by a signal and at once.
@@ -617,6 +697,7 @@ SCENES = [
     jobscope_plist_files,
     jobscope_status,
     jobscope_well,
+    jobscope_without_an_option,
     times_as_the_c_library_shows_them,
     zones_that_are_none,
 ]

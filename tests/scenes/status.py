@@ -859,7 +859,7 @@ def what_root_reads(stage, path, plain):
     check(end() == NOT_READ, f"by a hard link: {end()!r}")
     os.rename(plain + ".kept", plain)
     with open(stage.at("journal"), "rb") as given:
-        ran = subprocess.run([*stage.given.jobscope, "why", "plain"], stdin=given, capture_output=True, timeout=patience(), text=True)
+        ran = subprocess.run([*stage.given.jobscope, "why", "--journal", "-", "plain"], stdin=given, capture_output=True, timeout=patience(), text=True)
     check(ran.stdout.splitlines()[-1].endswith(NOT_READ), f"by a journal on standard input: {ran.stdout!r}")
 
 

@@ -6,13 +6,16 @@ use run_times::Filling::{Moment, Number, Time};
 use run_times::Page;
 use status_page::{gone_on, within_limits};
 
+/// The line for a launcher that was asked for a shutdown, and may be running.
+const ENDING: &str = "It is shutting down: it starts no job.\n";
+
 /// The time as of which a journal is reported.
 #[derive(Clone, Copy)]
 pub(crate) enum AsOf {
     /// Its end, whatever the clock shows now, and what is seen of its launcher, if that is asked.
     End(Option<LauncherSeen>),
-    /// Its end, seen at this second, and what is seen of its launcher then; None if it has no file.
-    Seen(u64, Option<LauncherSeen>),
+    /// Its end, seen at this second, and what is seen of its launcher then; None if it has no file. Last, whether that launcher was asked for a shutdown.
+    Seen(u64, Option<LauncherSeen>, bool),
     /// The last event up to this second. The journal has later ones, but if it ends there. No launcher is known to have run then if `is_gap`.
     Moment {
         second: u64,
@@ -25,8 +28,8 @@ impl AsOf {
     /// Whether something may be foretold of the jobs: their launcher ran then, as far as that is asked.
     pub(crate) fn foretells(self) -> bool {
         match self {
-            AsOf::End(Some(seen)) | AsOf::Seen(_, Some(seen)) => foretells(seen.life),
-            AsOf::End(None) | AsOf::Seen(_, None) => true,
+            AsOf::End(Some(seen)) | AsOf::Seen(_, Some(seen), _) => foretells(seen.life),
+            AsOf::End(None) | AsOf::Seen(_, None, _) => true,
             AsOf::Moment { is_gap, .. } => !is_gap,
         }
     }
@@ -34,8 +37,8 @@ impl AsOf {
     /// Whether what the journal says of jobs may hold then.
     pub(crate) fn may_live(self) -> bool {
         match self {
-            AsOf::End(Some(seen)) | AsOf::Seen(_, Some(seen)) => may_live(seen.life),
-            AsOf::End(None) | AsOf::Seen(_, None) => true,
+            AsOf::End(Some(seen)) | AsOf::Seen(_, Some(seen), _) => may_live(seen.life),
+            AsOf::End(None) | AsOf::Seen(_, None, _) => true,
             AsOf::Moment { is_gap, .. } => !is_gap,
         }
     }
@@ -45,7 +48,7 @@ impl AsOf {
 /// nothing. If no launcher is known to run, they stay at the last event.
 pub(crate) fn reading_as_of(as_of: AsOf, last: Reading) -> Reading {
     match as_of {
-        AsOf::Seen(second, Some(seen)) if foretells(seen.life) => {
+        AsOf::Seen(second, Some(seen), _) if foretells(seen.life) => {
             gone_on(within_limits(last), second)
         }
         AsOf::Moment { second, is_end, .. } if !is_end => gone_on(within_limits(last), second),
@@ -56,7 +59,7 @@ pub(crate) fn reading_as_of(as_of: AsOf, last: Reading) -> Reading {
 /// The clock reading that the clocks show then, if they went on alike, whether a launcher looked at them or not.
 pub(crate) fn clock_as_of(as_of: AsOf, last: Reading) -> Reading {
     match as_of {
-        AsOf::Seen(second, _) => gone_on(within_limits(last), second),
+        AsOf::Seen(second, _, _) => gone_on(within_limits(last), second),
         as_of => reading_as_of(as_of, last),
     }
 }
@@ -82,10 +85,15 @@ pub(crate) fn add_head(page: &mut Page<'_>, as_of: AsOf, last: Reading) {
                 );
             }
         }
-        AsOf::Seen(second, seen) => {
+        AsOf::Seen(second, seen, is_ending) => {
             page.add("As of $, the journal's last event, ", &[Moment(last.wall)]);
             add_age(page, second, last.wall);
             add_launcher(page, seen, last);
+            page.writer.put(if is_ending && as_of.may_live() {
+                ENDING
+            } else {
+                ""
+            });
         }
     }
 }

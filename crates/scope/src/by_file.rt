@@ -1,61 +1,63 @@
 //! What a launcher's status file reports: the table of `status`, why each job runs or not, and when each starts next.
 
+ghost use Rattle.std.specs.Prelude.{IfOk};
+ghost use Rattle.scope.specs.Findings.{AreFound};
+
 use crate::as_root::read_for;
 use crate::clock::now;
 use crate::counted::counts_of;
 use crate::errors::put_errors;
-use crate::journal::source::{NONE_NAMED, finds_journal, stands_in};
+use crate::found::{Findings, NO_CLOCK, UNREADABLE, WELL};
+use crate::journal::source::{NONE_NAMED, has_variable, open_journal};
+use crate::launcher::{LauncherFiles, is_there, launcher_files};
 use crate::left::left_running;
 use crate::objects::status::status_objects;
 use crate::objects::why::standing_objects;
 use crate::report::tell_unforetold;
 use crate::settings::settings_of;
+use crate::sources::{NamedSources, Source, found_source, named_source};
 use crate::subcommands::Statuses;
+use crate::table_width::table_columns;
 use crate::texts::standing::{failed_in, failing_in, standing_text};
 use crate::texts::standing_next::standing_lines;
 use crate::texts::starts::{ComingLines, tells_clockless};
 use crate::texts::unknown::unknown_in;
 use definition_files::tell_clockless;
-use exit_status::{BAD_CLOCK, BAD_FILE, DIFFERS};
 use history_model::Text;
 use launchctl_words::{ScopeCommand, ScopeTask};
 use run_times::telling::{put, put_made, tell_of};
 use status_page::{
-    Look, RunCounts, StatusRead, has_colour, named_path, packages_file, print_diagnostic,
-    read_standing, samples_text, table_text, width_of,
+    Look, RunCounts, StatusRead, has_colour, named_path, print_diagnostic, read_standing,
+    samples_text, table_text,
 };
-use std::alloc::Global;
+use std::alloc::{AllocError, Global};
 use std::io;
+use std::io::IsTerminal;
 
-/// The status if a job fails.
-pub(crate) const FAILS: u8 = DIFFERS;
-
-/// The path of the status file to read, if one is to be read.
-///
-/// `status` and `metrics` read the file of the arguments, else that of `JOBD_STATUS_FILE`, else the package's. `why` reads the file of the arguments.
-/// Without one, it reads that of `JOBD_STATUS_FILE`, unless the arguments name a journal, a time or `--all`. `next` does the same, but reads that of
-/// `JOBD_STATUS_FILE` only if it finds no journal. If no file is named, no journal is found, and standard input is a terminal, both read the
-/// package's file and print a note.
+/// The path of the status file to read, if one is to be read: `named_source` says which one, and if none is named, `found_source`. If neither finds
+/// one, None; whoever reads journals then reports what was looked for.
 pub(crate) fn file_asked(host: &HostRuntime, of: &ScopeCommand) -> io::Result<Option<String>> {
-    let (may_be_journal, is_next) = match of.task {
-        ScopeTask::Status | ScopeTask::Metrics => (false, false),
-        ScopeTask::Why => (true, false),
-        ScopeTask::Next => (true, true),
-        _ => return Ok(None),
+    let variable = named_path(host, &None::<Text>)?;
+    let named = NamedSources {
+        file: of.status_file.is_some(),
+        journal: names_journal(of),
+        variable_file: variable.is_some(),
+        variable_journal: has_variable(host)?,
     };
-    if may_be_journal && of.status_file.is_none() {
-        if names_journal(of) {
-            return Ok(None);
+    match named_source(of.task, named) {
+        Some(Source::VariableFile) => Ok(variable),
+        Some(Source::NamedFile) => {
+            drop(variable);
+            Ok(named_path(host, &of.status_file)?)
         }
-        if is_next && finds_journal(host)? {
-            return Ok(None);
+        Some(Source::LauncherFile | Source::Journals) => {
+            drop(variable);
+            Ok(None)
         }
-    }
-    match named_path(host, &of.status_file) {
-        Ok(None) if !may_be_journal => packages(host),
-        Ok(None) => packages_in_terminal(host),
-        Ok(path) => Ok(path),
-        Err(error) => Err(io::Error::from(error)),
+        None => {
+            drop(variable);
+            launchers_file(host, of)
+        }
     }
 }
 
@@ -64,18 +66,51 @@ fn names_journal(of: &ScopeCommand) -> bool {
     !of.journals.as_slice().is_empty() || of.moments.at.is_some() || of.is_all
 }
 
-// Where neither a journal nor a file is named: a user who may read the package's file may not be one who may read its journal.
-fn packages_in_terminal(host: &HostRuntime) -> io::Result<Option<String>> {
-    let path = packages_file(host);
-    if finds_journal(host)? || !stands_in(host, path) {
-        return Ok(None);
+// The status file of the launcher, if that is what is read. A user who may read it may not be one who may read its journal.
+fn launchers_file(host: &HostRuntime, of: &ScopeCommand) -> io::Result<Option<String>> {
+    let files = launcher_files(host, host.alloc())?;
+    let is_known = files.fault.is_none();
+    let opens = is_known && opens(host, &files.journal);
+    let has_file = is_known && has_file(host, &files);
+    let is_noted = files.is_packages && host.stdin().is_terminal();
+    let path = files.into_status_file();
+    match found_source(of.task, opens, has_file) {
+        Some(Source::LauncherFile) => {
+            if is_noted {
+                tell_found(host, of, &path);
+            }
+            Ok(path)
+        }
+        _ => {
+            drop(path);
+            Ok(None)
+        }
     }
-    tell_of(host, path, &NONE_NAMED);
-    packages(host)
 }
 
-fn packages(host: &HostRuntime) -> io::Result<Option<String>> {
-    Ok(Some(String::from_str(host.alloc(), packages_file(host))?))
+fn opens(host: &HostRuntime, journal: &Option<String>) -> bool {
+    match journal {
+        Some(path) => open_journal(host, path.as_str()).is_ok(),
+        None => false,
+    }
+}
+
+// A file that a launcher named is there, or the fault is that it is not.
+fn has_file(host: &HostRuntime, files: &LauncherFiles) -> bool {
+    match &files.status_file {
+        Some(path) => !files.is_packages || is_there(host, path.as_str()),
+        None => false,
+    }
+}
+
+// In a terminal `why` and `next` print a note that the package's file is read.
+fn tell_found(host: &HostRuntime, of: &ScopeCommand, path: &Option<String>) {
+    match (of.task, path) {
+        (ScopeTask::Why | ScopeTask::Next, Some(path)) => {
+            tell_of(host, path.as_str(), &NONE_NAMED);
+        }
+        _ => {}
+    }
 }
 
 /// The error, if the arguments name a status file and also a journal, or what the file does not hold.
@@ -109,21 +144,29 @@ pub(crate) fn tell_by_file(
     alloc: Global,
     of: &ScopeCommand,
     path: &str,
-) -> io::Result<Statuses> {
+) -> io::Result<Statuses>
+    ensures { IfOk result AreFound }
+{
     let second = match of.from {
         Some(second) => Some(second),
         None => now(host),
     };
     let Some(second) = second else {
-        return Ok(Statuses::only(BAD_CLOCK));
+        return Ok(Statuses::of(WELL, NO_CLOCK));
     };
     match read_standing(host, alloc, path, of.words.as_slice()) {
         Ok(standing) => {
             let told = tell(host, alloc, of, path, &standing, second);
             drop(standing);
-            told
+            match told {
+                Ok((before, last)) => Ok(Statuses::of(before, last)),
+                Err(error) => Err(error),
+            }
         }
-        Err(diagnostic) => Ok(Statuses::only(print_diagnostic(host, path, diagnostic)?)),
+        Err(diagnostic) => match print_diagnostic(host, path, diagnostic) {
+            Ok(_) => Ok(Statuses::of(WELL, UNREADABLE)),
+            Err(error) => Err(error),
+        },
     }
 }
 
@@ -134,9 +177,9 @@ fn tell(
     path: &str,
     standing: &StatusRead,
     second: u64,
-) -> io::Result<Statuses> {
+) -> io::Result<(Findings, Findings)> {
     let labels = of.words.as_slice();
-    let status = match of.task {
+    let fails = match of.task {
         ScopeTask::Why if of.is_json => {
             let left = left_running(host, alloc, standing, labels)?;
             let settings = settings_of(host, alloc, of, standing)?;
@@ -145,12 +188,12 @@ fn tell(
             drop(left);
             let (text, count) = made?;
             put_made(host, Ok(text))?;
-            if of.is_failing && count > 0 { FAILS } else { 0 }
+            of.is_failing && count > 0
         }
         ScopeTask::Why if of.is_failing => {
             let (text, count) = failing_in(alloc, standing, labels, of.is_utc, second)?;
             put_made(host, Ok(text))?;
-            if count > 0 { FAILS } else { 0 }
+            count > 0
         }
         ScopeTask::Why => {
             let left = left_running(host, alloc, standing, labels)?;
@@ -167,46 +210,49 @@ fn tell(
             drop(settings);
             drop(left);
             put_made(host, text)?;
-            0
+            false
         }
         ScopeTask::Next => {
             put_next(host, alloc, of, path, standing, second)?;
-            0
+            false
         }
         ScopeTask::Metrics => {
             let counts = counts_of(host, alloc, standing)?;
             let text = samples_text(host, alloc, standing, labels, second, lent(&counts));
             drop(counts);
             put_made(host, text)?;
-            0
+            false
         }
         _ if of.is_json => {
             let settings = settings_of(host, alloc, of, standing)?;
             let text = status_objects(host, alloc, standing, of, second, &settings);
             drop(settings);
             put_made(host, text)?;
-            0
+            false
         }
         _ => {
             let look = Look {
                 second,
-                columns: width_of(host, alloc),
+                columns: table_columns(host, alloc, standing, labels),
                 has_colour: has_colour(host),
                 is_utc: of.is_utc,
             };
             put_made(host, table_text(host, alloc, standing, labels, look))?;
-            0
+            false
         }
     };
-    let unknown = tell_unknown(host, alloc, path, standing, labels)?;
+    let is_nowhere = tell_unknown(host, alloc, path, standing, labels)?;
     match of.task {
         ScopeTask::Why if !of.is_json => put_failed(host, alloc, of, path, standing, second)?,
         _ => {}
     }
-    Ok(Statuses {
-        before: status,
-        last: unknown,
-    })
+    Ok((
+        Findings {
+            differs: fails,
+            ..WELL
+        },
+        Findings { is_nowhere, ..WELL },
+    ))
 }
 
 fn lent(counts: &Option<RunCounts>) -> Option<&RunCounts> {
@@ -254,24 +300,23 @@ fn put_next(
     put_made(host, Ok(text))
 }
 
-// Reports each of the labels that the file has no job of and that does not mean a definition which the boot left out. It returns the exit status,
-// which is 65 then.
+// Reports each of the labels that the file has no job of and that does not mean a definition which the boot left out. It returns whether there is one.
 fn tell_unknown(
     host: &HostRuntime,
     alloc: Global,
     path: &str,
     standing: &StatusRead,
     labels: &[Text],
-) -> io::Result<u8> {
-    let mut status = 0;
+) -> Result<bool, AllocError> {
+    let mut is_nowhere = false;
     for label in labels {
         let label = label.as_str();
         if !standing.has(label) && !standing.leaves_out(label) {
             let told = unknown_in(alloc, standing, label)?;
             tell_of(host, path, &told);
             drop(told);
-            status = BAD_FILE;
+            is_nowhere = true;
         }
     }
-    Ok(status)
+    Ok(is_nowhere)
 }

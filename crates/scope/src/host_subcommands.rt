@@ -1,8 +1,12 @@
 //! The subcommands over the files, the streams and the clock of the system.
 
+ghost use Rattle.std.specs.Prelude.{IfOk};
+ghost use Rattle.scope.specs.Findings.{AreFound, EndsAs};
+
 use crate::by_file::{clash_of, file_asked, tell_by_file};
 use crate::clock::now;
 use crate::ended::{check_ended, cron_ended, next_ended, plist_ended};
+use crate::journal::source::has_input_among;
 use crate::report::report;
 use crate::subcommands::{Part, Statuses, Subcommands};
 use crate::zone::{Named, zone_of};
@@ -23,8 +27,11 @@ use std::sync::Wait;
 /// How many starts are shown if the arguments do not say it.
 const COUNT: u64 = 10;
 
+/// The text if standard input is one of several journals.
+const INPUT_AMONG: &str = "jobscope: --journal - and another --journal can't be given together\n";
+
 /// The subcommands of this process. Both `host` and `waits` are the runtime of `main`: only what takes it as `waits` may wait. Nothing is said of
-/// what the system gives them, so nothing of what they end with.
+/// what the system gives them. What reads journals or a status file ends with the statuses of what it found.
 #[derive(Drop)]
 pub struct HostSubcommands<'a, W> {
     pub host: &'a HostRuntime,
@@ -39,9 +46,9 @@ impl<W: Wait> Subcommands for HostSubcommands<'_, W> {
 
     ghost Names = { λ _ _ _. Unit {0} };
 
-    ghost Tells = { λ _ _ _ _. Unit {0} };
+    ghost Tells = { λ _ _ _ ended. IfOk ended AreFound };
 
-    ghost Ends = { λ _ _ _ _. Unit {0} };
+    ghost Ends = { λ _ part _ ended. EndsAs part ended };
 
     fn meaning(&self, words: &[String]) -> Result<Meaning, WordFault> {
         match read_scope_words(self.alloc, words) {
@@ -83,9 +90,10 @@ fn alone(ended: io::Result<u8>) -> io::Result<Statuses> {
 
 // The command, or the text that says which of its options exclude each other.
 fn unless_clash(alloc: Global, command: ScopeCommand) -> Result<Meaning, WordFault> {
-    let clash = match clash_of(&command) {
-        Some(text) => Some(text),
-        None => clash_of_next(&command),
+    let clash = match (clash_of(&command), clash_of_next(&command)) {
+        (Some(text), _) | (None, Some(text)) => Some(text),
+        (None, None) if has_input_among(&command) => Some(INPUT_AMONG),
+        (None, None) => None,
     };
     let Some(text) = clash else {
         return Ok(Meaning::Command(command));

@@ -1,6 +1,6 @@
 //! Finds the journal of the launcher of a status file, and those of the launchers before it.
 
-use crate::journal::source::PACKAGED;
+use crate::launcher::launcher_files;
 use ctl_protocol::{LINE_LIMIT, ReadFault, read_header};
 use files_and_process::path_files::read_front;
 use history_model::Reading;
@@ -16,7 +16,7 @@ const KEPT: u64 = 7;
 pub(crate) const MOST_KEPT: u64 = 99;
 
 /// The path of the journal of the file's launcher, and that launcher's first clock reading. None: it is not that of `JOBD_JOURNAL`, nor, if that is
-/// not set, the package's.
+/// not set, that of the launcher of `JOBD_SOCKET`, else the package's.
 pub(crate) fn journal_of(
     host: &HostRuntime,
     alloc: Global,
@@ -49,13 +49,19 @@ fn first_reading(alloc: Global, line: &[u8]) -> Result<Option<Reading>, AllocErr
     }
 }
 
-// That of `JOBD_JOURNAL`, else that of the package.
+// That of `JOBD_JOURNAL`, else that of the launcher.
 fn journal_path(host: &HostRuntime, alloc: Global) -> Result<Option<String>, AllocError> {
     match env::var(host, "JOBD_JOURNAL") {
         Ok(path) if path.is_empty() => Ok(None),
         Ok(path) => Ok(Some(path)),
         Err(VarError::OutOfMemory) => Err(AllocError),
-        Err(_) => Ok(Some(String::from_str(alloc, PACKAGED)?)),
+        Err(_) => match launcher_files(host, alloc) {
+            Ok(files) => Ok(files.into_journal()),
+            Err(error) => {
+                drop(error);
+                Err(AllocError)
+            }
+        },
     }
 }
 

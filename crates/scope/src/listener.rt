@@ -6,7 +6,9 @@ ghost use Rattle.scope.specs.Journals.{ReceivesLine, StandsAfter};
 use crate::charted::ReceivedMarks;
 use crate::journal::fault::JournalFault;
 use crate::journal::lines::Receives;
+use crate::journal::news::News;
 use crate::journal::reader::{OpenJournal, open};
+use crate::named_labels::NamedLabels;
 use crate::texts::log::add_lines;
 use crate::texts::log_ends::{add_clock, add_end};
 use crate::window::{ReportedSpan, Window};
@@ -28,6 +30,8 @@ pub(crate) struct JournalListener<'a> {
     /// The journal, if its header was read.
     pub(crate) journal: Option<OpenJournal>,
     pub(crate) received: ReceivedMarks<'a>,
+    /// The labels of the arguments that its lines named.
+    pub(crate) named: NamedLabels<'a>,
     pub(crate) utc: Zone,
     pub(crate) window: Window,
     /// Whether a later journal is left out, since it begins after the time that is asked for.
@@ -44,6 +48,7 @@ impl JournalListener<'_> {
             of,
             journal: None,
             received: ReceivedMarks::new(alloc, of.words.as_slice()),
+            named: NamedLabels::new(alloc, of.words.as_slice()),
             utc: utc(),
             window,
             is_followed: false,
@@ -204,6 +209,9 @@ impl Receives for JournalListener<'_> {
                 journal.past.from = told.since;
             }
         }
+        if self.named.see(news_of(&self.journal)).is_err() {
+            return Err(JournalFault::NoMemory);
+        }
         let received = match (self.of.task, &self.journal) {
             (ScopeTask::Picture, Some(journal)) => {
                 let at = journal.table.reading().wall;
@@ -224,6 +232,14 @@ impl Receives for JournalListener<'_> {
             Ok(()) => Ok(is_event),
             Err(_) => Err(JournalFault::NoMemory),
         }
+    }
+}
+
+// What the journal's last line gave; nothing before its header.
+fn news_of(journal: &Option<OpenJournal>) -> &[News] {
+    match journal {
+        Some(journal) => journal.past.news.as_slice(),
+        None => &[],
     }
 }
 

@@ -1,5 +1,6 @@
 //! A journal's events for people, as they come.
 
+use crate::found::Findings;
 use crate::journal::fault::{JournalFault, tell_fault};
 use crate::journal::lines::{JournalLines, Receives};
 use crate::journal::source::{open_journal, read_source, tell_bad};
@@ -14,7 +15,7 @@ use std::{io, mem, thread};
 const PAUSE: u64 = 250;
 
 /// Shows the journal as it grows, and from the beginning if a new launcher has emptied it. A file that is away for a while, as when a new
-/// launcher puts it aside, is waited for. 65 if the journal can't be read.
+/// launcher puts it aside, is waited for. It returns why the journal can't be read.
 pub(crate) fn follow<W: Wait, H: Receives>(
     host: &HostRuntime,
     waits: &W,
@@ -22,7 +23,7 @@ pub(crate) fn follow<W: Wait, H: Receives>(
     path: &str,
     lines: &mut JournalLines,
     receiver: &mut H,
-) -> io::Result<u8> {
+) -> io::Result<Findings> {
     let mut told: u64 = 0;
     let mut open = None;
     for _ in waits.forever() {
@@ -31,7 +32,7 @@ pub(crate) fn follow<W: Wait, H: Receives>(
             Err(fault) => return tell_fault(host, path, fault),
         }
         if lines.bad > told {
-            let _status = tell_bad(host, path, lines);
+            let _is_bad = tell_bad(host, path, lines);
         }
         told = lines.bad;
         thread::sleep(host, Duration::from_millis(PAUSE));

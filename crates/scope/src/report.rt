@@ -2,19 +2,23 @@
 //! jobs follow. They are why each job is in its state, what its runs came to and their picture, the loaded definitions, and how files differ from
 //! them.
 
+ghost use Rattle.std.specs.Prelude.{IfOk};
+ghost use Rattle.scope.specs.Findings.{AreFound};
+
 use crate::age::{AsOf, clock_as_of, reading_as_of};
 use crate::as_root::read_for;
 use crate::at::{begun_by, read_up_to};
-use crate::by_file::FAILS;
 use crate::charted::{ReceivedMarks, chart_of};
 use crate::clock::now;
 use crate::drift::drift_of;
 use crate::errors::{add_errors, put_errors};
+use crate::found::{Findings, UNREADABLE, WELL};
 use crate::journal::fault::{JournalFault, tell_fault, tell_long};
 use crate::journal::lines::JournalLines;
 use crate::journal::reader::OpenJournal;
-use crate::journal::source::{INPUT, journal_paths, read_journal, tell_bad};
+use crate::journal::source::{INPUT, journal_paths, read_journal, reads_input, tell_bad};
 use crate::known_runs::KnownRuns;
+use crate::launcher::tell_no_launcher;
 use crate::listener::{JournalListener, zone_shown};
 use crate::log::follow;
 use crate::objects::job::around_journal;
@@ -35,7 +39,7 @@ use crate::window::window_of;
 use calendar_due::Zone;
 use definition_files::check::put_seen;
 use definition_files::tell_clockless;
-use exit_status::BAD_FILE;
+use exit_status::DIFFERS;
 use history_model::{Ended, Text};
 use launchctl_words::{ScopeCommand, ScopeTask};
 use launcher_life::{JournalAsked, LauncherSeen, Life, journal_life};
@@ -51,29 +55,31 @@ use std::sync::Wait;
 /// How many starts are shown if all are asked for and the arguments do not say it.
 const COUNT: u64 = 10;
 
-/// The message if the journal would have to come from a terminal.
-const NOT_NAMED: &str =
-    "a terminal gives no journal: name one by --journal PATH, or export JOBD_JOURNAL";
-
 /// Writes the report on the jobs of the journal, or on those that are named. A log has the events from the command's second on, a line each. If the
 /// command follows the journal, it goes on as the file grows; only this may wait.
 ///
-/// The exit status is 65 if the journal can't be read, or if a line is not an event or is too long. It is 65 too if nothing has a label that `why` is
-/// asked for, or if the journal begins after the time that is asked for. It is 71 if the clock can't be read.
+/// The exit status is 65 if no journal is found, if it can't be read, or if a line is not an event or is too long. It is 65 too if nothing has a
+/// label of the arguments, or if the journal begins after the time that is asked for. It is 71 if the clock can't be read.
 pub(crate) fn report<W: Wait>(
     host: &HostRuntime,
     waits: &W,
     alloc: Global,
     of: &ScopeCommand,
-) -> io::Result<Statuses> {
+) -> io::Result<Statuses>
+    ensures { IfOk result AreFound }
+{
     let window = match window_of(host, of) {
         Ok(window) => window,
-        Err(status) => return Ok(Statuses::only(status)),
+        Err(found) => return Ok(Statuses::of(WELL, found)),
     };
+    if is_of_status_file(of.task) {
+        tell_no_launcher(host, of.task)?;
+        return Ok(Statuses::of(WELL, UNREADABLE));
+    }
     let paths = journal_paths(host, of)?;
     let mut lines = JournalLines::new(alloc);
     let mut listener = JournalListener::new(alloc, of, window);
-    let status = report_on(
+    let found = report_on(
         host,
         waits,
         alloc,
@@ -84,7 +90,34 @@ pub(crate) fn report<W: Wait>(
     drop(listener);
     drop(lines);
     drop(paths);
-    status
+    match found {
+        Ok((before, last)) => Ok(Statuses::of(before, last)),
+        Err(error) => Err(error),
+    }
+}
+
+// Of a journal that comes on standard input. Without one no journal was found, which was reported.
+fn report_input(
+    host: &HostRuntime,
+    alloc: Global,
+    lines: &mut JournalLines,
+    listener: &mut JournalListener<'_>,
+) -> io::Result<(Findings, Findings)> {
+    if !reads_input(listener.of) {
+        return Ok((WELL, UNREADABLE));
+    }
+    match report_by(host, alloc, None, lines, listener) {
+        Ok(found) => Ok((WELL, found)),
+        Err(error) => Err(error),
+    }
+}
+
+// Whether the task is answered by a status file alone: it comes here if there is none.
+fn is_of_status_file(task: ScopeTask) -> bool {
+    match task {
+        ScopeTask::Status | ScopeTask::Metrics => true,
+        _ => false,
+    }
 }
 
 // Of several journals the last is the present launcher's; each of the others is read whole before it. If a time is given, journals that begin later
@@ -96,17 +129,12 @@ fn report_on<W: Wait>(
     paths: &[Text],
     lines: &mut JournalLines,
     listener: &mut JournalListener<'_>,
-) -> io::Result<Statuses> {
+) -> io::Result<(Findings, Findings)> {
     let kept = paths.len();
     let paths = up_to_moment(host, alloc, paths, listener);
     listener.is_followed = paths.len() < kept;
     let [before @ .., last] = paths else {
-        return Ok(Statuses::only(if host.stdin().is_terminal() {
-            tell_of(host, INPUT, &NOT_NAMED);
-            BAD_FILE
-        } else {
-            report_by(host, alloc, None, lines, listener)?
-        }));
+        return report_input(host, alloc, lines, listener);
     };
     let before = read_before(host, alloc, before, listener)?;
     let path = last.as_str();
@@ -116,7 +144,7 @@ fn report_on<W: Wait>(
         report_by(host, alloc, Some(path), lines, listener)
     };
     match told {
-        Ok(last) => Ok(Statuses { before, last }),
+        Ok(last) => Ok((before, last)),
         Err(error) => Err(error),
     }
 }
@@ -141,29 +169,41 @@ fn up_to_moment<'a>(
     }
 }
 
-// Reads each journal whole, and reports the faults in it. It returns the greatest exit status.
+// Reads each journal whole, and reports the faults in it.
 fn read_before(
     host: &HostRuntime,
     alloc: Global,
     paths: &[Text],
     listener: &mut JournalListener<'_>,
-) -> io::Result<u8> {
-    let mut status = 0;
+) -> io::Result<Findings> {
+    let mut found = WELL;
     for path in paths {
         let path = path.as_str();
         let mut lines = JournalLines::new(alloc);
         let is_quiet = is_quiet(listener.of.task);
         let told = match read_journal(host, Some(path), is_quiet, &mut lines, listener) {
-            Ok(()) => Ok(tell_bad(host, path, &lines)),
+            Ok(()) => Ok(damaged_if(tell_bad(host, path, &lines))),
             Err(fault) => tell_fault(host, path, fault),
         };
         drop(lines);
         match told {
-            Ok(told) => status = told.max(status),
+            Ok(told) => found = found.and(told),
             Err(error) => return Err(error),
         }
     }
-    Ok(status)
+    Ok(found)
+}
+
+fn damaged_if(is_damaged: bool) -> Findings {
+    Findings { is_damaged, ..WELL }
+}
+
+fn nowhere_if(is_nowhere: bool) -> Findings {
+    Findings { is_nowhere, ..WELL }
+}
+
+fn differing_if(differs: bool) -> Findings {
+    Findings { differs, ..WELL }
 }
 
 // Nothing is shown while a journal is read.
@@ -180,20 +220,23 @@ fn report_by(
     path: Option<&str>,
     lines: &mut JournalLines,
     listener: &mut JournalListener<'_>,
-) -> io::Result<u8> {
+) -> io::Result<Findings> {
     let name = path.unwrap_or(INPUT);
     let is_quiet = is_quiet(listener.of.task);
     let (read, as_of) = match read_as_of(host, alloc, path, is_quiet, lines, listener) {
-        Ok(as_of) => (tell_bad(host, name, lines), as_of),
+        Ok(as_of) => (damaged_if(tell_bad(host, name, lines)), as_of),
         // What came before that line is reported.
-        Err(JournalFault::LongLine(line)) => (tell_long(host, name, line), AsOf::End(None)),
+        Err(JournalFault::LongLine(line)) => {
+            tell_long(host, name, line);
+            (UNREADABLE, AsOf::End(None))
+        }
         Err(fault) => return tell_fault(host, name, fault),
     };
     if let (Some(path), ScopeTask::Log) = (path, listener.of.task) {
         put_end(host, alloc, path, listener)?;
     }
     match write_report(host, alloc, name, listener, as_of) {
-        Ok(status) => Ok(status.max(read)),
+        Ok(found) => Ok(found.and(read)),
         Err(error) => Err(error),
     }
 }
@@ -234,8 +277,12 @@ fn seen_now(
         None => now(host),
     };
     let seen = seen_at(host, alloc, path, listener);
+    let is_ending = match &listener.journal {
+        Some(journal) => journal.table.is_shutting_down(),
+        None => false,
+    };
     match second {
-        Some(second) => Ok(AsOf::Seen(second, seen)),
+        Some(second) => Ok(AsOf::Seen(second, seen, is_ending)),
         None => Err(JournalFault::Clock),
     }
 }
@@ -311,53 +358,81 @@ fn put_end(
     }
 }
 
-// What the journal's end says, and the exit status for it. A log was written as it was read.
+// What the journal's end says, and what was found. A log was written as it was read.
 fn write_report(
     host: &HostRuntime,
     alloc: Global,
     name: &str,
     listener: &JournalListener<'_>,
     as_of: AsOf,
-) -> io::Result<u8> {
+) -> io::Result<Findings> {
     let Some(journal) = &listener.journal else {
-        return Ok(0);
+        return Ok(WELL);
     };
     let of = listener.of;
     let zone = zone_shown(of, &listener.utc, &journal.zone);
     let labels = of.words.as_slice();
     let written = match of.task {
-        ScopeTask::Why if of.is_json => {
-            return put_objects(host, alloc, name, journal, zone, of, as_of);
-        }
-        ScopeTask::Why if of.is_failing => {
-            let status = put_failing(host, alloc, name, journal, zone, labels, as_of)?;
-            put_failed(host, alloc, name, journal, of, as_of)?;
-            return Ok(status);
-        }
-        ScopeTask::Why => put_made(host, why_text(alloc, journal, zone, labels, as_of)),
+        ScopeTask::Why => return put_why(host, alloc, name, journal, zone, of, as_of),
         ScopeTask::Runs => put_runs(host, alloc, name, journal, zone, of, as_of),
         ScopeTask::Picture => paint(host, alloc, journal, zone, &listener.received, of, as_of),
         ScopeTask::Show => put_made(host, show_text(alloc, journal, zone, labels, of.is_json)),
         ScopeTask::Next => put_next(host, alloc, name, journal, zone, of, as_of),
-        ScopeTask::Drift => {
-            return put_outcome(&mut host.stdout(), drift_of(host, alloc, journal, zone, of));
-        }
+        ScopeTask::Drift => return put_drift(host, alloc, journal, zone, of),
         _ => Ok(()),
     };
     match (written, of.task) {
-        (Ok(()), ScopeTask::Why) => {
-            let status = tell_unknown(host, alloc, name, journal, labels)?;
-            put_failed(host, alloc, name, journal, of, as_of)?;
-            put_now(host, alloc, journal, labels)?;
-            Ok(status)
-        }
-        (Ok(()), ScopeTask::Show) => tell_absent(host, name, journal, labels),
-        (Ok(()), _) => Ok(0),
+        (Ok(()), ScopeTask::Log | ScopeTask::Runs | ScopeTask::Picture | ScopeTask::Show) => Ok(
+            nowhere_if(tell_absent(host, alloc, name, listener, journal)?),
+        ),
+        (Ok(()), _) => Ok(WELL),
         (Err(error), _) => Err(error),
     }
 }
 
-// The jobs that fail. The exit status is 2 if there is one.
+fn put_why(
+    host: &HostRuntime,
+    alloc: Global,
+    name: &str,
+    journal: &OpenJournal,
+    zone: &Zone,
+    of: &ScopeCommand,
+    as_of: AsOf,
+) -> io::Result<Findings> {
+    if of.is_json {
+        return put_objects(host, alloc, name, journal, zone, of, as_of);
+    }
+    let labels = of.words.as_slice();
+    if of.is_failing {
+        let found = put_failing(host, alloc, name, journal, zone, labels, as_of)?;
+        put_failed(host, alloc, name, journal, of, as_of)?;
+        return Ok(found);
+    }
+    put_made(host, why_text(alloc, journal, zone, labels, as_of))?;
+    let is_nowhere = tell_unknown(host, alloc, name, journal, labels)?;
+    put_failed(host, alloc, name, journal, of, as_of)?;
+    put_now(host, alloc, journal, labels)?;
+    Ok(nowhere_if(is_nowhere))
+}
+
+// How files differ from what is loaded.
+fn put_drift(
+    host: &HostRuntime,
+    alloc: Global,
+    journal: &OpenJournal,
+    zone: &Zone,
+    of: &ScopeCommand,
+) -> io::Result<Findings> {
+    let made = drift_of(host, alloc, journal, zone, of);
+    let status = put_outcome(&mut host.stdout(), made)?;
+    Ok(match status {
+        0 => WELL,
+        DIFFERS => differing_if(true),
+        _ => UNREADABLE,
+    })
+}
+
+// The jobs that fail.
 fn put_failing(
     host: &HostRuntime,
     alloc: Global,
@@ -366,11 +441,11 @@ fn put_failing(
     zone: &Zone,
     labels: &[Text],
     as_of: AsOf,
-) -> io::Result<u8> {
+) -> io::Result<Findings> {
     let (text, count) = failing_text(alloc, journal, zone, labels, as_of)?;
     put_made(host, Ok(text))?;
-    let unknown = tell_unknown(host, alloc, name, journal, labels)?;
-    Ok(unknown.max(if count > 0 { FAILS } else { 0 }))
+    let is_nowhere = tell_unknown(host, alloc, name, journal, labels)?;
+    Ok(nowhere_if(is_nowhere).and(differing_if(count > 0)))
 }
 
 // Where the errors of the jobs went whose last run failed. For an earlier time it does not print what a file has now.
@@ -388,14 +463,14 @@ fn put_failed(
     }
     let is_seen = match as_of {
         AsOf::Moment { .. } => false,
-        AsOf::End(_) | AsOf::Seen(_, _) => true,
+        AsOf::End(_) | AsOf::Seen(_, _, _) => true,
     };
     let path = if name == INPUT { None } else { Some(name) };
     let whom = read_for(host, path);
     put_errors(host, alloc, failed.as_slice(), is_seen, whom)
 }
 
-// Why each job runs or not, as objects. The exit status is 2 if failing jobs are asked for, and there is one.
+// Why each job runs or not, as objects.
 fn put_objects(
     host: &HostRuntime,
     alloc: Global,
@@ -404,11 +479,11 @@ fn put_objects(
     zone: &Zone,
     of: &ScopeCommand,
     as_of: AsOf,
-) -> io::Result<u8> {
+) -> io::Result<Findings> {
     let (text, count) = why_objects(alloc, journal, zone, of, as_of)?;
     put_made(host, Ok(text))?;
-    let unknown = tell_unknown(host, alloc, name, journal, of.words.as_slice())?;
-    Ok(unknown.max(if of.is_failing && count > 0 { FAILS } else { 0 }))
+    let is_nowhere = tell_unknown(host, alloc, name, journal, of.words.as_slice())?;
+    Ok(nowhere_if(is_nowhere).and(differing_if(of.is_failing && count > 0)))
 }
 
 fn put_runs(
@@ -520,49 +595,90 @@ fn put_now(
     Ok(())
 }
 
-// Reports each of the labels that nothing in the journal has. It returns the exit status, which is 65 then.
+// Reports each of the labels that nothing in the journal has. It returns whether there is one.
 fn tell_unknown(
     host: &HostRuntime,
     alloc: Global,
     name: &str,
     journal: &OpenJournal,
     labels: &[Text],
-) -> io::Result<u8> {
-    let mut status = 0;
+) -> Result<bool, AllocError> {
+    let mut is_nowhere = false;
     for label in labels {
         let label = label.as_str();
         if !is_known(journal, label) {
-            let told = unknown_text(alloc, journal, label)?;
-            tell_of(host, name, &told);
-            drop(told);
-            status = BAD_FILE;
+            tell_nowhere(host, alloc, name, journal, label)?;
+            is_nowhere = true;
         }
     }
-    Ok(status)
+    Ok(is_nowhere)
 }
 
-// Reports each of the labels that is not loaded. It returns the exit status, which is 65 then.
-fn tell_absent(
+// Reports that nothing has the label, and those near it.
+fn tell_nowhere(
     host: &HostRuntime,
+    alloc: Global,
     name: &str,
     journal: &OpenJournal,
-    labels: &[Text],
-) -> io::Result<u8> {
-    let mut status = 0;
-    for label in labels {
+    label: &str,
+) -> Result<(), AllocError> {
+    let told = unknown_text(alloc, journal, label)?;
+    tell_of(host, name, &told);
+    drop(told);
+    Ok(())
+}
+
+// Reports each of the labels of the arguments that no line of the journals names, and for `show` each that is not loaded. It returns whether there is
+// one. For a picture a note says which label the journal has no load of; this is not a fault.
+fn tell_absent(
+    host: &HostRuntime,
+    alloc: Global,
+    name: &str,
+    listener: &JournalListener<'_>,
+    journal: &OpenJournal,
+) -> Result<bool, AllocError> {
+    let mut is_absent = false;
+    for label in listener.of.words.as_slice() {
         let label = label.as_str();
-        if journal.facts(label).is_none() {
-            let alloc = host.alloc();
+        if is_nowhere(listener, journal, label) {
+            tell_nowhere(host, alloc, name, journal, label)?;
+            is_absent = true;
+        } else {
+            is_absent = is_absent | tell_unloaded(host, alloc, name, listener, journal, label)?;
+        }
+    }
+    Ok(is_absent)
+}
+
+// Nothing has the label: no job, no setting, no refused load, and no other line.
+fn is_nowhere(listener: &JournalListener<'_>, journal: &OpenJournal, label: &str) -> bool {
+    !is_known(journal, label) && !listener.named.has(label)
+}
+
+// Reports of a label that the journal has whether it has the job that is asked for. It returns whether its lack is a fault.
+fn tell_unloaded(
+    host: &HostRuntime,
+    alloc: Global,
+    name: &str,
+    listener: &JournalListener<'_>,
+    journal: &OpenJournal,
+    label: &str,
+) -> Result<bool, AllocError> {
+    match listener.of.task {
+        ScopeTask::Show if journal.facts(label).is_none() => {
             let told = format!(in alloc; "{label} is not loaded")?;
             tell_of(host, name, &told);
             drop(told);
-            status = BAD_FILE;
+            Ok(true)
         }
+        ScopeTask::Picture if journal.past.jobs.get(label).is_none() => {
+            tell_of(host, label, &"the journal has no load of it");
+            Ok(false)
+        }
+        _ => Ok(false),
     }
-    Ok(status)
 }
 
-// A named label that the journal has no load of is reported. This is not a fault.
 fn paint(
     host: &HostRuntime,
     alloc: Global,
@@ -573,12 +689,6 @@ fn paint(
     as_of: AsOf,
 ) -> io::Result<()> {
     let labels = of.words.as_slice();
-    for label in labels {
-        let label = label.as_str();
-        if journal.past.jobs.get(label).is_none() {
-            tell_of(host, label, &"the journal has no load of it");
-        }
-    }
     let chart = chart_of(alloc, &journal.past, received)?;
     let painted = if of.is_page {
         paint_page(host, alloc, journal, zone, &chart, labels, as_of)

@@ -8,8 +8,10 @@ ghost use Rattle.command_words.specs.declared.scope_command.Meaning.{Meaning as 
 ghost use Rattle.command_words.specs.declared.scope_command.ScopeCommand.{ScopeCommand as Asked};
 ghost use Rattle.scope.specs.declared.subcommands.Part.{Part as Kind};
 ghost use Rattle.scope.specs.declared.subcommands.Statuses.{Statuses as Both};
+ghost use Rattle.scope.specs.Findings.{findings_status};
 ghost use Rattle.scope.specs.Parts.{part_in};
 
+use crate::found::Findings;
 use launchctl_words::{Meaning, ScopeCommand, ScopeTask, WordFault};
 use std::io;
 
@@ -42,6 +44,19 @@ impl Statuses {
         Statuses {
             before: 0,
             last: status,
+        }
+    }
+
+    /// Those of what each step found.
+    pub(crate) fn of(before: Findings, last: Findings) -> Statuses
+        ensures { result ≡ record {
+          before = findings_status before;
+          last = findings_status last;
+        } }
+    {
+        Statuses {
+            before: before.status(),
+            last: last.status(),
         }
     }
 }

@@ -1,9 +1,10 @@
 //! Which part of a journal is reported: the times of the arguments, and the seconds that they mean by a journal's zone.
 
 use crate::clock::now;
+use crate::found::{Findings, NO_CLOCK, WELL};
 use crate::journal::fault::JournalFault;
+use crate::printed_times::read_printed;
 use calendar_due::Zone;
-use exit_status::{BAD_CLOCK, USAGE};
 use history_model::{MAX_WALL, Text};
 use launchctl_words::{ScopeCommand, ScopeTask};
 use moment_words::{Moment, WANTED, read_moment, second_of};
@@ -34,8 +35,8 @@ pub(crate) struct ReportedSpan {
     pub(crate) until: u64,
 }
 
-/// The times that the arguments name. If one is not a time, or if the clock can't be read, it reports that and returns the exit status.
-pub(crate) fn window_of(host: &HostRuntime, of: &ScopeCommand) -> Result<Window, u8> {
+/// The times that the arguments name. If one is not a time, or if the clock can't be read, it reports that and returns what that means.
+pub(crate) fn window_of(host: &HostRuntime, of: &ScopeCommand) -> Result<Window, Findings> {
     let words = &of.moments;
     let at = moment_of(host, "--at", &words.at)?;
     let since = moment_of(host, "--since", &words.since)?;
@@ -52,20 +53,27 @@ pub(crate) fn window_of(host: &HostRuntime, of: &ScopeCommand) -> Result<Window,
             until,
             now,
         }),
-        None => Err(BAD_CLOCK),
+        None => Err(NO_CLOCK),
     }
 }
 
-fn moment_of(host: &HostRuntime, option: &str, text: &Option<Text>) -> Result<Option<Moment>, u8> {
+fn moment_of(
+    host: &HostRuntime,
+    option: &str,
+    text: &Option<Text>,
+) -> Result<Option<Moment>, Findings> {
     let Some(text) = text else {
         return Ok(None);
     };
     let text = text.as_str();
-    let moment = read_moment(text);
+    let moment = read_moment(text).or(read_printed(text));
     if moment.is_none() {
         let wanted = WANTED;
         let _written = eprintln!(host; "jobscope: {option} {text:?}: expected {wanted}");
-        return Err(USAGE);
+        return Err(Findings {
+            is_misused: true,
+            ..WELL
+        });
     }
     Ok(moment)
 }

@@ -1,6 +1,9 @@
 //! What keeps a journal from being read.
 
-use exit_status::{BAD_CLOCK, BAD_FILE};
+ghost use Rattle.std.specs.Prelude.{◌≡◌, IfOk};
+ghost use Rattle.scope.specs.Findings.{found_by};
+
+use crate::found::{Findings, NO_CLOCK, UNREADABLE};
 use run_times::telling::{tell_line, tell_of};
 use run_times::{Piece, TextWriter};
 use std::io;
@@ -34,29 +37,37 @@ pub enum JournalFault {
     Write(io::Error),
 }
 
-/// Reports that the line is too long, and returns the exit status.
-pub(crate) fn tell_long(host: &HostRuntime, name: &str, line: u64) -> u8 {
+/// Reports that the line is too long.
+pub(crate) fn tell_long(host: &HostRuntime, name: &str, line: u64) {
     let mut told = TextWriter::new(host.alloc());
     told.fill(
         "jobscope: $: line $: longer than 262144 bytes; the output covers the lines before it\n",
         &[Piece::Text(name), Piece::Number(line)],
     );
     tell_line(host, told);
-    BAD_FILE
 }
 
-/// Reports what keeps the journal from being read, and returns the exit status. An error for want of memory, or of a write.
-pub(crate) fn tell_fault(host: &HostRuntime, name: &str, fault: JournalFault) -> io::Result<u8> {
+/// Reports what keeps the journal from being read, and returns what that means. An error for want of memory, or of a write.
+pub(crate) fn tell_fault(
+    host: &HostRuntime,
+    name: &str,
+    fault: JournalFault,
+) -> io::Result<Findings>
+    ensures { IfOk result (λ found. found ≡ found_by fault) }
+{
     let words = match fault {
         JournalFault::NoMemory => return Err(io::Error::from(ErrorKind::OutOfMemory)),
         JournalFault::Write(error) => return Err(error),
-        JournalFault::Clock => return Ok(BAD_CLOCK),
+        JournalFault::Clock => return Ok(NO_CLOCK),
         JournalFault::Read(error) => {
             tell_of(host, name, &error);
             drop(error);
-            return Ok(BAD_FILE);
+            return Ok(UNREADABLE);
         }
-        JournalFault::LongLine(line) => return Ok(tell_long(host, name, line)),
+        JournalFault::LongLine(line) => {
+            tell_long(host, name, line);
+            return Ok(UNREADABLE);
+        }
         JournalFault::NoHeader => "line 1: not a complete line; a journal begins with its header",
         JournalFault::BadHeader => "line 1: not the header of a journal",
         JournalFault::BadZone => "line 1: the header's zone is not valid",
@@ -68,5 +79,5 @@ pub(crate) fn tell_fault(host: &HostRuntime, name: &str, fault: JournalFault) ->
         }
     };
     tell_of(host, name, &words);
-    Ok(BAD_FILE)
+    Ok(UNREADABLE)
 }

@@ -1,12 +1,12 @@
 //! Finds and reads the journal that the arguments name.
 
-ghost use Rattle.std.specs.Prelude.{◌≡◌, false, None, IfOk, OnOk};
+ghost use Rattle.std.specs.Prelude.{◌≡◌, false, None, IfOk, OnOk, nat_lt};
 ghost use Rattle.std.specs.Io.KnownBytes.{IsAtEnd};
 ghost use Rattle.scope.specs.Journals.{Reads, ReceivesPiece, ReceivesAll};
 
 use crate::journal::fault::JournalFault;
 use crate::journal::lines::{JournalLines, Receives};
-use exit_status::BAD_FILE;
+use crate::launcher::{is_there, launcher_files, tell_no_file};
 use history_model::Text;
 use launchctl_words::{Paths, ScopeCommand, ScopeTask};
 use run_times::telling::{put, tell_line, tell_of};
@@ -148,32 +148,96 @@ pub(crate) const NONE_NAMED: &str = "read, since no journal is named";
 /// How many journals of launchers before are looked for: `jobd-run` keeps no more.
 const MOST_KEPT: u64 = 99;
 
-/// The journal of the package.
-pub(crate) const PACKAGED: &str = "/var/lib/jobd/journal.jsonl";
+/// How the arguments name standard input.
+const INPUT_WORD: &str = "-";
 
-/// The paths of the journals, the oldest first: those of the arguments, else that of `JOBD_JOURNAL`. If neither names one and standard input is a
-/// terminal, it takes the package's journal and prints a note. None: the journal comes on standard input.
-pub(crate) fn journal_paths(host: &HostRuntime, of: &ScopeCommand) -> Result<Paths, AllocError> {
+/// Whether the journal comes on standard input: the arguments name it by `-`. Only then is it read.
+pub(crate) fn reads_input(of: &ScopeCommand) -> bool {
+    match of.journals.as_slice() {
+        [only] => only.as_str() == INPUT_WORD,
+        _ => false,
+    }
+}
+
+/// Whether standard input is one of several journals.
+pub(crate) fn has_input_among(of: &ScopeCommand) -> bool {
+    let journals = of.journals.as_slice();
+    journals.len() > 1 && journals.iter().any(|path| path.as_str() == INPUT_WORD)
+}
+
+/// The paths of the journals, the oldest first: those of the arguments, else that of `JOBD_JOURNAL`, else that of the launcher. If there is none, it
+/// reports that and returns none; it returns none too if the journal comes on standard input.
+pub(crate) fn journal_paths(host: &HostRuntime, of: &ScopeCommand) -> io::Result<Paths> {
     let mut paths = Vec::new(host.alloc());
+    if reads_input(of) {
+        return Ok(Paths::new(paths));
+    }
+    match add_paths(host, of, &mut paths) {
+        Ok(()) => Ok(Paths::new(paths)),
+        Err(error) => {
+            drop(paths);
+            Err(error)
+        }
+    }
+}
+
+fn add_paths(host: &HostRuntime, of: &ScopeCommand, paths: &mut Vec<Text>) -> io::Result<()> {
+    add_named(host, of, paths)?;
+    if !paths.is_empty() {
+        return Ok(());
+    }
+    match env::var(host, "JOBD_JOURNAL") {
+        Ok(path) => add_path(host, of, path.as_str(), paths)?,
+        Err(VarError::OutOfMemory) => return Err(io::Error::from(ErrorKind::OutOfMemory)),
+        Err(_) => {}
+    }
+    if paths.is_empty() {
+        add_launchers(host, of, paths)?;
+    }
+    Ok(())
+}
+
+// Those of the arguments.
+fn add_named(
+    host: &HostRuntime,
+    of: &ScopeCommand,
+    paths: &mut Vec<Text>,
+) -> Result<(), AllocError> {
     for (at, path) in of.journals.as_slice().iter().enumerate() {
         let others = of.journals.as_slice().get(at..).unwrap_or(&[]);
         if !is_named_again(host, path.as_str(), others) {
             paths.push(Text::copy_of(host.alloc(), path.as_str())?)?;
         }
     }
-    if !paths.is_empty() {
-        return Ok(Paths::new(paths));
+    Ok(())
+}
+
+// Those of the launcher that is meant. In a terminal a note says which one, if nothing named it.
+fn add_launchers(host: &HostRuntime, of: &ScopeCommand, paths: &mut Vec<Text>) -> io::Result<()> {
+    let files = launcher_files(host, host.alloc())?;
+    let added = match (&files.fault, &files.journal) {
+        (None, Some(path)) if !files.is_packages || is_there(host, path.as_str()) => {
+            if files.is_packages && host.stdin().is_terminal() {
+                tell_of(host, path.as_str(), &NONE_NAMED);
+            }
+            add_path(host, of, path.as_str(), paths)
+        }
+        _ => {
+            tell_no_file(host, &files, task_told(of));
+            Ok(())
+        }
+    };
+    drop(files);
+    Ok(added?)
+}
+
+// The task by which a missing file is reported: what only a journal has is asked of no status file.
+fn task_told(of: &ScopeCommand) -> ScopeTask {
+    if of.moments.at.is_some() || of.is_all {
+        ScopeTask::Log
+    } else {
+        of.task
     }
-    match env::var(host, "JOBD_JOURNAL") {
-        Ok(path) => add_path(host, of, path.as_str(), &mut paths)?,
-        Err(VarError::OutOfMemory) => return Err(AllocError),
-        Err(_) => {}
-    }
-    if paths.is_empty() && stands_in(host, PACKAGED) {
-        tell_of(host, PACKAGED, &NONE_NAMED);
-        add_path(host, of, PACKAGED, &mut paths)?;
-    }
-    Ok(Paths::new(paths))
 }
 
 // Whether one after the first of the paths is the same file as that one: of a journal that is named twice the last counts.
@@ -196,18 +260,13 @@ fn is_same_file(host: &HostRuntime, one: &str, other: &str) -> bool {
     }
 }
 
-/// Whether a journal is found where the arguments name none: that of `JOBD_JOURNAL`, or in the place of a terminal that of the package.
-pub(crate) fn finds_journal(host: &HostRuntime) -> Result<bool, AllocError> {
+/// Whether `JOBD_JOURNAL` names a journal.
+pub(crate) fn has_variable(host: &HostRuntime) -> Result<bool, AllocError> {
     match env::var(host, "JOBD_JOURNAL") {
-        Ok(path) if !path.is_empty() => Ok(true),
+        Ok(path) => Ok(!path.is_empty()),
         Err(VarError::OutOfMemory) => Err(AllocError),
-        _ => Ok(stands_in(host, PACKAGED)),
+        Err(_) => Ok(false),
     }
-}
-
-/// Whether the package's file at the path is read instead of a terminal: standard input is one, and the file can be opened.
-pub(crate) fn stands_in(host: &HostRuntime, path: &str) -> bool {
-    host.stdin().is_terminal() && open_journal(host, path).is_ok()
 }
 
 // Adds the path, if it is not empty. If the past is asked for, it adds it after those with `.1`, `.2` and so on, the oldest
@@ -262,12 +321,14 @@ pub(crate) fn open_journal(host: &HostRuntime, path: &str) -> io::Result<File> {
     File::open(host, path)
 }
 
-/// Reports the lines that are not events and were left out, if there are some. It returns the exit status, which is 65 then.
-pub(crate) fn tell_bad(host: &HostRuntime, name: &str, lines: &JournalLines) -> u8 {
+/// Reports the lines that are not events and were left out, if there are some. It returns whether there are.
+pub(crate) fn tell_bad(host: &HostRuntime, name: &str, lines: &JournalLines) -> bool
+    ensures { result ≡ nat_lt 0 lines.now.bad }
+{
     let first = lines.first_bad;
     let more = lines.bad.saturating_sub(1);
     if lines.bad == 0 {
-        return 0;
+        return false;
     }
     let form = if more == 0 {
         "jobscope: $: line $ is not an event\n"
@@ -278,7 +339,7 @@ pub(crate) fn tell_bad(host: &HostRuntime, name: &str, lines: &JournalLines) -> 
     let holes = [Piece::Text(name), Piece::Number(first), Piece::Number(more)];
     told.fill(form, &holes);
     tell_line(host, told);
-    BAD_FILE
+    true
 }
 
 /// Reads the journal of the path, or that of standard input, up to its last whole line.

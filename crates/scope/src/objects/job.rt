@@ -46,9 +46,9 @@ pub(crate) struct Beside<'a> {
 /// What is known of the launcher of a journal that is reported as of then.
 pub(crate) fn around_journal(as_of: AsOf, last: Reading) -> ReportContext {
     let launcher = match as_of {
-        AsOf::Seen(_, Some(seen)) | AsOf::End(Some(seen)) => Text(life_name(seen.life)),
+        AsOf::Seen(_, Some(seen), _) | AsOf::End(Some(seen)) => Text(life_name(seen.life)),
         AsOf::Moment { is_gap: true, .. } => Text("none"),
-        AsOf::Seen(_, None) | AsOf::End(None) | AsOf::Moment { .. } => Absent,
+        AsOf::Seen(_, None, _) | AsOf::End(None) | AsOf::Moment { .. } => Absent,
     };
     ReportContext {
         as_of: last.wall,

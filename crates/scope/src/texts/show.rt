@@ -52,7 +52,7 @@ fn add_job(page: &mut Page<'_>, label: &str, job: &KeptJob, known: KnownLabel, i
         &[Text(label), Moment(job.record.loaded().wall)],
     );
     add_disabled(page, label, known);
-    add_stream(page, "Its output goes", def.standard_out_path());
+    add_output(page, def);
     add_stream(page, "Its errors go", def.standard_error_path());
     add_unheeded(page, def);
     match laid_out(page.alloc, text.as_str()) {
@@ -63,6 +63,16 @@ fn add_job(page: &mut Page<'_>, label: &str, job: &KeptJob, known: KnownLabel, i
             drop(bytes);
         }
         Err(_) => page.writer.refuse(),
+    }
+}
+
+// The output of a run that serves a connection goes to its client (launchd.plist(5), inetdCompatibility).
+fn add_output(page: &mut Page<'_>, def: &Def) {
+    if def.has_sockets() {
+        page.writer
+            .put("  Its output goes to the client of the connection.\n");
+    } else {
+        add_stream(page, "Its output goes", def.standard_out_path());
     }
 }
 
