@@ -40,7 +40,7 @@ const JOURNAL: Argument = Argument {
     id: "journal",
     form: Form::Values,
     value: "PATH",
-    help: "The journal (default: JOBD_JOURNAL, else standard input). Several are read as one: the oldest first",
+    help: "The journal; - is standard input (default: JOBD_JOURNAL, else the launcher's). Several are read as one: the oldest first",
 };
 
 const LABELS: Argument = Argument {
@@ -117,7 +117,7 @@ const STATUS_FILE: Argument = Argument {
     id: "status-file",
     form: Form::Value { required: false },
     value: "PATH",
-    help: "The launcher's status file (default: JOBD_STATUS_FILE)",
+    help: "The launcher's status file (default: JOBD_STATUS_FILE, else the launcher's)",
 };
 
 const NEXT: &[Argument] = &[
