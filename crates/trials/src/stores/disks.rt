@@ -1,50 +1,279 @@
-//! Disks in memory that stop after a number of calls.
+//! A machine with two disks in memory, a store's log and its database. They stay when a store that was over them is dropped. The machine refuses
+//! the calls that its plan names.
+
+ghost use Rattle.std.specs.Prelude.{◌≡◌, ◌+◌, ◌&&◌, not, false};
+ghost use Rattle.sqlite_disk.specs.Disk.{CountsFault};
+ghost use Rattle.sqlite_disk.specs.Refusal.{finds_no_room};
 
 use sqlite::Files;
-use sqlite_disk::{Disk, Fuse, Memory};
+use sqlite_disk::{Crash, Disk, Memory, Tally};
 use std::alloc::Global;
+use std::cell::Cell;
+use std::io;
 
 /// More calls than any run makes.
-pub const MANY: u64 = 1_000_000;
+pub const NEVER: u64 = 1_000_000;
 
-/// The disks of a store's log and of its database.
-pub type Disks = Files<Fuse<Memory>>;
+/// Which calls the disks refuse. Those of both are counted together, from 0 on.
+#[derive(Clone, Copy)]
+pub struct Plan {
+    pub first: u64,
+    pub second: u64,
+    /// Whether the machine stops at the second one: it refuses each later call, too.
+    pub stops: bool,
+}
 
-/// Disks that hold nothing yet, and do not stop.
-pub fn new_disks(alloc: Global) -> Disks {
-    Files {
-        log: Fuse::new(Memory::new(alloc), MANY),
-        db: Fuse::new(Memory::new(alloc), MANY),
+/// No call is refused.
+pub const NONE: Plan = Plan {
+    first: NEVER,
+    second: NEVER,
+    stops: false,
+};
+
+impl Plan {
+    fn refuses(self, number: u64) -> bool {
+        let is_one = number == self.first || number == self.second;
+        is_one || (self.stops && number > self.second)
     }
 }
 
-/// A disk that holds the same, and stops after this many calls.
-fn copy(alloc: Global, disk: &Fuse<Memory>, calls: u64) -> Option<Fuse<Memory>> {
-    let mut out = Memory::new(alloc);
-    let is_written = out.write_at(0, disk.inner().bytes()).is_ok();
-    if is_written {
-        Some(Fuse::new(out, calls))
+/// How many calls the disks got, how many of them they refused, and how often they were opened.
+#[derive(Clone, Copy)]
+pub struct Counts {
+    pub calls: u64,
+    pub refused: u64,
+    pub opens: u64,
+}
+
+#[derive(Drop)]
+pub struct Machine {
+    log: Cell<Option<Memory>>,
+    db: Cell<Option<Memory>>,
+    plan: Plan,
+    counts: Cell<Counts>,
+    /// Of the seeds of its connections, which differ from those of the machine that it is a copy of.
+    seed: u64,
+}
+
+/// A disk with the same bytes, which are all synced.
+fn copied(alloc: Global, slot: &mut Option<Memory>) -> Option<Memory> {
+    let disk = slot.as_ref()?;
+    let mut copy = Memory::new(alloc);
+    let is_written = copy.write_at(0, disk.bytes()).is_ok();
+    let is_synced = copy.sync().is_ok();
+    if is_written && is_synced {
+        Some(copy)
     } else {
-        drop(out);
+        drop(copy);
         None
     }
 }
 
-/// Disks that hold the same. That of the log stops after `log` calls, and that of the database after `db` calls.
-pub fn copies(alloc: Global, from: &Disks, log: u64, db: u64) -> Option<Disks> {
-    match (copy(alloc, &from.log, log), copy(alloc, &from.db, db)) {
-        (Some(log), Some(db)) => Some(Files { log, db }),
-        (log, db) => {
-            drop(log);
-            drop(db);
-            None
+fn crash(slot: &mut Option<Memory>) {
+    if let Some(disk) = slot {
+        disk.crash();
+    }
+}
+
+impl Machine {
+    /// Its disks hold nothing yet.
+    pub fn new(alloc: Global) -> Machine {
+        Machine::with(Memory::new(alloc), Memory::new(alloc), NONE, 0)
+    }
+
+    fn with(log: Memory, db: Memory, plan: Plan, seed: u64) -> Machine {
+        let counts = Counts {
+            calls: 0,
+            refused: 0,
+            opens: 0,
+        };
+        Machine {
+            log: Cell::new(Some(log)),
+            db: Cell::new(Some(db)),
+            plan,
+            counts: Cell::new(counts),
+            seed,
+        }
+    }
+
+    /// A machine whose disks hold the same.
+    pub fn copy(&mut self, alloc: Global, plan: Plan) -> Option<Machine> {
+        let log = copied(alloc, self.log.get_mut());
+        let db = copied(alloc, self.db.get_mut());
+        match (log, db) {
+            (Some(log), Some(db)) => {
+                let seed = self.seed.saturating_add(100);
+                Some(Machine::with(log, db, plan, seed))
+            }
+            (log, db) => {
+                drop(log);
+                drop(db);
+                None
+            }
+        }
+    }
+
+    /// Its disks lose all that was not synced.
+    pub fn crash(&mut self) {
+        crash(self.log.get_mut());
+        crash(self.db.get_mut());
+    }
+
+    pub fn counts(&self) -> Counts {
+        self.counts.get()
+    }
+
+    /// A number that no connection to its disks had yet.
+    pub fn seed(&self) -> u64 {
+        self.seed.saturating_add(self.counts().opens)
+    }
+
+    /// Counts a call, and says whether it is refused.
+    fn refuses(&self) -> bool {
+        let mut counts = self.counts.get();
+        let is_refused = self.plan.refuses(counts.calls);
+        counts.calls = counts.calls.saturating_add(1);
+        if is_refused {
+            counts.refused = counts.refused.saturating_add(1);
+        }
+        self.counts.set(counts);
+        is_refused
+    }
+
+    /// Its disks, until they are dropped; none if they were lent and are not back.
+    pub fn files(&self) -> Option<Files<LentDisk<'_, Memory>>> {
+        let mut counts = self.counts.get();
+        counts.opens = counts.opens.saturating_add(1);
+        self.counts.set(counts);
+        match (self.log.replace(None), self.db.replace(None)) {
+            (Some(log), Some(db)) => Some(Files {
+                log: lent(self, &self.log, log),
+                db: lent(self, &self.db, db),
+            }),
+            (log, db) => {
+                drop(log);
+                drop(db);
+                None
+            }
         }
     }
 }
 
-/// Whether there are any. They are dropped.
-pub fn are_there(disks: Option<Disks>) -> bool {
-    let are_there = disks.is_some();
-    drop(disks);
-    are_there
+/// A disk of a machine, which goes back to it once it is dropped.
+pub struct LentDisk<'a, D: Disk> {
+    inner: D,
+    slot: &'a Cell<Option<D>>,
+    machine: &'a Machine,
+    refused: u64,
+    sync_refused: bool,
+}
+
+fn lent<'a, D: Disk>(machine: &'a Machine, slot: &'a Cell<Option<D>>, inner: D) -> LentDisk<'a, D> {
+    LentDisk {
+        inner,
+        slot,
+        machine,
+        refused: 0,
+        sync_refused: false,
+    }
+}
+
+impl<D: Disk + Drop> Drop for LentDisk<'_, D> {
+    fn drop(self) {
+        let LentDisk {
+            inner,
+            slot,
+            machine: _,
+            refused: _,
+            sync_refused: _,
+        } = self;
+        slot.set(Some(inner));
+    }
+}
+
+/// An error if the machine refuses this call.
+fn spend(machine: &Machine, refused: &mut u64) -> io::Result<()>
+    ensures faults { CountsFault result refused.old refused.new }
+    ensures kind { finds_no_room result ≡ false }
+{
+    if machine.refuses() {
+        *refused = refused.saturating_add(1);
+        return Err(io::Error::other("the disk refuses it"));
+    }
+    Ok(())
+}
+
+impl<D: Disk> Disk for LentDisk<'_, D> {
+    ghost seen = { λ d. D.Disk.seen d.inner };
+
+    ghost may_leave = { λ d. D.Disk.may_leave d.inner };
+
+    ghost is_usable = { λ d. D.Disk.is_usable d.inner && not d.sync_refused };
+
+    ghost faults = { λ d. D.Disk.faults d.inner + d.refused };
+
+    ghost tally_of = { λ d. D.Disk.tally_of d.inner };
+
+    ghost is_rotten = { λ d. D.Disk.is_rotten d.inner };
+
+    ghost key_of = { λ d. D.Disk.key_of d.inner };
+
+    ghost is_clean = { λ d. D.Disk.is_clean d.inner };
+
+    ghost is_fair = { λ d. D.Disk.is_fair d.inner };
+
+    ghost fair_if_clean = { λ d. D.Disk.fair_if_clean d.inner };
+
+    ghost seen_may_stay = { λ d. D.Disk.seen_may_stay d.inner };
+
+    ghost is_mixing = { λ d. D.Disk.is_mixing d.inner };
+
+    fn mixes(&self) -> bool {
+        self.inner.mixes()
+    }
+
+    fn key(&self) -> u64 {
+        self.inner.key()
+    }
+
+    fn tally(&self) -> Tally {
+        self.inner.tally()
+    }
+
+    fn may_be_used(&self) -> bool {
+        self.inner.may_be_used() && !self.sync_refused
+    }
+
+    fn len(&mut self) -> io::Result<usize> {
+        spend(self.machine, &mut self.refused)?;
+        self.inner.len()
+    }
+
+    fn read_at(&mut self, at: usize, buf: &mut [u8]) -> io::Result<()> {
+        spend(self.machine, &mut self.refused)?;
+        self.inner.read_at(at, buf)
+    }
+
+    fn read_checked(&mut self, key: u64, want: u64, at: usize, buf: &mut [u8]) -> io::Result<()> {
+        spend(self.machine, &mut self.refused)?;
+        self.inner.read_checked(key, want, at, buf)
+    }
+
+    fn write_at(&mut self, at: usize, bytes: &[u8]) -> io::Result<()> {
+        spend(self.machine, &mut self.refused)?;
+        self.inner.write_at(at, bytes)
+    }
+
+    fn set_len(&mut self, len: usize) -> io::Result<()> {
+        spend(self.machine, &mut self.refused)?;
+        self.inner.set_len(len)
+    }
+
+    fn sync(&mut self) -> io::Result<()> {
+        if let Err(error) = spend(self.machine, &mut self.refused) {
+            self.sync_refused = true;
+            return Err(error);
+        }
+        self.inner.sync()
+    }
 }
