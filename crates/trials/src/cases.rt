@@ -52,7 +52,7 @@ fn goes(rt: &HostRuntime, case: &Case) -> bool {
         Case::System(scene) => matches!(system::is_played(rt, scene), Some(true)),
         Case::RefusedRounds => matches!(refusals::are_taken(rt), Some(true)),
         Case::Ends(ends) => matches!(ends::is_so(rt, ends), Some(true)),
-        Case::Lasting(made, rounds) => files::do_last(alloc, made, rounds),
+        Case::Lasting(made, lists) => files::do_last(alloc, made, lists),
         Case::Stopping(run, is_mended) => stops::are_followed(alloc, run, is_mended),
         Case::Launched(turns) => matches!(launchers::is_so::<Stage>(alloc, turns), Some(true)),
         Case::Journal(row) => matches!(journals::become_so(alloc, row), Some(true)),

@@ -81,21 +81,21 @@ pub fn made_by(alloc: Global, made: &'static str) -> Option<Machine> {
     }
 }
 
-/// Whether each round makes its settings, and the store that is opened after it has them.
-fn all_last(alloc: Global, machine: &Machine, rounds: &[Listed]) -> bool {
+/// Whether each list of settings is made, and the store that is opened after it has them.
+fn all_last(alloc: Global, machine: &Machine, lists: &[Listed]) -> bool {
     let mut are_so = true;
-    for round in rounds {
-        are_so &= done(alloc, machine, Task::Set(round.sets), &mut []);
-        are_so &= done(alloc, machine, Task::Have(round.want), &mut []);
+    for list in lists {
+        are_so &= done(alloc, machine, Task::Set(list.sets), &mut []);
+        are_so &= done(alloc, machine, Task::Have(list.want), &mut []);
     }
     are_so
 }
 
 /// The same, over the database that this text makes.
-pub fn do_last(alloc: Global, made: &'static str, rounds: &[Listed]) -> bool {
+pub fn do_last(alloc: Global, made: &'static str, lists: &[Listed]) -> bool {
     match made_by(alloc, made) {
         Some(machine) => {
-            let are_so = all_last(alloc, &machine, rounds);
+            let are_so = all_last(alloc, &machine, lists);
             drop(machine);
             are_so
         }
