@@ -119,20 +119,16 @@ fn each_follows(alloc: Global, from: &mut Machine, run: Run, first: u64, start: 
     false
 }
 
-/// Whether it is so after each call whose refusal makes the store write its settings again. There is one.
-fn each_mend_follows(alloc: Global, from: &mut Machine, run: Run) -> bool {
-    let mut is_mended = false;
+/// Whether it is so after the first call whose refusal makes the store write its settings again.
+fn mend_follows(alloc: Global, from: &mut Machine, run: Run) -> bool {
     for first in 0..MOST {
         match run_by(alloc, from, run, plan_of(first, NEVER, false)) {
             Some(one) => {
-                if one.refused == 0 {
-                    return is_mended;
-                }
                 if one.opens > WITHOUT_MEND {
-                    is_mended = true;
-                    if !each_follows(alloc, from, run, first, first + 1) {
-                        return false;
-                    }
+                    return each_follows(alloc, from, run, first, first + 1);
+                }
+                if one.refused == 0 {
+                    return false;
                 }
             }
             None => return false,
@@ -147,7 +143,7 @@ pub fn are_followed(alloc: Global, run: Run, is_mended: bool) -> bool {
         Some(machine) => {
             let mut machine = machine;
             let is_so = if is_mended {
-                each_mend_follows(alloc, &mut machine, run)
+                mend_follows(alloc, &mut machine, run)
             } else {
                 each_follows(alloc, &mut machine, run, NEVER, 0)
             };
