@@ -51,7 +51,8 @@ enum Still {
 
 impl ControlSocket {
     /// Takes the clients that wait. Call it after a `serve`, which closes the clients that are done. It answers no line
-    /// of a client.
+    /// of a client. It asks the system only if clients may wait: the poll was woken (`wake_by`), or an accept before did
+    /// not find that nobody waits. Once a second of `up` it asks in any case.
     ///
     /// If there are already the most clients that may be ([`set_room`](ControlSocket::set_room)), a silent or a stuck
     /// client is disconnected for the new one. The new client waits if there is neither, and is turned away after a
@@ -60,17 +61,22 @@ impl ControlSocket {
     pub fn accept<R: Files<File = File> + Net>(&mut self, rt: &R, registry: &Registry)
         ensures { AllWait self.old.up self.old.clients self.new.clients }
     {
+        let is_look_due = self.up >= self.next_look;
+        self.may_have_come = self.may_have_come || is_look_due;
         self.accept_all(rt, registry);
-        if self.up >= self.next_look {
+        if is_look_due {
             self.next_look = self.up.saturating_add(BETWEEN_LOOKS);
             self.keep_file(rt, registry);
         }
     }
 
-    // Takes the clients that wait.
+    // Takes the clients that wait, if some may.
     fn accept_all<R: Files<File = File>>(&mut self, rt: &R, registry: &Registry)
         ensures { LetsWait self.old self.new }
     {
+        if !self.may_have_come {
+            return;
+        }
         self.keep_spare(rt);
         let mut taking = Taking {
             is_well: false,
@@ -150,6 +156,7 @@ impl ControlSocket {
     fn end_well(&mut self, taking: &mut Taking)
         ensures { LeavesClients self.old self.new }
     {
+        self.may_have_come = false;
         taking.is_over = true;
         if taking.is_well {
             self.notices.accepted();

@@ -1,6 +1,6 @@
 //! The control socket: its files, and who is served on it.
 
-ghost use Rattle.std.specs.Prelude.{◌≡◌, [], IfOk, max, min};
+ghost use Rattle.std.specs.Prelude.{◌≡◌, [], IfOk, IsTrue, max, min};
 ghost use Rattle.control_socket.specs.Lives.{IsVacant};
 ghost use Rattle.control_socket.specs.Serving.{Serves};
 ghost use Rattle.control_socket.specs.Clients.{AllGoOn, MovesOn, StaysOrGoes};
@@ -30,7 +30,7 @@ const PIECE: usize = 16_384;
 
 /// The control socket: one listener at a path, and its clients.
 ///
-/// Readiness only wakes the poll: each call of `serve` tries every client. A client takes at most the memory of its longest
+/// Each call of `serve` tries every client. A client takes at most the memory of its longest
 /// line ([`ctl_protocol::LINE_LIMIT`]) and of the replies that it has not taken: [`crate::UNSENT`] bytes and one reply more.
 pub struct ControlSocket {
     pub(crate) alloc: Global,
@@ -46,6 +46,8 @@ pub struct ControlSocket {
     pub(crate) notices: Notices,
     // A descriptor that is kept for an accept which finds none free. None, as long as the system gives none.
     pub(crate) spare: Option<File>,
+    // Whether clients may wait: the poll was woken, and no accept found nobody since.
+    pub(crate) may_have_come: bool,
     // How many calls of `serve` there were, and the `up` of the last.
     pub(crate) rounds: u64,
     pub(crate) up: u64,
@@ -74,6 +76,7 @@ impl Drop for ControlSocket {
             room: _,
             notices: _,
             spare: _,
+            may_have_come: _,
             rounds: _,
             up: _,
             next_look: _,
@@ -122,6 +125,7 @@ impl ControlSocket {
             room,
             notices: Notices::new(),
             spare: spare_descriptor(rt),
+            may_have_come: true,
             rounds: 0,
             up: 0,
             next_look: 0,
@@ -137,6 +141,18 @@ impl ControlSocket {
     {
         self.token = token;
         registry.register(&mut self.listener, token, Interest::READABLE)
+    }
+
+    /// The poll was woken under this token: if it is that of the socket, clients may wait there.
+    pub fn wake_by(&mut self, token: Token)
+        ensures clients { self.new.clients ≡ self.old.clients }
+        ensures up { self.new.up ≡ self.old.up }
+        ensures kept { IsTrue self.old.may_have_come → IsTrue self.new.may_have_come }
+        ensures woken { token.0 ≡ self.old.token.0 → IsTrue self.new.may_have_come }
+    {
+        if token == self.token {
+            self.may_have_come = true;
+        }
     }
 
     /// How many clients are served at a time from now on, one at least and [`CLIENTS`] at most. This disconnects none.
@@ -309,6 +325,7 @@ impl ControlSocket {
         match registry.register(&mut listener, self.token, Interest::READABLE) {
             Ok(()) => {
                 self.mark = mark;
+                self.may_have_come = true;
                 drop(mem::replace(&mut self.listener, listener));
                 Ok(())
             }

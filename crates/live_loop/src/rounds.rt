@@ -15,7 +15,7 @@ use crate::round_time::RoundTime;
 use crate::telling::tell;
 use crate::waiting::{LONGEST, next_pause, quick_rounds, round_wait};
 use child_edge::System;
-use control_socket::Limit;
+use control_socket::{ControlSocket, Limit};
 use history_model::SECOND;
 use mio::Events;
 use std::alloc::Global;
@@ -123,16 +123,22 @@ fn wait<R: System, H: LoopHost>(rt: &R, live: &mut Live<H>) -> Result<(), ServeF
         wait = 0;
     }
     live.poll.wait(&mut live.rooms.events, wait)?;
-    wake(&live.rooms.events, &mut live.rooms.sockets);
+    wake(
+        &live.rooms.events,
+        &mut live.rooms.sockets,
+        &mut live.control,
+    );
     Ok(())
 }
 
-// Reports to the sockets of jobs what woke the poll.
-fn wake(events: &Events, sockets: &mut JobSockets)
+// Reports to the sockets of jobs, and to the control socket, what woke the poll.
+fn wake(events: &Events, sockets: &mut JobSockets, control: &mut ControlSocket)
     ensures { desk_in sockets.new ≡ desk_in sockets.old }
 {
     for event in events.iter() {
-        sockets.wake_by(event.token());
+        let token = event.token();
+        sockets.wake_by(token);
+        control.wake_by(token);
     }
 }
 

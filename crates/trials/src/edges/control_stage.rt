@@ -210,6 +210,8 @@ impl Stage {
             client.set_nonblocking(true).ok()?;
             self.clients.push(Some(client)).ok()?;
         }
+        // as the loop does once the poll is woken
+        self.socket.wake_by(ASKED);
         Some(())
     }
 }
