@@ -1,5 +1,5 @@
 -- What the reader says of the launcher and of a job, by the JSON value that was read: each field is that of its key.
-use Rattle.std.specs.Prelude.{◌≡◌, ℕ, List, [], Bool, Option, Some, None, codes, unwrap_or, ⊤}
+use Rattle.std.specs.Prelude.{◌≡◌, ℕ, List, [], Bool, Option, Some, None, codes, is_some, unwrap_or, ⊤}
 use Rattle.std.specs.Borrow.{Bor}
 use Rattle.history_model.specs.declared.Act.{Act}
 use Rattle.history_model.specs.declared.Act.TheVariants.{Spawn, Term, Kill, Close, Gone}
@@ -14,10 +14,11 @@ use Rattle.job_core.specs.declared.job.moments.Moments.{Moments}
 use Rattle.run_log.specs.declared.facts.RefusedStart.{RefusedStart}
 use Rattle.run_log.specs.declared.facts.RunEnd.{RunEnd}
 use Rattle.serde_json.specs.Data.{Data, null}
-use Rattle.status_file.specs.Reads.{CountIf, IsReading, Lacks, NullOr, TextIf, count_at, flag_at, text_at, value_at}
+use Rattle.status_file.specs.Reads.{CountIf, FlagIf, IsReading, Lacks, NullOr, TextIf, count_at, flag_at, text_at, value_at}
 use Rattle.status_file.specs.Tokens.{demand_text, disabled_text, order_text}
 use Rattle.status_file.specs.declared.facts.JobFacts.{JobFacts}
 use Rattle.status_file.specs.declared.status.DisabledBy.{DisabledBy}
+use Rattle.status_file.specs.declared.status.JobKeys.{JobKeys}
 use Rattle.status_file.specs.declared.status.JobNote.{JobNote}
 use Rattle.status_file.specs.declared.status.JobStatus.{JobStatus}
 use Rattle.status_file.specs.declared.status.JournalStatus.{JournalStatus}
@@ -171,6 +172,22 @@ pub record PathsAt (count first : List ℕ) (object : Option Data) (paths : KeyP
   pub many : count_at count object ≡ Some paths.count
   pub one : TextIf first object paths.first
 
+pub record KeysAt (object : Option Data) (keys : JobKeys) : Type 0 where
+  pub run_at_load : flag_at (codes "run_at_load") object ≡ Some keys.run_at_load
+  pub successful_exit : FlagIf (codes "successful_exit") object keys.successful_exit
+  pub crashed : FlagIf (codes "crashed") object keys.crashed
+  pub path_state : PathsAt (codes "path_state") (codes "first_condition") object keys.path_state
+  pub first_exists : FlagIf (codes "first_exists") object keys.first_exists
+  pub path_exists : FlagIf (codes "path_exists") object keys.path_exists
+  pub start_interval : CountIf (codes "start_interval") object keys.start_interval
+  pub throttle_interval : count_at (codes "throttle_interval") object ≡ Some keys.throttle_interval
+  pub exit_time_out : count_at (codes "exit_time_out") object ≡ Some keys.exit_time_out
+  pub watch_paths : PathsAt (codes "watch_paths") (codes "first_watched") object keys.watch_paths
+  pub queue_directories : PathsAt (codes "queue_directories") (codes "first_queue") object keys.queue_directories
+  pub has_sockets : flag_at (codes "sockets") object ≡ Some keys.has_sockets
+  pub errors : LaterText (codes "errors") object keys.errors
+  pub knows_errors : keys.knows_errors ≡ is_some (value_at (codes "errors") object)
+
 -- ---- a job
 
 -- by what its label is disabled
@@ -182,4 +199,5 @@ pub record JobAt (object : Option Data) (job : JobStatus) : Type 0 where
   pub label : text_at (codes "label") object ≡ Some job.label.now
   pub facts : FactsAt object job.facts
   pub note : NoteAt object job.note
+  pub keys : KeysAt (value_at (codes "keys") object) job.keys
   pub disabled : DisabledAt object job.disabled

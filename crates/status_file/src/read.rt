@@ -4,7 +4,7 @@ ghost use Rattle.std.specs.Prelude.{◌≡◌, Some, None, IfErr, IfOk, IfSome, 
 ghost use Rattle.json_kinds.specs.Json.{json_in};
 ghost use Rattle.serde_json.specs.View.{view};
 ghost use Rattle.status_file.specs.Reads.{IsReading, NullOr, object_of, value_at};
-ghost use Rattle.status_file.specs.Readings.{ChildAt, DemandAt, DisabledAt, EndAt, FactsAt, HasRun, JobAt, JournalAt, LaterCount, LaterReading, LaterText, LauncherAt, NoteAt, OrderAt, PathsAt, ReadingIf, ReasonsAt, RefusedAt, WantsAt};
+ghost use Rattle.status_file.specs.Readings.{ChildAt, DemandAt, DisabledAt, EndAt, FactsAt, HasRun, JobAt, JournalAt, KeysAt, LaterCount, LaterReading, LaterText, LauncherAt, NoteAt, OrderAt, PathsAt, ReadingIf, ReasonsAt, RefusedAt, WantsAt};
 ghost use Rattle.status_file.specs.Tokens.{order_text};
 ghost use Rattle.status_file.specs.declared.read.StatusFault.TheVariants.{NotJson};
 
@@ -359,6 +359,7 @@ fn paths_in<'a>(fields: &mut Fields<'a>, count: &'static str, first: &'static st
 fn keys_in<'a>(fields: &mut Fields<'a>) -> JobKeys<'a>
     ensures object { fields.new.object ≡ fields.old.object }
     ensures kept { fields.new.fault ≡ None → fields.old.fault ≡ None }
+    ensures value { fields.new.fault ≡ None → KeysAt (value_at (codes "keys") (object_of fields.old)) result }
 {
     let mut keys = fields.inside("keys");
     let told = JobKeys {
