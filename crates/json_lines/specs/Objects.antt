@@ -23,10 +23,14 @@ escape c =
     codes "\\u" ++ (encode_utf8 (hex_digit (c / 4096)) ++ (encode_utf8 (hex_digit (c / 256))
     ++ (encode_utf8 (hex_digit (c / 16)) ++ encode_utf8 (hex_digit c))))
 
--- a character of a text: a hidden one is its number, a quote and a backslash follow a backslash, any other is as it is
+-- written by its number: a hidden character, and the two at which some readers end a line (U+2028, U+2029)
+abbrev pub is_escaped : ℕ → Bool
+is_escaped c = is_hidden c || c == 0x2028 || c == 0x2029
+
+-- a character of a text: one that is escaped is its number, a quote and a backslash follow a backslash, any other is as it is
 abbrev pub text_char : ℕ → List ℕ
 text_char c =
-    if is_hidden c then escape c
+    if is_escaped c then escape c
     else if c == 0x5C || c == 0x22 then codes "\\" ++ encode_utf8 c
     else encode_utf8 c
 
@@ -86,9 +90,9 @@ abbrev pub TellsLine : List ℕ → List ℕ → List Field → TextWriter → T
 TellsLine key name fields old new =
     (text : List ℕ) × IsObject key name fields text × Adds (text ++ codes "\n") old new
 
--- a character of JSON: a hidden one is within a text, by its number
+-- a character of JSON: one that is escaped is within a text, by its number
 abbrev pub json_char : ℕ → List ℕ
-json_char c = if is_hidden c then escape c else encode_utf8 c
+json_char c = if is_escaped c then escape c else encode_utf8 c
 
 -- a text of a list after the first
 abbrev pub more_text : Bor (List ℕ) → List ℕ

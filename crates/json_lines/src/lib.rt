@@ -1,12 +1,12 @@
 //! Objects of JSON (RFC 8259), each within a line: what `jobscope` writes for programs. They hold the texts of others whole, but escape
-//! each control character and each bidirectional control character.
+//! each control character and each bidirectional control character, and the two other characters at which some readers end a line.
 #![tactic(auto)]
 
-ghost use Rattle.std.specs.Prelude.{◌++◌, chars, codes, encode_utf8};
+ghost use Rattle.std.specs.Prelude.{◌≡◌, ◌++◌, chars, codes, encode_utf8};
 ghost use Rattle.std.specs.Fmt.{decimal};
 ghost use Rattle.std.specs.List.{flat_map};
 ghost use Rattle.run_times.specs.Written.{Adds};
-ghost use Rattle.json_lines.specs.Objects.{escape, hex_digit, json_char, more_text, quoted, text_char, texts_list, TellsLine, TellsMember, TellsMembers, TellsObject};
+ghost use Rattle.json_lines.specs.Objects.{escape, hex_digit, is_escaped, json_char, more_text, quoted, text_char, texts_list, TellsLine, TellsMember, TellsMembers, TellsObject};
 
 use history_model::MAX_WALL;
 use plain_text::is_hidden;
@@ -108,7 +108,7 @@ fn put_number<'x>(writer: &mut TextWriter, key: &'x str, more: &'x str, number: 
     ]);
 }
 
-/// Adds the text in quotes. What ends it there, a backslash, and each hidden character is escaped.
+/// Adds the text in quotes. What ends it there, a backslash, each hidden character, and U+2028 and U+2029 are escaped.
 pub fn put_quoted(writer: &mut TextWriter, text: &str)
     ensures { Adds (quoted text.now) writer.old writer.new }
 {
@@ -128,7 +128,7 @@ fn put_chars(writer: &mut TextWriter, text: &str)
 fn put_text_char(writer: &mut TextWriter, c: char)
     ensures { Adds (text_char c) writer.old writer.new }
 {
-    if is_hidden(c) {
+    if is_escaped(c) {
         put_escape(writer, u32::from(c));
     } else {
         if c == '\\' || c == '"' {
@@ -138,7 +138,14 @@ fn put_text_char(writer: &mut TextWriter, c: char)
     }
 }
 
-// A character by its number: each that is hidden has four digits at most.
+// U+2028 and U+2029 may stand in JSON, but `splitlines` of Python and older readers of JavaScript end a line there.
+fn is_escaped(c: char) -> bool
+    ensures { result ≡ is_escaped c }
+{
+    is_hidden(c) || c == '\u{2028}' || c == '\u{2029}'
+}
+
+// A character by its number: each that is escaped has four digits at most.
 fn put_escape(writer: &mut TextWriter, c: u32)
     ensures { Adds (escape c) writer.old writer.new }
 {
@@ -160,7 +167,7 @@ fn put_digit(writer: &mut TextWriter, number: u32)
     }));
 }
 
-/// Adds JSON of others, whose texts may have hidden characters: each of these is escaped. JSON on one line stays so, and means the same.
+/// Adds JSON of others, whose texts may have characters that are escaped here: each of these is. JSON on one line stays so, and means the same.
 pub fn put_json(writer: &mut TextWriter, json: &str)
     ensures { Adds (flat_map json_char (chars json.now)) writer.old writer.new }
 {
@@ -172,7 +179,7 @@ pub fn put_json(writer: &mut TextWriter, json: &str)
 fn put_json_char(writer: &mut TextWriter, c: char)
     ensures { Adds (json_char c) writer.old writer.new }
 {
-    if is_hidden(c) {
+    if is_escaped(c) {
         put_escape(writer, u32::from(c));
     } else {
         writer.put_char(c);
