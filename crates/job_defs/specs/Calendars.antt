@@ -13,7 +13,7 @@ use Rattle.history_model.specs.RefusalTexts.{key_text}
 use Rattle.json_kinds.specs.DefFaults.{bad, ◌>>=◌}
 use Rattle.json_kinds.specs.Names.{Key, day, hour, minute, month, weekday}
 use Rattle.json_kinds.specs.JsonKinds.{object_at, integer_at, each_item, members_or_one, where_there, optional}
-use Rattle.job_defs.specs.declared.demand.TheConstants.{LIST_LIMIT}
+use Rattle.job_defs.specs.declared.limits.TheConstants.{LIST_LIMIT}
 
 -- one key of an entry
 unfoldable pub part : ℕ → ℕ → Key → Data → Result (Option ℕ) Fault

@@ -9,7 +9,7 @@ use Rattle.history_model.specs.declared.KeyName.TheVariants.{KeepAlive}
 use Rattle.history_model.specs.Machine.{Fault}
 use Rattle.history_model.specs.RefusalTexts.{key_text}
 use Rattle.history_model.specs.declared.definition.parts.PathState.{PathState}
-use Rattle.job_defs.specs.declared.demand.TheConstants.{LIST_LIMIT}
+use Rattle.job_defs.specs.declared.limits.TheConstants.{LIST_LIMIT}
 use Rattle.history_model.specs.KeyGroups.{Keep}
 use Rattle.json_kinds.specs.DefFaults.{bad, ◌>>=◌}
 use Rattle.json_kinds.specs.Names.{Key, crashed, path_state, successful_exit}

@@ -9,7 +9,7 @@ use Rattle.history_model.specs.Machine.{Fault}
 use Rattle.history_model.specs.RefusalTexts.{key_text}
 use Rattle.json_kinds.specs.DefFaults.{bad, ◌>>=◌}
 use Rattle.json_kinds.specs.JsonKinds.{array_at, path_at, each_item, where_there}
-use Rattle.job_defs.specs.declared.demand.TheConstants.{LIST_LIMIT}
+use Rattle.job_defs.specs.declared.limits.TheConstants.{LIST_LIMIT}
 
 -- at most this number of paths in a definition, of which some were counted before
 unfoldable pub paths_at : ℕ → KeyName → Data → Result (List (List ℕ)) Fault

@@ -6,7 +6,10 @@ ghost use Rattle.json_kinds.specs.DefFaults.{Gives};
 ghost use Rattle.json_kinds.specs.JsonKinds.{each_item};
 ghost use Rattle.job_defs.specs.Calendars.{part, entry_at, calendar_key};
 
-use crate::demand::LIST_LIMIT;
+use crate::limits::{
+    DAY_LEAST, DAY_MOST, HOUR_LEAST, HOUR_MOST, LIST_LIMIT, MINUTE_LEAST, MINUTE_MOST, MONTH_LEAST,
+    MONTH_MOST, WEEKDAY_LEAST, WEEKDAY_MOST,
+};
 use history_model::{Entry, KeyName, Reason};
 use json_kinds::DefFault;
 use json_kinds::kinds::{integer_of, members_or_one_of, object_of};
@@ -50,11 +53,11 @@ fn entry_of(found: &Value) -> Result<Entry, DefFault>
     ensures { Gives (λ entry. entry) result (entry_at (view found.now)) }
 {
     given!(object_of(found, KeyName::StartCalendarInterval));
-    let day = given!(part_of(found, DAY, 1, 31));
-    let hour = given!(part_of(found, HOUR, 0, 23));
-    let minute = given!(part_of(found, MINUTE, 0, 59));
-    let month = given!(part_of(found, MONTH, 1, 12));
-    let weekday = given!(part_of(found, WEEKDAY, 0, 7));
+    let day = given!(part_of(found, DAY, DAY_LEAST, DAY_MOST));
+    let hour = given!(part_of(found, HOUR, HOUR_LEAST, HOUR_MOST));
+    let minute = given!(part_of(found, MINUTE, MINUTE_LEAST, MINUTE_MOST));
+    let month = given!(part_of(found, MONTH, MONTH_LEAST, MONTH_MOST));
+    let weekday = given!(part_of(found, WEEKDAY, WEEKDAY_LEAST, WEEKDAY_MOST));
     Ok(Entry {
         minute,
         hour,

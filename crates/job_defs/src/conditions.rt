@@ -6,9 +6,9 @@ ghost use Rattle.json_kinds.specs.DefFaults.{Gives};
 ghost use Rattle.json_kinds.specs.JsonKinds.{each_member};
 ghost use Rattle.job_defs.specs.Conditions.{path_state_in, path_state_at, conditions_at, keep_at, keep_key};
 ghost use Rattle.history_model.specs.DefinitionParts.{keep_of};
-ghost use Rattle.job_defs.specs.declared.demand.TheConstants.{LIST_LIMIT};
+ghost use Rattle.job_defs.specs.declared.limits.TheConstants.{LIST_LIMIT};
 
-use crate::demand::LIST_LIMIT;
+use crate::limits::LIST_LIMIT;
 use history_model::definition::{Keep, PathState};
 use history_model::{KeyName, Reason, Text};
 use json_kinds::DefFault;

@@ -7,10 +7,11 @@ ghost use Rattle.json_kinds.specs.JsonKinds.{each_item, path_at};
 ghost use Rattle.job_defs.specs.Paths.{paths_key};
 ghost use Rattle.job_defs.specs.Keys.{demand_at, pace_at};
 ghost use Rattle.history_model.specs.DefinitionParts.{demand_of, pace_of};
-ghost use Rattle.job_defs.specs.declared.demand.TheConstants.{LIST_LIMIT};
+ghost use Rattle.job_defs.specs.declared.limits.TheConstants.{LIST_LIMIT, INTERVAL_LEAST, INTERVAL_MOST, PACE_MOST};
 
 use crate::calendars::calendar_key_of;
 use crate::conditions::keep_key_of;
+use crate::limits::{INTERVAL_LEAST, INTERVAL_MOST, LIST_LIMIT, PACE_LEAST, PACE_MOST};
 use history_model::definition::{Demand, Pace};
 use history_model::{KeyName, Reason, Text};
 use json_kinds::DefFault;
@@ -20,14 +21,11 @@ use json_kinds::names::key_name;
 use serde_json::Value;
 use std::alloc::Global;
 
-/// The most paths of a definition, paths of `KeepAlive`, and calendar entries.
-pub(crate) const LIST_LIMIT: usize = 64;
-
 #[tactic(auto, unfolding(crate::specs::Keys::demand_at))]
 pub(crate) fn demand_keys(alloc: Global, def: &Value) -> Result<Demand, DefFault>
     ensures value { Gives demand_of result (demand_at (view def.now)) }
-    ensures range { IfOk result (λ demand. IfSome demand.start_interval (λ seconds. (1 ≤ seconds)
-        × (seconds ≤ 31536000))) }
+    ensures range { IfOk result (λ demand. IfSome demand.start_interval (λ seconds. (INTERVAL_LEAST ≤ seconds)
+        × (seconds ≤ INTERVAL_MOST))) }
 {
     let on_demand = given!(bool_key_of(def, KeyName::OnDemand, true));
     let keep = given!(keep_key_of(alloc, on_demand, def));
@@ -35,7 +33,12 @@ pub(crate) fn demand_keys(alloc: Global, def: &Value) -> Result<Demand, DefFault
     let watch_paths = given!(paths_key_of(alloc, before, def, KeyName::WatchPaths));
     let before = before + watch_paths.len();
     let queue_directories = given!(paths_key_of(alloc, before, def, KeyName::QueueDirectories));
-    let start_interval = given!(optional_integer_of(def, KeyName::StartInterval, 1, 31_536_000));
+    let start_interval = given!(optional_integer_of(
+        def,
+        KeyName::StartInterval,
+        INTERVAL_LEAST,
+        INTERVAL_MOST
+    ));
     let calendar = given!(calendar_key_of(alloc, def));
     Ok(Demand {
         keep,
@@ -49,11 +52,23 @@ pub(crate) fn demand_keys(alloc: Global, def: &Value) -> Result<Demand, DefFault
 #[tactic(auto, unfolding(crate::specs::Keys::pace_at))]
 pub(crate) fn pace_keys(def: &Value) -> Result<Pace, DefFault>
     ensures value { Gives pace_of result (pace_at (view def.now)) }
-    ensures range { IfOk result (λ pace. (pace.throttle_interval ≤ 86400)
-        × (pace.exit_time_out ≤ 86400)) }
+    ensures range { IfOk result (λ pace. (pace.throttle_interval ≤ PACE_MOST)
+        × (pace.exit_time_out ≤ PACE_MOST)) }
 {
-    let throttle_interval = given!(integer_key_of(def, KeyName::ThrottleInterval, 0, 86_400, 10));
-    let exit_time_out = given!(integer_key_of(def, KeyName::ExitTimeOut, 0, 86_400, 20));
+    let throttle_interval = given!(integer_key_of(
+        def,
+        KeyName::ThrottleInterval,
+        PACE_LEAST,
+        PACE_MOST,
+        10
+    ));
+    let exit_time_out = given!(integer_key_of(
+        def,
+        KeyName::ExitTimeOut,
+        PACE_LEAST,
+        PACE_MOST,
+        20
+    ));
     Ok(Pace {
         throttle_interval,
         exit_time_out,

@@ -8,6 +8,7 @@ ghost use Rattle.job_defs.specs.Commands.{label_key, word_at, command_in, comman
 ghost use Rattle.job_defs.specs.Keys.{launch_at};
 ghost use Rattle.history_model.specs.DefinitionParts.{command_of, launch_of};
 
+use crate::limits::{ARGUMENTS_LIMIT, WORD_LIMIT};
 use history_model::definition::{Command, Launch};
 use history_model::{KeyName, Reason, Text, is_label};
 use json_kinds::DefFault;
@@ -16,9 +17,6 @@ use json_kinds::kinds::{array_of, filled_of, plain_of, text_of};
 use json_kinds::names::key_name;
 use serde_json::Value;
 use std::alloc::Global;
-
-/// The longest executable or argument, in bytes.
-const WORD_LIMIT: usize = 4096;
 
 #[tactic(auto, unfolding(crate::specs::Keys::launch_at))]
 pub(crate) fn launch_keys(alloc: Global, def: &Value) -> Result<Launch, DefFault>
@@ -76,7 +74,7 @@ fn command_of(alloc: Global, program: Option<Text>, found: &Value) -> Result<Com
     ensures { Gives command_of result (command_at program (view found.now)) }
 {
     let words = given!(array_of(found, KeyName::ProgramArguments));
-    if words.len() > 256 {
+    if words.len() > ARGUMENTS_LIMIT {
         return Err(DefFault::Bad {
             reason: Reason::TooLong,
             key: KeyName::ProgramArguments,

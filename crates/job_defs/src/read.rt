@@ -42,12 +42,12 @@ pub fn read_def_in(alloc: Global, bytes: &[u8], room: &mut JsonRoom) -> Result<D
     def_found(alloc, found)
 }
 
-/// What was read as JSON, as a definition.
+// What was read as JSON, as a definition.
 fn def_found(alloc: Global, found: Option<Value>) -> Result<Def, DefFault>
     ensures { Gives (λ def. def) result (def_or_fault (option_map view found)) }
 {
     match found {
-        Some(value) => def_in(alloc, &value),
+        Some(value) => read_value(alloc, &value),
         None => Err(DefFault::Bad {
             reason: Reason::NotJson,
             key: KeyName::NoKey,
@@ -55,8 +55,9 @@ fn def_found(alloc: Global, found: Option<Value>) -> Result<Def, DefFault>
     }
 }
 
+/// What [`read_def`] gives of bytes that are this value in JSON. Refusals are those of [`read_def`], but for `NotJson`.
 #[tactic(auto, unfolding(crate::specs::Keys::def_at))]
-fn def_in(alloc: Global, value: &Value) -> Result<Def, DefFault>
+pub fn read_value(alloc: Global, value: &Value) -> Result<Def, DefFault>
     ensures { Gives (λ def. def) result (def_at (view value.now)) }
 {
     if value.as_object().is_none() {

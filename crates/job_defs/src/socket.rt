@@ -9,8 +9,10 @@ ghost use Rattle.json_kinds.specs.Names as names;
 ghost use Rattle.job_defs.specs.Sockets as sockets;
 ghost use Rattle.json_kinds.specs.JsonKinds.{where_there, optional, filled_at, texts_in};
 ghost use Rattle.job_defs.specs.Sockets.{one_of, passive_at, host_at, any_host, port_in, port_at, port_by, address_of, socket_at};
+ghost use Rattle.job_defs.specs.declared.limits.TheConstants.{SOCKET_PATH_LIMIT};
 
 use crate::host::{host_in, number_in};
+use crate::limits::{PORT_LEAST, PORT_MOST, SOCKET_PATH_LIMIT};
 use history_model::definition::{Address, Socket};
 use history_model::{KeyName, Reason, Text};
 use json_kinds::DefFault;
@@ -21,9 +23,6 @@ use json_kinds::names::{
 };
 use serde_json::Value;
 use std::alloc::Global;
-
-/// The longest path of a Unix socket, in bytes.
-const SOCKET_PATH_LIMIT: usize = 107;
 
 #[tactic(auto, unfolding(crate::specs::Sockets::socket_at))]
 pub(crate) fn socket_of(alloc: Global, found: &Value) -> Result<Socket, DefFault>
@@ -94,7 +93,7 @@ fn passive_key(socket: &Value) -> Result<(), DefFault>
 
 fn path_key(alloc: Global, socket: &Value) -> Result<Option<Text>, DefFault>
     ensures { Gives (λ path. path) result
-        (optional (filled_at 107 keys.Sockets) (get names.path_name (view socket.now))) }
+        (optional (filled_at SOCKET_PATH_LIMIT keys.Sockets) (get names.path_name (view socket.now))) }
 {
     match socket.get(PATH_NAME) {
         Some(found) => {
@@ -132,7 +131,7 @@ fn port_key(socket: &Value) -> Result<Option<u16>, DefFault>
         return Ok(None);
     };
     let port = match found.as_number() {
-        Some(number) => given!(number_of(number, KeyName::Sockets, 1, 65_535)) as u16,
+        Some(number) => given!(number_of(number, KeyName::Sockets, PORT_LEAST, PORT_MOST)) as u16,
         None => given!(port_in(given!(text_of(found, KeyName::Sockets)))),
     };
     Ok(Some(port))
@@ -143,7 +142,7 @@ fn port_in(text: &str) -> Result<u16, DefFault>
     ensures { Gives (λ port. port) result (sockets.port_in text.now) }
 {
     match number_in(text, 5) {
-        Some(port) if 1 <= port && port <= 65_535 => Ok(port as u16),
+        Some(port) if PORT_LEAST <= port && port <= PORT_MOST => Ok(port as u16),
         Some(_) => Err(DefFault::Bad {
             reason: Reason::OutOfRange,
             key: KeyName::Sockets,

@@ -5,7 +5,9 @@ ghost use Rattle.serde_json.specs.View.{view, items_view, members_view};
 ghost use Rattle.json_kinds.specs.DefFaults.{Gives};
 ghost use Rattle.json_kinds.specs.JsonKinds.{each_item, each_member};
 ghost use Rattle.job_defs.specs.Sockets.{socket_at, socket_count, sockets_in, sockets_key, inetd_at, inetd_key, sockets_and_inetd};
+ghost use Rattle.job_defs.specs.declared.limits.TheConstants.{SOCKETS_LIMIT};
 
+use crate::limits::SOCKETS_LIMIT;
 use crate::socket::socket_of;
 use history_model::definition::Socket;
 use history_model::{KeyName, Reason};
@@ -44,12 +46,12 @@ fn sockets_key_of(alloc: Global, def: &Value) -> Result<Vec<Socket>, DefFault>
     each_name(alloc, members)
 }
 
-/// Whether there are more than 8 sockets under all names.
+/// Whether there are more sockets under all names than a definition may have.
 #[tactic(auto, using(json_kinds::proofs::CountLemmas::items_count))]
 fn has_too_many(members: &Map<String, Value>) -> bool
-    ensures { result ≡ nat_lt 8 (socket_count (members_view members.now.entries)) }
+    ensures { result ≡ nat_lt SOCKETS_LIMIT (socket_count (members_view members.now.entries)) }
 {
-    let mut room: usize = 8;
+    let mut room: usize = SOCKETS_LIMIT;
     for (_, found) in members.iter() {
         let count = members_or_one_of(found).len();
         if count > room {

@@ -11,6 +11,7 @@ ghost use Rattle.job_defs.specs.Variables.{is_equals, variable_in, variable_by, 
 ghost use Rattle.job_defs.specs.Keys.{surroundings_at};
 ghost use Rattle.history_model.specs.DefinitionParts.{surroundings_of};
 
+use crate::limits::{VARIABLE_NAME_LIMIT, VARIABLES_LIMIT, WORD_LIMIT};
 use history_model::definition::{Surroundings, Variable};
 use history_model::{KeyName, Reason, Text};
 use json_kinds::DefFault;
@@ -46,7 +47,7 @@ fn environment_key_of(alloc: Global, def: &Value) -> Result<Vec<Variable>, DefFa
         return Ok(Vec::new(alloc));
     };
     let members = given!(object_of(found, KeyName::EnvironmentVariables));
-    if members.len() > 128 {
+    if members.len() > VARIABLES_LIMIT {
         return Err(DefFault::Bad {
             reason: Reason::TooLong,
             key: KeyName::EnvironmentVariables,
@@ -74,7 +75,7 @@ fn variable_of(alloc: Global, name: &str, value: &Value) -> Result<Option<Variab
     ensures { Gives (λ variable. option_to_list variable) result
         (variable_in name.now (view value.now)) }
 {
-    let name = given!(filled_text(name, KeyName::EnvironmentVariables, 255));
+    let name = given!(filled_text(name, KeyName::EnvironmentVariables, VARIABLE_NAME_LIMIT));
     if has_equals(name) {
         return Err(DefFault::Bad {
             reason: Reason::OutOfRange,
@@ -92,7 +93,7 @@ fn valued(alloc: Global, name: &str, value: &Value) -> Result<Option<Variable>, 
     let Some(value) = value.as_str() else {
         return Ok(None);
     };
-    let value = given!(plain_text(value, KeyName::EnvironmentVariables, 4096));
+    let value = given!(plain_text(value, KeyName::EnvironmentVariables, WORD_LIMIT));
     Ok(Some(Variable {
         name: Text::copy_of(alloc, name)?,
         value: Text::copy_of(alloc, value)?,
