@@ -92,7 +92,7 @@ NUMBERS = [
     ("man/jobscope.1", "that of the last @ runs", "scope/src/journal/past.rt", r"MOST_RUNS: usize = ([\d_]+)"),
     ("man/jobscope.1", "is asked of a terminal; elsewhere it is @", "status_page/src/width.rt", r"COLUMNS: u16 = ([\d_]+)"),
     ("man/jobscope.1", "if more than @ entries would be needed", "definition_files/src/cron/entries.rt", r"MOST_ENTRIES: usize = ([\d_]+)"),
-    ("man/jobscope.1", "a NUL byte or more than @ bytes", "definition_files/src/cron/command.rt", r"LONGEST_COMMAND: usize = ([\d_]+)"),
+    ("man/jobscope.1", "a NUL byte or more than @ bytes", "job_defs/src/limits.rt", r"WORD_LIMIT: usize = ([\d_]+)"),
     ("man/jobscope.1", "more than @ nested", "property_lists/src/list.rt", r"DEEPEST: usize = ([\d_]+)"),
     ("man/jobscope.1", "levels, or more than @ bytes", "property_lists/src/list.rt", r"LONGEST: usize = ([\d_]+)"),
 ]

@@ -6,3 +6,4 @@ pub mod ListStatus
 pub mod Mistakes
 pub mod Reads
 pub mod Verdict
+pub mod Faults

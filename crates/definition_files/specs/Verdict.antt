@@ -1,14 +1,15 @@
 -- The verdict of a check is that of a load.
-use Rattle.std.specs.Prelude.{◌≡◌, ℕ, List, Ok, Err}
+use Rattle.std.specs.Prelude.{◌≡◌, Result, Ok, Err}
+use Rattle.history_model.specs.Described.{Described}
+use Rattle.history_model.specs.Machine.{Fault}
 use Rattle.json_kinds.specs.DefFaults.{bad}
-use Rattle.job_defs.specs.Keys.{def_of}
 use Rattle.definition_files.specs.Mistakes.{mistakes_of}
 use Rattle.definition_files.specs.declared.check.checked.Checked.{Checked}
 use Rattle.definition_files.specs.declared.check.checked.Checked.TheVariants.{Loads, Refused}
 
--- the bytes are read as this definition, which has exactly these mistakes; or are refused for this
+-- what a load says of the bytes is this definition, which has exactly these mistakes; or a refusal for this
 -- reason at this key
-abbrev pub IsVerdict : List ℕ → Checked → Type 0
-IsVerdict bytes (Loads def mistakes finding_list) =
-    (def_of bytes ≡ Ok def) × (mistakes.items ≡ mistakes_of def)
-IsVerdict bytes (Refused reason key place text further) = def_of bytes ≡ Err (bad reason key)
+abbrev pub IsVerdict : Result Described Fault → Checked → Type 0
+IsVerdict said (Loads def mistakes finding_list) =
+    (said ≡ Ok def) × (mistakes.items ≡ mistakes_of def)
+IsVerdict said (Refused reason key place text further) = said ≡ Err (bad reason key)

@@ -1,20 +1,27 @@
 //! The check of a definition's bytes.
 
-ghost use Rattle.std.specs.Prelude.{◌≡◌, ℕ, List, Ok, Err, IfOk};
+ghost use Rattle.std.specs.Prelude.{◌≡◌, Ok, Err, IfOk};
+ghost use Rattle.serde_json.specs.View.{view};
+ghost use Rattle.history_model.specs.declared.Reason.TheVariants.{NotJson};
+ghost use Rattle.history_model.specs.declared.KeyName.TheVariants.{NoKey};
 ghost use Rattle.json_kinds.specs.DefFaults.{bad};
-ghost use Rattle.job_defs.specs.Keys.{def_of};
+ghost use Rattle.job_defs.specs.Keys.{def_at, def_of};
 ghost use Rattle.definition_files.specs.Verdict.{IsVerdict};
 
+use crate::check::broken::put_broken;
 use crate::check::changes::Change;
 use crate::check::conduct::findings_on;
+use crate::check::faults::faults_of;
 use crate::check::finding::{Finding, Position};
 use crate::check::finding_list::FindingList;
+use crate::check::further::put_faults;
 use crate::check::mistakes::{Mistake, mistakes_in};
 use crate::check::outline::{Outline, outline_of};
-use crate::check::refusal::put_refusal;
 use history_model::{KeyName, Reason};
-use job_defs::{Def, DefFault, read_def};
+use job_defs::{Def, DefFault, read_value};
+use json_kinds::json_value;
 use run_times::TextWriter;
+use serde_json::Value;
 use std::alloc::{AllocError, Global};
 
 /// What a load would say of a definition.
@@ -36,21 +43,36 @@ pub enum Checked {
     },
 }
 
-/// Checks the bytes of a definition. The verdict is that of [`read_def`], which a load asks: the definition that it reads, or the reason
+/// Checks the bytes of a definition. The verdict is that of `read_def`, which a load asks: the definition that it reads, or the reason
 /// and the key for which it refuses. `changes` are those of the clock by whose time entries of a calendar are looked at. `Err` says only
 /// that memory ran out.
+#[tactic(auto, unfolding(job_defs::specs::Keys::def_of))]
 pub fn check_def(alloc: Global, bytes: &[u8], changes: &[Change]) -> Result<Checked, AllocError>
-    ensures { IfOk result (λ checked. IsVerdict bytes.now checked) }
+    ensures { IfOk result (λ checked. IsVerdict (def_of bytes.now) checked) }
 {
     let text = std::str::from_utf8(bytes).unwrap_or("");
     let outline = outline_of(alloc, text)?;
-    let checked = match read_def(alloc, bytes) {
-        Ok(def) => loads(alloc, text, &outline, def, changes),
-        Err(DefFault::Bad { reason, key }) => refused(alloc, bytes, text, &outline, reason, key),
+    match json_value(alloc, bytes)? {
+        Some(value) => value_checked(alloc, text, &outline, &value, changes),
+        None => not_json(alloc, bytes, &outline),
+    }
+}
+
+// The same of bytes that are this value.
+fn value_checked(
+    alloc: Global,
+    text: &str,
+    outline: &Outline,
+    value: &Value,
+    changes: &[Change],
+) -> Result<Checked, AllocError>
+    ensures { IfOk result (λ checked. IsVerdict (def_at (view value.now)) checked) }
+{
+    match read_value(alloc, value) {
+        Ok(def) => loads(alloc, text, outline, def, value, changes),
+        Err(DefFault::Bad { reason, key }) => refused(alloc, text, outline, value, reason, key),
         Err(DefFault::NoMemory) => Err(AllocError),
-    };
-    drop(outline);
-    checked
+    }
 }
 
 // The definition with its mistakes, and what is said of it.
@@ -59,9 +81,10 @@ fn loads(
     text: &str,
     outline: &Outline,
     def: Def,
+    value: &Value,
     changes: &[Change],
 ) -> Result<Checked, AllocError>
-    ensures { IfOk result (λ checked. (bytes : List ℕ) → def_of bytes ≡ Ok def → IsVerdict bytes checked) }
+    ensures { IfOk result (λ checked. IsVerdict (Ok def) checked) }
 {
     let mistakes = match mistakes_in(alloc, &def) {
         Ok(mistakes) => mistakes,
@@ -71,7 +94,7 @@ fn loads(
         }
     };
     let finding_list = FindingList::new(alloc, text, outline.marks.as_slice());
-    match findings_on(&def, mistakes.as_slice(), changes, finding_list) {
+    match findings_on(&def, value, mistakes.as_slice(), changes, finding_list) {
         Ok(finding_list) => Ok(Checked::Loads {
             def,
             mistakes,
@@ -88,17 +111,42 @@ fn loads(
 // The refusal for this reason at this key, and what is said of it.
 fn refused(
     alloc: Global,
-    bytes: &[u8],
     text: &str,
     outline: &Outline,
+    value: &Value,
     reason: Reason,
     key: KeyName,
 ) -> Result<Checked, AllocError>
-    ensures { IfOk result (λ checked. def_of bytes.now ≡ Err (bad reason key) → IsVerdict bytes.now checked) }
+    ensures { IfOk result (λ checked. IsVerdict (Err (bad reason key)) checked) }
 {
+    let faults = faults_of(alloc, value)?;
     let mut writer = TextWriter::new(alloc);
     let mut finding_list = FindingList::new(alloc, text, outline.marks.as_slice());
-    let place = put_refusal(&mut writer, bytes, outline, reason, key, &mut finding_list);
+    let place = put_faults(&mut writer, value, faults.as_slice(), &mut finding_list);
+    drop(faults);
+    refusal_of(reason, key, place, writer, finding_list)
+}
+
+// The refusal of bytes that are not JSON.
+fn not_json(alloc: Global, bytes: &[u8], outline: &Outline) -> Result<Checked, AllocError>
+    ensures { IfOk result (λ checked. IsVerdict (Err (bad NotJson NoKey)) checked) }
+{
+    let mut writer = TextWriter::new(alloc);
+    let place = put_broken(alloc, &mut writer, bytes, outline);
+    let finding_list = FindingList::new(alloc, "", &[]);
+    refusal_of(Reason::NotJson, KeyName::NoKey, place, writer, finding_list)
+}
+
+// The refusal with this text and these findings.
+fn refusal_of(
+    reason: Reason,
+    key: KeyName,
+    place: Option<Position>,
+    writer: TextWriter,
+    finding_list: FindingList<'_>,
+) -> Result<Checked, AllocError>
+    ensures { IfOk result (λ checked. IsVerdict (Err (bad reason key)) checked) }
+{
     match (writer.into_text(), finding_list.into_list()) {
         (Ok(text), Ok(further)) => Ok(Checked::Refused {
             reason,

@@ -15,11 +15,13 @@ use history_model::KeyName;
 use job_defs::Def;
 use json_kinds::key_name;
 use run_times::Piece::Number;
+use serde_json::Value;
 use std::alloc::AllocError;
 
-/// The findings on a definition that has these mistakes: first on the ignored keys, then on what starts it, then on how.
+/// The findings on a definition that has these mistakes, and was read of this value: first on the ignored keys, then on what starts it, then on how.
 pub(crate) fn findings_on(
     def: &Def,
+    value: &Value,
     mistakes: &[Mistake],
     changes: &[Change],
     finding_list: FindingList<'_>,
@@ -38,7 +40,7 @@ pub(crate) fn findings_on(
     add_entries(def.calendar(), changes, &mut finding_list);
     add_command(def, &mut finding_list);
     add_paths(def, &mut finding_list);
-    add_variables(&mut finding_list);
+    add_variables(value, &mut finding_list);
     finding_list.into_list()
 }
 

@@ -5,6 +5,7 @@ use crate::check::finding::{
 };
 use crate::check::outline::{MarkKind, Outline, OutlineMark, outline_of};
 use crate::check::place::{key_at, offset_at};
+use crate::check::spelled::put_name;
 use run_times::TextWriter;
 use std::alloc::{AllocError, Global};
 
@@ -126,7 +127,7 @@ impl Lines<'_> {
             if !key.is_empty() && level > 1 {
                 writer.put(".");
             }
-            writer.put(key);
+            put_name(writer, key);
         }
     }
 

@@ -4,6 +4,7 @@ use crate::check::finding::{Position, Severity};
 use crate::check::finding_list::FindingList;
 use crate::check::foreign::{IDLE, KEYS};
 use crate::check::place::{WayStep, place_at, place_by, reached_by};
+use job_defs::limits::LIST_LIMIT;
 use json_kinds::key_name;
 use json_kinds::names::{
     ALL, CRASHED, DAY, FAMILY, HOUR, MINUTE, MONTH, NODE_NAME, PASSIVE, PATH_NAME, PATH_STATE,
@@ -68,9 +69,6 @@ fn hint_for(name: &str) -> &'static str {
     ""
 }
 
-/// How many entries a calendar has at most; sockets are fewer.
-const MOST_MEMBERS: usize = 64;
-
 // Where the key of this name is: one of the definition itself, or an inner one, in the first member that has it.
 fn key_place(finding_list: &FindingList<'_>, name: &str) -> Option<Position> {
     let own = place_by(
@@ -83,7 +81,8 @@ fn key_place(finding_list: &FindingList<'_>, name: &str) -> Option<Position> {
         return own;
     }
     let (key, rest) = name.split_once('.').unwrap_or((name, ""));
-    for index in 0..MOST_MEMBERS {
+    // Of sockets there are fewer than of entries.
+    for index in 0..LIST_LIMIT {
         let place = inner_place(finding_list, key, rest, index);
         if place.is_some() {
             return place;

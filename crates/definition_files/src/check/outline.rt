@@ -1,5 +1,6 @@
 //! The keys and values of a text of JSON, in order, with their places.
 
+use crate::check::spelled::end_of_string;
 use json::{Reader, Scratch, Token};
 use std::alloc::{AllocError, Global};
 
@@ -41,13 +42,10 @@ pub(crate) struct Outline {
 }
 
 impl Outline {
-    // Takes the token between these places.
-    fn take(&mut self, token: &Token<'_>, at: usize, end: usize) {
+    // Takes the token between these places of the text.
+    fn take(&mut self, token: &Token<'_>, text: &str, at: usize, end: usize) {
         let (kind, end) = match token {
-            Token::Key(name) => (
-                MarkKind::Key,
-                at.saturating_add(name.len()).saturating_add(2),
-            ),
+            Token::Key(_) => (MarkKind::Key, end_of_string(text, at).saturating_add(1)),
             Token::BeginArray => (MarkKind::Array, end),
             Token::BeginObject => (MarkKind::Object, end),
             Token::EndArray | Token::EndObject => (MarkKind::End, end),
@@ -104,7 +102,7 @@ fn read_into(reader: &mut Reader<'_>, text: &str, outline: &mut Outline) {
         let at = begin_at(text, reader.offset());
         match reader.next() {
             Some(Token::Bad) => outline.bad = Some(reader.offset()),
-            Some(token) => outline.take(&token, at, reader.offset()),
+            Some(token) => outline.take(&token, text, at, reader.offset()),
             None => return,
         }
         if outline.depth > DEEPEST || outline.is_refused || outline.bad.is_some() {

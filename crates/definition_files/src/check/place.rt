@@ -2,6 +2,7 @@
 
 use crate::check::finding::Position;
 use crate::check::outline::{MarkKind, OutlineMark};
+use crate::check::spelled::spells;
 
 /// A step of the way to a value, which begins at the whole definition.
 #[derive(Clone, Copy)]
@@ -97,7 +98,7 @@ fn key_in(text: &str, marks: &[OutlineMark], from: Reached, name: &str) -> Optio
         }
         let is_here = mark.depth == depth.saturating_add(1);
         match mark.kind {
-            MarkKind::Key if is_here && key_at(text, mark) == name => found = Some(index),
+            MarkKind::Key if is_here && spells(key_at(text, mark), name) => found = Some(index),
             _ => {}
         }
         index = index.saturating_add(1);

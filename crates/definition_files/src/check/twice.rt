@@ -4,6 +4,7 @@ use crate::check::finding::Severity;
 use crate::check::finding_list::FindingList;
 use crate::check::outline::{MarkKind, OutlineMark};
 use crate::check::place::{key_at, place_at};
+use crate::check::spelled::are_same;
 use run_times::Piece::{Number, Text};
 use run_times::TextWriter;
 
@@ -35,7 +36,7 @@ fn again_in(text: &str, key: &OutlineMark, behind: &[OutlineMark]) -> Option<Out
         }
         if let MarkKind::Key = mark.kind {
             compared = compared.saturating_add(1);
-            if mark.depth == key.depth && key_at(text, mark) == name {
+            if mark.depth == key.depth && are_same(key_at(text, mark), name) {
                 return Some(*mark);
             }
         }

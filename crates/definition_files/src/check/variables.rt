@@ -4,29 +4,22 @@ use crate::check::finding::Severity;
 use crate::check::finding_list::FindingList;
 use crate::check::place::{WayStep, place_by};
 use history_model::KeyName;
+use json_kinds::key_name;
 use json_kinds::names::{NODE_NAME, SERVICE_NAME};
-use json_kinds::{json_value, key_name};
 use run_times::Piece::Text;
 use run_times::TextWriter;
 use serde_json::Value;
 
 /// Adds the findings on variables of the environment whose values are not strings: they are left out.
-pub(crate) fn add_variables(finding_list: &mut FindingList<'_>) {
-    match json_value(finding_list.alloc, finding_list.text.as_bytes()) {
-        Ok(Some(value)) => {
-            if let Some(found) = value.get(key_name(KeyName::EnvironmentVariables)) {
-                add_from(found, finding_list);
-            }
-            if let Some(found) = value.get(key_name(KeyName::ProgramArguments)) {
-                add_nameless(found, finding_list);
-            }
-            if let Some(found) = value.get(key_name(KeyName::Sockets)) {
-                add_open(found, finding_list);
-            }
-            drop(value);
-        }
-        Ok(None) => {}
-        Err(_) => finding_list.refuse(),
+pub(crate) fn add_variables(value: &Value, finding_list: &mut FindingList<'_>) {
+    if let Some(found) = value.get(key_name(KeyName::EnvironmentVariables)) {
+        add_from(found, finding_list);
+    }
+    if let Some(found) = value.get(key_name(KeyName::ProgramArguments)) {
+        add_nameless(found, finding_list);
+    }
+    if let Some(found) = value.get(key_name(KeyName::Sockets)) {
+        add_open(found, finding_list);
     }
 }
 

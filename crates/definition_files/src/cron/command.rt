@@ -1,22 +1,20 @@
 //! The command of a line, as Debian's cron passes it to the shell.
 
 use crate::cron::fault::{LineFault, told};
+use job_defs::limits::WORD_LIMIT;
+use run_times::Piece::Number;
 use run_times::TextWriter;
 use std::alloc::Global;
-
-/// The longest command, in bytes: no load takes a longer argument.
-const LONGEST_COMMAND: usize = 4096;
 
 const PERCENT: &str =
     "% ends a command and begins its input, which job definitions do not have; expected \\% for the sign";
 
-const LONG: &str =
-    "the command has more than 4096 bytes, which no load takes; write it into a script";
+const LONG: &str = "the command has more than $ bytes, which no load takes; write it into a script";
 
 const NUL: &str = "the command has a NUL byte, which no program's argument may have";
 
 /// The command that the text means: `\%` is the sign, `\\` is one backslash, and a backslash before any other letter stays. Refused: a `%`
-/// that is not escaped, a NUL byte, and more than 4,096 bytes.
+/// that is not escaped, a NUL byte, and more bytes than an argument may have.
 pub(crate) fn command_of(alloc: Global, text: &str) -> Result<String, LineFault> {
     let mut writer = TextWriter::new(alloc);
     let wrong = put_command(text, &mut writer);
@@ -26,7 +24,7 @@ pub(crate) fn command_of(alloc: Global, text: &str) -> Result<String, LineFault>
         (None, Err(_)) => Err(LineFault::NoMemory),
         (Some(wrong), made) => {
             drop(made);
-            Err(told(alloc, wrong, &[]))
+            Err(told(alloc, wrong, &[Number(WORD_LIMIT as u64)]))
         }
     }
 }
@@ -54,7 +52,7 @@ fn put_command(text: &str, writer: &mut TextWriter) -> Option<&'static str> {
     if is_escaped {
         writer.put_char('\\');
     }
-    if writer.text.len() > LONGEST_COMMAND {
+    if writer.text.len() > WORD_LIMIT {
         Some(LONG)
     } else {
         None

@@ -1,13 +1,14 @@
 #!/usr/bin/env python3
-"""Definitions made at random that a load refuses: does `jobscope check` name each of their faults, and the first one first?
+"""Definitions made at random that a load refuses: does `jobscope check` name each of their faults, the first one first, and each at its place?
 
-    further_faults.py [COUNT] [--seed SEED] [--jobscope WORDS] [-v]
+    random_definitions.py [COUNT] [--seed SEED] [--jobscope WORDS] [-v]
 
-Of each of COUNT definitions (2,000 if absent) `check` names the fault for which a load refuses it (`error`), and the further ones (`also`). The script finds
-the first fault by a reader of its own, which follows the table of keys in docs/DEFINITIONS.md in the order of `read_def`. It mends that fault alone
+Of each of COUNT definitions (20,000 if absent) `check` names the fault for which a load refuses it (`error`), and the further ones (`also`). The script
+finds the first fault by a reader of its own, which follows the table of keys in docs/DEFINITIONS.md in the order of `read_def`. It mends that fault alone
 and checks the file again, until no fault is left. Each time the first line has to name the fault that the reader finds, and an earlier check must have
-printed this line too, as `also`. WORDS start jobscope (build/quick/jobscope if absent), or a program that takes the paths of the files alone, if the last
-word is `-`. The exit status is 1 if a fault is not named so; -v prints each of them, else the first five are printed.
+printed this line too, as `also`. At the place that a line names the file has to have a value as the line says. Some keys are spelled with escapes. WORDS
+start jobscope (build/quick/jobscope if absent), or a program that takes the paths of the files alone, if the last word is `-`. The exit status is 1 if a
+fault is not named so; -v prints each of them, else the first five are printed.
 """
 import argparse
 import collections
@@ -195,7 +196,7 @@ class Reader:
             yield f"{key} is an object of {len(of)}", cutter(of, 128)
         for name in sorted(of):
             if not is_text(name, 1, 255) or "=" in name:
-                yield f"{key}: {name} is ", renamer(of, name, f"MENDED{len(of)}_{size(name)}", of[name])
+                yield f"{key}: {name} is ", renamer(of, name, f"MENDED{len(of)}_{size(name)}", "x")
             elif isinstance(of[name], str) and not is_text(of[name], 0, 4096):
                 yield f"{key}: {name} is ", setter(of, name, "x")
 
@@ -395,20 +396,49 @@ class Maker:
         return made
 
 
-def checked(words, definitions):
-    """Of each definition the lines that a check prints, as (severity, text)."""
+def written(value, chance):
+    """A value as JSON on one line. One key in eight is spelled with escapes."""
+    if isinstance(value, dict):
+        return "{" + ", ".join(f"{key_written(key, chance)}: {written(of, chance)}" for key, of in value.items()) + "}"
+    if isinstance(value, list):
+        return "[" + ", ".join(written(of, chance) for of in value) + "]"
+    return json.dumps(value)
+
+
+def key_written(key, chance):
+    if chance.random() < 0.875 or len(key) > 40:
+        return json.dumps(key)
+    return '"' + "".join(f"\\u{ord(it):04x}" if ord(it) < 0x10000 and chance.random() < 0.5 else json.dumps(it)[1:-1] for it in key) + '"'
+
+
+def is_there(text, column, told):
+    """Whether the text has at the column a value as the line says. Lines on a key that is absent or not to be there say nothing of a value."""
+    found = re.search(r" is (.*), expected ", told, re.S)
+    if not found:
+        return True
+    shown, begin = found[1], text[column - 1:]
+    for words, sign in (("an array of ", "["), ("an object of ", "{"), ("a string of ", '"'), ("an empty string", '""'), ('"', '"')):
+        if shown.startswith(words):
+            return begin.startswith(sign)
+    return begin[:1] not in ('"', "[", "{", "") and json.JSONDecoder().raw_decode(begin)[0] == json.loads(shown)
+
+
+def checked(words, definitions, chance):
+    """Of each definition the lines that a check prints, as (severity, text, whether the place is right)."""
+    texts = [written(definition, chance) for definition in definitions]
     with tempfile.TemporaryDirectory() as folder:
-        for n, definition in enumerate(definitions):
+        for n, text in enumerate(texts):
             with open(os.path.join(folder, f"{n}.json"), "w", encoding="utf-8") as file:
-                json.dump(definition, file)
+                file.write(text)
         front = words[:-1] if words[-1] == "-" else [*words, "check", "--utc"]
         ran = subprocess.run([*front, *[f"{n}.json" for n in range(len(definitions))]], cwd=folder, capture_output=True, timeout=600)
     if ran.returncode not in (0, 1):
-        sys.exit(f"further_faults: status {ran.returncode}: {ran.stderr[:300]}")
+        sys.exit(f"random_definitions: status {ran.returncode}: {ran.stderr[:300]}")
     lines = [[] for _ in definitions]
     for line in ran.stdout.decode().split("\n"):
-        if found := re.match(r"([0-9]+)\.json(?::[0-9]+:[0-9]+)?(?: \([^()]*\))?: (error|also): (.*)", line):
-            lines[int(found[1])].append((found[2], found[3]))
+        if found := re.match(r"([0-9]+)\.json(?::1:([0-9]+))?(?: \([^()]*\))?: (error|also): (.*)", line):
+            n, column = int(found[1]), int(found[2] or 0)
+            lines[n].append((found[3], found[4], is_there(texts[n], column, found[4])))
     return lines
 
 
@@ -422,16 +452,18 @@ def sizeless(text):
     return re.sub(r" is an object of [0-9]+, ", " is an object, ", text)
 
 
-def silent(words, definitions, counts):
-    """The faults that no check named, or not first: of each the definition and what was wrong."""
+def silent(words, definitions, counts, chance):
+    """The faults that no check named, or not first, or not at their place: of each the definition and what was wrong."""
     named = [None] * len(definitions)
     left = list(range(len(definitions)))
     while left:
-        lines = checked(words, [definitions[n] for n in left])
+        lines = checked(words, [definitions[n] for n in left], chance)
         going = []
         for n, told in zip(left, lines):
             fault = next(Reader(definitions[n]).faults(), None)
-            errors = [text for severity, text in told if severity == "error"]
+            errors = [text for severity, text, _ in told if severity == "error"]
+            for _, text, _ in (it for it in told if not it[2]):
+                yield definitions[n], f"another place: {text}"
             if fault is None:
                 if errors:
                     yield definitions[n], f"refused, and no rule says why: {errors}"
@@ -442,7 +474,7 @@ def silent(words, definitions, counts):
                 yield definitions[n], f"a load refuses it by {front!r}, and the check says {errors}"
             elif named[n] is not None and sizeless(errors[0]) not in named[n]:
                 yield definitions[n], f"no earlier check named: {errors[0]}"
-            named[n] = {sizeless(text) for _, text in told} | (named[n] or set())
+            named[n] = {sizeless(text) for _, text, _ in told} | (named[n] or set())
             mend()
             going.append(n)
         left = going
@@ -450,16 +482,17 @@ def silent(words, definitions, counts):
 
 def main():
     given = argparse.ArgumentParser()
-    given.add_argument("count", type=int, nargs="?", default=2000)
+    given.add_argument("count", type=int, nargs="?", default=20000)
     given.add_argument("--seed", type=int, default=7)
     given.add_argument("--jobscope", type=shlex.split, default=[os.path.join(TOP, "build", "quick", "jobscope")])
     given.add_argument("-v", action="store_true")
     given = given.parse_args()
-    maker = Maker(random.Random(given.seed))
+    chance = random.Random(given.seed)
+    maker = Maker(chance)
     counts, faults = collections.Counter(), []
     for at in range(0, given.count, AT_ONCE):
         definitions = [maker.definition() for _ in range(min(AT_ONCE, given.count - at))]
-        faults += [(json.dumps(definition)[:600], why) for definition, why in silent(given.jobscope, definitions, counts)]
+        faults += [(json.dumps(definition)[:600], why) for definition, why in silent(given.jobscope, definitions, counts, chance)]
     for definition, why in faults if given.v else faults[:5]:
         print(f"{why}\n  {definition}", file=sys.stderr)
     print(f"{given.count} definitions with {sum(counts.values())} faults, {len(faults)} not named: {dict(counts)}")
