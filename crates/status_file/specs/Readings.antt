@@ -172,16 +172,25 @@ pub record PathsAt (count first : List ℕ) (object : Option Data) (paths : KeyP
   pub many : count_at count object ≡ Some paths.count
   pub one : TextIf first object paths.first
 
+-- the conditions of `KeepAlive`
+pub record ConditionsAt (object : Option Data) (successful_exit crashed : Option Bool) (path_state : KeyPaths)
+    (first_exists path_exists : Option Bool) : Type 0 where
+  pub exit : FlagIf (codes "successful_exit") object successful_exit
+  pub crash : FlagIf (codes "crashed") object crashed
+  pub paths : PathsAt (codes "path_state") (codes "first_condition") object path_state
+  pub first : FlagIf (codes "first_exists") object first_exists
+  pub path : FlagIf (codes "path_exists") object path_exists
+
+-- its times
+pub record PaceAt (object : Option Data) (start_interval : Option ℕ) (throttle_interval exit_time_out : ℕ) : Type 0 where
+  pub interval : CountIf (codes "start_interval") object start_interval
+  pub throttle : count_at (codes "throttle_interval") object ≡ Some throttle_interval
+  pub time_out : count_at (codes "exit_time_out") object ≡ Some exit_time_out
+
 pub record KeysAt (object : Option Data) (keys : JobKeys) : Type 0 where
   pub run_at_load : flag_at (codes "run_at_load") object ≡ Some keys.run_at_load
-  pub successful_exit : FlagIf (codes "successful_exit") object keys.successful_exit
-  pub crashed : FlagIf (codes "crashed") object keys.crashed
-  pub path_state : PathsAt (codes "path_state") (codes "first_condition") object keys.path_state
-  pub first_exists : FlagIf (codes "first_exists") object keys.first_exists
-  pub path_exists : FlagIf (codes "path_exists") object keys.path_exists
-  pub start_interval : CountIf (codes "start_interval") object keys.start_interval
-  pub throttle_interval : count_at (codes "throttle_interval") object ≡ Some keys.throttle_interval
-  pub exit_time_out : count_at (codes "exit_time_out") object ≡ Some keys.exit_time_out
+  pub conditions : ConditionsAt object keys.successful_exit keys.crashed keys.path_state keys.first_exists keys.path_exists
+  pub pace : PaceAt object keys.start_interval keys.throttle_interval keys.exit_time_out
   pub watch_paths : PathsAt (codes "watch_paths") (codes "first_watched") object keys.watch_paths
   pub queue_directories : PathsAt (codes "queue_directories") (codes "first_queue") object keys.queue_directories
   pub has_sockets : flag_at (codes "sockets") object ≡ Some keys.has_sockets

@@ -4,7 +4,7 @@ ghost use Rattle.std.specs.Prelude.{◌≡◌, Some, None, IfErr, IfOk, IfSome, 
 ghost use Rattle.json_kinds.specs.Json.{json_in};
 ghost use Rattle.serde_json.specs.View.{view};
 ghost use Rattle.status_file.specs.Reads.{IsReading, NullOr, object_of, value_at};
-ghost use Rattle.status_file.specs.Readings.{ChildAt, DemandAt, DisabledAt, EndAt, FactsAt, HasRun, JobAt, JournalAt, KeysAt, LaterCount, LaterReading, LaterText, LauncherAt, NoteAt, OrderAt, PathsAt, ReadingIf, ReasonsAt, RefusedAt, WantsAt};
+ghost use Rattle.status_file.specs.Readings.{ChildAt, ConditionsAt, DemandAt, DisabledAt, EndAt, FactsAt, HasRun, JobAt, JournalAt, KeysAt, LaterCount, LaterReading, LaterText, LauncherAt, NoteAt, OrderAt, PaceAt, PathsAt, ReadingIf, ReasonsAt, RefusedAt, WantsAt};
 ghost use Rattle.status_file.specs.Tokens.{order_text};
 ghost use Rattle.status_file.specs.declared.read.StatusFault.TheVariants.{NotJson};
 
@@ -356,22 +356,62 @@ fn paths_in<'a>(fields: &mut Fields<'a>, count: &'static str, first: &'static st
     }
 }
 
+// Of the conditions of `KeepAlive`: `SuccessfulExit`, `Crashed`, the paths, what the first path is to be, and what the one that holds is.
+fn conditions_in<'a>(
+    keys: &mut Fields<'a>,
+) -> (
+    Option<bool>,
+    Option<bool>,
+    KeyPaths<'a>,
+    Option<bool>,
+    Option<bool>,
+)
+    ensures object { keys.new.object ≡ keys.old.object }
+    ensures kept { keys.new.fault ≡ None → keys.old.fault ≡ None }
+    ensures value { keys.new.fault ≡ None →
+        ConditionsAt (object_of keys.old) result.0 result.1 result.2 result.3 result.4 }
+{
+    let successful_exit = keys.flag_if("successful_exit");
+    let crashed = keys.flag_if("crashed");
+    let paths = paths_in(keys, "path_state", "first_condition");
+    let first_exists = keys.flag_if("first_exists");
+    let path_exists = keys.flag_if("path_exists");
+    (successful_exit, crashed, paths, first_exists, path_exists)
+}
+
+// `StartInterval`, `ThrottleInterval` and `ExitTimeOut`.
+fn pace_in(keys: &mut Fields<'_>) -> (Option<u32>, u32, u32)
+    ensures object { keys.new.object ≡ keys.old.object }
+    ensures kept { keys.new.fault ≡ None → keys.old.fault ≡ None }
+    ensures value { keys.new.fault ≡ None → PaceAt (object_of keys.old) result.0 result.1 result.2 }
+{
+    let start_interval = keys.short_if("start_interval");
+    let throttle_interval = keys.short("throttle_interval");
+    let exit_time_out = keys.short("exit_time_out");
+    (start_interval, throttle_interval, exit_time_out)
+}
+
 fn keys_in<'a>(fields: &mut Fields<'a>) -> JobKeys<'a>
     ensures object { fields.new.object ≡ fields.old.object }
     ensures kept { fields.new.fault ≡ None → fields.old.fault ≡ None }
     ensures value { fields.new.fault ≡ None → KeysAt (value_at (codes "keys") (object_of fields.old)) result }
 {
     let mut keys = fields.inside("keys");
+    let run_at_load = keys.flag("run_at_load");
+    let (successful_exit, crashed, path_state, first_exists, path_exists) = conditions_in(
+        &mut keys,
+    );
+    let (start_interval, throttle_interval, exit_time_out) = pace_in(&mut keys);
     let told = JobKeys {
-        run_at_load: keys.flag("run_at_load"),
-        successful_exit: keys.flag_if("successful_exit"),
-        crashed: keys.flag_if("crashed"),
-        path_state: paths_in(&mut keys, "path_state", "first_condition"),
-        first_exists: keys.flag_if("first_exists"),
-        path_exists: keys.flag_if("path_exists"),
-        start_interval: keys.short_if("start_interval"),
-        throttle_interval: keys.short("throttle_interval"),
-        exit_time_out: keys.short("exit_time_out"),
+        run_at_load,
+        successful_exit,
+        crashed,
+        path_state,
+        first_exists,
+        path_exists,
+        start_interval,
+        throttle_interval,
+        exit_time_out,
         watch_paths: paths_in(&mut keys, "watch_paths", "first_watched"),
         queue_directories: paths_in(&mut keys, "queue_directories", "first_queue"),
         has_sockets: keys.flag("sockets"),
