@@ -22,7 +22,7 @@ ghost use Rattle.child_edge.specs.Calls.{ToldCall};
 
 use outside::SettingStore;
 use override_store::{LastingSettings, OverrideStore, StorePlace};
-use sqlite::Alter;
+use sqlite::{Alter, Connection};
 
 /// After any turns the table stands for the machine that the turns' events lead to, and the store holds that machine's settings. The
 /// replies and the calls were the machine's.
@@ -40,7 +40,7 @@ pub fn the_store_holds_what_the_machine_sets<T: SettingStore>(store: &T)
 /// A launcher's store is closed after any turns and opened again, over a disk that returns what was written. For each
 /// label it then has the last setting that the launcher made. Refused settings between, and earlier openings, do not
 /// matter. `listed` is what `all` gives of it. The condition: the launcher's store is not shut at its end.
-pub fn a_store_opened_again_has_the_last_settings<S: Alter, P: StorePlace<S>, R: Alter>(
+pub fn a_store_opened_again_has_the_last_settings<S: Alter, P: StorePlace<Connection<S>>, R: Alter>(
     store: &LastingSettings<S, P>,
     again: &OverrideStore<R>,
 )

@@ -1,5 +1,5 @@
 -- The settings that a launcher's store must hold, as they are in memory, and what holds of the store at hand.
-use Rattle.std.specs.Prelude.{◌≡◌, ◌⊎◌, ◌≤◌, ℕ, Bool, List, ◌∷◌, map, Option, Some, MatchOption, IsTrue, length, pos, false, ⊤}
+use Rattle.std.specs.Prelude.{◌≡◌, ◌≤◌, ℕ, Bool, List, ◌∷◌, map, Option, Some, MatchOption, IsTrue, length, pos, false, ⊤}
 use Rattle.std.specs.List.{filter, list_any}
 use Rattle.sqlite.specs.declared.types.Value.TheVariants.{Int}
 use Rattle.sqlite.specs.Order.{Row, column}
@@ -71,11 +71,6 @@ HasKnown rows known = HoldsEach rows (settings_of known) × StampsEach rows (sta
 abbrev pub HoldsTrees : Trees → List Known → Type 0
 HoldsTrees trees known =
     (db : Database) × (trees ≡ db.trees) × AreOurs db × HasKnown (setting_rows trees) known
-
--- so they have what is known, or that with one setting more, with its second
-abbrev pub IsKnownOr : Trees → List Known → Label → Bool → ℕ → Type 0
-IsKnownOr trees known label disabled changed =
-    HoldsTrees trees known ⊎ HoldsTrees trees (known_as label disabled changed ∷ known)
 
 -- a store has committed what is known, and one setting more, with its second
 pub record HasMade (s : State) (label : List ℕ) (disabled : Bool) (changed : ℕ)

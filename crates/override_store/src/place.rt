@@ -1,12 +1,9 @@
 //! The place of a launcher's store, as the system or a test has it.
 
-ghost use Rattle.std.specs.Prelude.{◌≡◌, ℕ, IfErr, IfOk, IsTrue, Option};
-ghost use Rattle.sqlite.specs.Held.{state};
-ghost use Rattle.override_store.specs.Places.{Finds, IsAskedOnce, Keeps, over_connection, over_left};
+ghost use Rattle.std.specs.Prelude.{ℕ, Option};
+ghost use Rattle.override_store.specs.Places.{IsAskedOnce};
 
 use crate::StoreFault;
-use sqlite::{Alter, Connection};
-use sqlite_trees::store::Store;
 use std::alloc::Global;
 
 /// What a store reports.
@@ -31,30 +28,17 @@ pub enum Telling {
     AllButBusy,
 }
 
-/// Opens the database of a store, and again after its disk failed.
-pub trait StorePlace<S: Alter> {
+/// Opens the database of a store, and again after its disk failed. A `C` is a connection to it.
+pub trait StorePlace<C> {
     /// How often it was asked for a connection. A place that does not record it has none.
     ghost asked: { Self → Option ℕ };
 
-    /// What the next connection may find, if there is none now. A place that can't say so is not honest.
-    ghost finds: { Self → Finds };
-
-    /// A new connection to the database. No other connection that it gave is there any more.
-    fn open(&mut self, alloc: Global, telling: Telling) -> Result<Connection<S>, StoreFault>
-        ensures asked { IsAskedOnce (Self.asked self.old) (Self.asked self.new) }
-        ensures is_open { IfOk result (λ conn. (over_connection S.Store (Self.finds self.new) conn).IsHonest →
-            IsTrue (state S.Store conn).is_open) }
-        ensures found { IfOk result (λ conn.
-            Keeps (Self.finds self.old) (over_connection S.Store (Self.finds self.new) conn)) }
-        ensures refused { IfErr result (λ _. Keeps (Self.finds self.old) (Self.finds self.new)) };
-
-    /// Drops what is under a connection that it gave, which is closed.
-    fn leave(&mut self, left: S)
-        ensures asked { Self.asked self.new ≡ Self.asked self.old }
-        ensures found { Keeps (over_left S.Store (Self.finds self.old) left) (Self.finds self.new) };
+    /// A new connection to the database. No other connection that it gave is there any more. No clause says what it finds: the store looks.
+    fn open(&mut self, alloc: Global, telling: Telling) -> Result<C, StoreFault>
+        ensures asked { IsAskedOnce (Self.asked self.old) (Self.asked self.new) };
 
     /// Moves what a log next to the database holds into it, and drops the connection.
-    fn close(&self, conn: Connection<S>);
+    fn close(&self, conn: C);
 
     fn tell(&self, status: StoreStatus);
 }

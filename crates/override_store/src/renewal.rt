@@ -1,17 +1,18 @@
 //! A store that is opened again: its database is made to have what it must hold.
 
-ghost use Rattle.std.specs.Prelude.{◌≡◌, ◌⊎◌, ◌≤◌, IfErr, IfOk, IsTrue, None};
+ghost use Rattle.std.specs.Prelude.{◌≡◌, ◌⊎◌, IfErr, IfOk, IsTrue, None};
 ghost use Rattle.sqlite_catalog.specs.Listing.{IsSound};
-ghost use Rattle.override_store.specs.StoreTables.{both_schema, no_schema};
+ghost use Rattle.override_store.specs.StoreTables.{both_schema};
 ghost use Rattle.sqlite.specs.Held.{state};
 ghost use Rattle.sqlite.specs.State.{HasCleanDisk};
 ghost use Rattle.sqlite.specs.Tree.{Trees};
-ghost use Rattle.sqlite.specs.View.{IsClean, doubt};
-ghost use Rattle.override_store.specs.OverrideStores.{AreFit, HoldsAs, IsOurs};
-ghost use Rattle.override_store.specs.KnownSettings.{HoldsKnown, HoldsTrees};
-ghost use Rattle.override_store.specs.Places.{IsAskedMore, Keeps, LeadsTo, over_connection};
+ghost use Rattle.sqlite.specs.View.{IsClean};
+ghost use Rattle.override_store.specs.OverrideStores.{AreFit, HoldsAs};
+ghost use Rattle.override_store.specs.KnownSettings.{HoldsKnown};
+ghost use Rattle.override_store.specs.Places.{IsAskedMore};
 
 use crate::known::{Known, are_same};
+use crate::open::open_tables;
 use crate::place::{StorePlace, StoreStatus, Telling};
 use crate::sameness::Same;
 use crate::{OverrideStore, StoreFault};
@@ -34,10 +35,6 @@ pub(crate) fn open_all<S: Alter + Drop>(
     ensures left { IfErr result (λ e. IsClean (S.Store.view e.1) →
         AreFit (state S.Store conn).committed.trees → (db : Trees) → S.Store.recovers e.1 db →
         (state S.Store conn).may_leave db ⊎ HoldsAs (state S.Store conn).committed.trees db) }
-    ensures clean { IfOk result (λ r.
-        doubt (state S.Store conn).is_clean ≤ doubt (state S.Store r.0).is_clean) }
-    ensures doubted { IfErr result (λ e.
-        doubt (state S.Store conn).is_clean ≤ doubt (S.Store.view e.1).is_clean) }
 {
     let mut store = match OverrideStore::open_or_give(alloc, conn) {
         Ok(store) => store,
@@ -50,7 +47,7 @@ pub(crate) fn open_all<S: Alter + Drop>(
 }
 
 // It reports a refusal.
-fn open_at<S: Alter + Drop, P: StorePlace<S>>(
+fn open_at<S: Alter + Drop, P: StorePlace<Connection<S>>>(
     alloc: Global,
     place: &mut P,
     pattern: &Schema,
@@ -59,52 +56,53 @@ fn open_at<S: Alter + Drop, P: StorePlace<S>>(
     ensures holds { pattern.now ≡ both_schema →
         IfOk result (λ r. HoldsKnown (state S.Store r.0) r.1.items) }
     ensures asked { IsAskedMore (P.asked place.old) (P.asked place.new) }
-    ensures crash { pattern.now ≡ both_schema → IfOk result (λ r.
-        LeadsTo (P.finds place.old) (over_connection S.Store (P.finds place.new) r.0) (λ _. ⊥)) }
-    ensures left { pattern.now ≡ both_schema → IfErr result (λ _.
-        LeadsTo (P.finds place.old) (P.finds place.new) (λ _. ⊥)) }
 {
     let conn = match place.open(alloc, telling) {
         Ok(conn) => conn,
         Err(fault) => return Err(fault),
     };
-    if !is_fit(&conn, pattern) {
-        place.leave(conn.into_store());
-        return Err(told(place, telling, StoreFault::Foreign));
-    }
+    let conn = match fit(conn, pattern) {
+        Ok(conn) => conn,
+        Err((fault, store)) => {
+            drop(store);
+            return Err(told(place, telling, fault));
+        }
+    };
     match open_all(alloc, conn) {
         Ok(both) => Ok(both),
         Err((fault, store)) => {
-            place.leave(store);
+            drop(store);
             Err(told(place, telling, fault))
         }
     }
 }
 
-// Whether the database has the tables of a store and nothing else, or no table at all. Nothing is written to another one.
-fn is_fit<S: Alter>(conn: &Connection<S>, pattern: &Schema) -> bool
-    ensures { IsTrue result → pattern.now ≡ both_schema → IsTrue (state S.Store conn.now).is_open →
-        AreFit (state S.Store conn.now).committed.trees }
+// The connection with the tables of a store, and with nothing else.
+fn fit<S: Alter + Drop>(
+    conn: Connection<S>,
+    pattern: &Schema,
+) -> Result<Connection<S>, (StoreFault, S)>
+    ensures { pattern.now ≡ both_schema →
+        IfOk result (λ conn. HasCleanDisk (state S.Store conn) → IsTrue (state S.Store conn).is_open →
+        AreFit (state S.Store conn).committed.trees) }
 {
-    if is_empty(conn) {
-        true
+    let mut conn = conn;
+    if is_empty(&conn) {
+        match open_tables(&mut conn) {
+            Ok(()) => {}
+            Err(fault) => return Err((fault, conn.into_store())),
+        }
+    }
+    if has_schema(&conn, pattern) {
+        Ok(conn)
     } else {
-        has_schema(conn, pattern)
+        Err((StoreFault::Foreign, conn.into_store()))
     }
 }
 
-// Whether the database has no table, with no transaction open.
-fn is_empty<S: Alter>(conn: &Connection<S>) -> bool
-    ensures { IsTrue result → IsTrue (state S.Store conn.now).is_open →
-        IsSound no_schema (state S.Store conn.now).committed.trees }
-{
-    let is_settled = conn.is_autocommit();
-    is_settled && has_nothing(conn.schema())
-}
-
-fn has_nothing(schema: &Schema) -> bool
-    ensures { IsTrue result → schema.now ≡ no_schema }
-{
+// Nothing is written to a database that has other tables.
+fn is_empty<S: Alter>(conn: &Connection<S>) -> bool {
+    let schema = conn.schema();
     let has_no_table = schema.tables.is_empty();
     let has_no_index = schema.indexes.is_empty();
     let has_no_view = schema.views.is_empty();
@@ -140,7 +138,7 @@ pub(crate) fn store_schema(alloc: Global) -> Result<Schema, StoreFault>
     }
 }
 
-fn told<S: Alter, P: StorePlace<S>>(place: &P, telling: Telling, fault: StoreFault) -> StoreFault
+fn told<C, P: StorePlace<C>>(place: &P, telling: Telling, fault: StoreFault) -> StoreFault
     ensures { result ≡ fault }
 {
     match telling {
@@ -150,7 +148,7 @@ fn told<S: Alter, P: StorePlace<S>>(place: &P, telling: Telling, fault: StoreFau
 }
 
 // The store at its place, and what it has, if that is not what is known.
-fn look<S: Alter + Drop, P: StorePlace<S>>(
+fn look<S: Alter + Drop, P: StorePlace<Connection<S>>>(
     alloc: Global,
     place: &mut P,
     pattern: &Schema,
@@ -159,13 +157,7 @@ fn look<S: Alter + Drop, P: StorePlace<S>>(
 ) -> Result<(OverrideStore<S>, Option<Vec<Known>>), StoreFault>
     ensures holds { pattern.now ≡ both_schema →
         IfOk result (λ r. r.1 ≡ None → HoldsKnown (state S.Store r.0) known.now) }
-    ensures ours { pattern.now ≡ both_schema → IfOk result (λ r. HasCleanDisk (state S.Store r.0) →
-        IsTrue (state S.Store r.0).is_open → IsOurs (state S.Store r.0)) }
     ensures asked { IsAskedMore (P.asked place.old) (P.asked place.new) }
-    ensures crash { pattern.now ≡ both_schema → IfOk result (λ r.
-        LeadsTo (P.finds place.old) (over_connection S.Store (P.finds place.new) r.0) (λ _. ⊥)) }
-    ensures left { pattern.now ≡ both_schema → IfErr result (λ _.
-        LeadsTo (P.finds place.old) (P.finds place.new) (λ _. ⊥)) }
 {
     let (store, found) = match open_at(alloc, place, pattern, telling) {
         Ok(both) => both,
@@ -181,7 +173,7 @@ fn look<S: Alter + Drop, P: StorePlace<S>>(
 
 /// The store opened again, with all that is known, and whether that had to be written back. If so, it reads the store again before it
 /// returns.
-pub(crate) fn renewed<S: Alter + Drop, P: StorePlace<S>>(
+pub(crate) fn renewed<S: Alter + Drop, P: StorePlace<Connection<S>>>(
     alloc: Global,
     place: &mut P,
     pattern: &Schema,
@@ -191,11 +183,6 @@ pub(crate) fn renewed<S: Alter + Drop, P: StorePlace<S>>(
     ensures holds { pattern.now ≡ both_schema →
         IfOk result (λ r. HoldsKnown (state S.Store r.0) known.now) }
     ensures asked { IsAskedMore (P.asked place.old) (P.asked place.new) }
-    ensures crash { pattern.now ≡ both_schema → IfOk result (λ r.
-        LeadsTo (P.finds place.old) (over_connection S.Store (P.finds place.new) r.0)
-        (λ db. HoldsTrees db known.now)) }
-    ensures left { pattern.now ≡ both_schema → IfErr result (λ _.
-        LeadsTo (P.finds place.old) (P.finds place.new) (λ db. HoldsTrees db known.now)) }
 {
     let (store, other) = match look(alloc, place, pattern, known, telling) {
         Ok(both) => both,
@@ -205,7 +192,7 @@ pub(crate) fn renewed<S: Alter + Drop, P: StorePlace<S>>(
         None => Ok((store, false)),
         Some(found) => {
             drop(found);
-            match mend(place, store, known) {
+            match mend(store, known) {
                 Ok(()) => look_again(alloc, place, pattern, known, telling),
                 Err(fault) => Err(told(place, telling, fault)),
             }
@@ -214,7 +201,7 @@ pub(crate) fn renewed<S: Alter + Drop, P: StorePlace<S>>(
 }
 
 // The store, once it was mended.
-fn look_again<S: Alter + Drop, P: StorePlace<S>>(
+fn look_again<S: Alter + Drop, P: StorePlace<Connection<S>>>(
     alloc: Global,
     place: &mut P,
     pattern: &Schema,
@@ -224,10 +211,6 @@ fn look_again<S: Alter + Drop, P: StorePlace<S>>(
     ensures holds { pattern.now ≡ both_schema →
         IfOk result (λ r. HoldsKnown (state S.Store r.0) known.now) }
     ensures asked { IsAskedMore (P.asked place.old) (P.asked place.new) }
-    ensures crash { pattern.now ≡ both_schema → IfOk result (λ r.
-        LeadsTo (P.finds place.old) (over_connection S.Store (P.finds place.new) r.0) (λ _. ⊥)) }
-    ensures left { pattern.now ≡ both_schema → IfErr result (λ _.
-        LeadsTo (P.finds place.old) (P.finds place.new) (λ _. ⊥)) }
 {
     let (store, other) = match look(alloc, place, pattern, known, telling) {
         Ok(both) => both,
@@ -236,34 +219,17 @@ fn look_again<S: Alter + Drop, P: StorePlace<S>>(
     match other {
         None => Ok((store, true)),
         Some(found) => {
-            leave(place, store);
+            drop(store);
             drop(found);
             Err(told(place, telling, StoreFault::Refused))
         }
     }
 }
 
-// Makes the store have what is known, and closes it.
-fn mend<S: Alter + Drop, P: StorePlace<S>>(
-    place: &mut P,
-    store: OverrideStore<S>,
-    known: &[Known],
-) -> Result<(), StoreFault>
-    ensures asked { P.asked place.new ≡ P.asked place.old }
-    ensures crash { (HasCleanDisk (state S.Store store) → IsTrue (state S.Store store).is_open →
-        IsOurs (state S.Store store)) → LeadsTo (over_connection S.Store (P.finds place.old) store)
-        (P.finds place.new) (λ db. HoldsTrees db known.now) }
-{
+// Makes the store have what is known, and drops it.
+fn mend<S: Alter + Drop>(store: OverrideStore<S>, known: &[Known]) -> Result<(), StoreFault> {
     let mut store = store;
     let mended = store.mend(known);
-    leave(place, store);
+    drop(store);
     mended
-}
-
-/// Closes the store, and has the place drop what is under its connection.
-pub(crate) fn leave<S: Alter + Drop, P: StorePlace<S>>(place: &mut P, store: OverrideStore<S>)
-    ensures asked { P.asked place.new ≡ P.asked place.old }
-    ensures found { Keeps (over_connection S.Store (P.finds place.old) store) (P.finds place.new) }
-{
-    place.leave(store.close_on().into_store());
 }

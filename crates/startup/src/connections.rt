@@ -17,11 +17,8 @@ pub(crate) trait ConnectionTask {
     fn over<S: Alter + Drop>(self, conn: Connection<S>) -> Result<Self::Done, (StoreRefusal, Self)>;
 }
 
-/// What is under a connection to the database of such files.
-pub(crate) type MediaStore = FileStore<Medium<File, Memory>>;
-
-/// A connection to it.
-pub(crate) type MediaConnection = Connection<MediaStore>;
+/// A connection to the database of such files.
+pub(crate) type MediaConnection = Connection<FileStore<Medium<File, Memory>>>;
 
 /// Opens the database of these files, and does the task over it.
 pub(crate) fn over_files<T: ConnectionTask>(

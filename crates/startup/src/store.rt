@@ -2,9 +2,7 @@
 
 ghost use Rattle.std.specs.Prelude.{None};
 
-use crate::connections::{
-    ConnectionTask, Media, MediaConnection, MediaStore, connection_over, over_files,
-};
+use crate::connections::{ConnectionTask, Media, MediaConnection, connection_over, over_files};
 use crate::looking::{StoreKind, copied_connection, look};
 use crate::medium::Medium;
 use crate::one_file::taken_for_store;
@@ -121,7 +119,7 @@ fn used_over<U: StoreUser>(
 
 // The settings at the place. If it is refused, what is under the connection is dropped. This is over any store, since a
 // real one would be dropped part by part.
-fn settings_of<S: Alter + Drop, P: StorePlace<S> + Drop>(
+fn settings_of<S: Alter + Drop, P: StorePlace<Connection<S>> + Drop>(
     alloc: Global,
     place: P,
     conn: Connection<S>,
@@ -184,21 +182,15 @@ impl StoreFiles<'_> {
     }
 }
 
-impl StorePlace<MediaStore> for StoreFiles<'_> {
-    // Contracts do not see what is asked of the system, nor what it finds.
+impl StorePlace<MediaConnection> for StoreFiles<'_> {
+    // Contracts do not see what is asked of the system.
     ghost asked = { λ s. None };
-
-    ghost finds = { λ s. record { IsHonest = ⊥; may_find = λ _. Unit {0} } };
 
     fn open(&mut self, _alloc: Global, telling: Telling) -> Result<MediaConnection, StoreFault> {
         match private_connection_at(self.rt, self.path) {
             Ok(conn) => Ok(conn),
             Err(refusal) => Err(fault_of(self, telling, refusal)),
         }
-    }
-
-    fn leave(&mut self, left: MediaStore) {
-        drop(left);
     }
 
     fn close(&self, conn: MediaConnection) {
