@@ -1,6 +1,7 @@
 -- How the clocks go on after a last clock reading, and what they come to make due.
 use Rattle.std.specs.Prelude.{◌≡◌, ℕ, ◌+◌, ◌-◌, ◌*◌, ◌^◌, ◌<◌, ◌≤◌, ◌&&◌, ◌||◌, not, nat_lt, Bool, min, Some, None}
 use Rattle.history_model.specs.declared.Reading.{Reading}
+use Rattle.history_model.specs.declared.reasons.Reasons.{Reasons}
 use Rattle.history_model.specs.declared.TheConstants.{MAX_WALL}
 use Rattle.history_model.specs.Calendar.{Zone}
 use Rattle.history_model.specs.Clock.{definition_of}
@@ -25,6 +26,10 @@ StartsSo zone past ahead last now (Since at) =
     (d : ℕ) × IsNextRun zone past ahead (Some d) × (at ≡ last.wall + d) × (at ≤ now)
 StartsSo zone past ahead last now (At at) =
     (d : ℕ) × IsNextRun zone past ahead (Some d) × (at ≡ last.wall + d) × (now < at)
+
+-- a start can come of the load, by what keeps its job from one
+abbrev pub can_start : Reasons → Bool
+can_start r = not (r.is_removing || r.is_launch_spent || r.are_runs_spent)
 
 -- a start can come of the load: it is not being removed, it was not launched if that is to be once, and
 -- its runs are not used up

@@ -1,7 +1,7 @@
 -- What the table of `status` says of a job.
 use Rattle.std.specs.List.{list_any}
 use Rattle.std.specs.Option.{option_map}
-use Rattle.std.specs.Prelude.{◌≡◌, ◌⊎◌, ℕ, Bool, true, false, List, [], ◌∷◌, ◌++◌, codes, cond, length, ◌==◌, ◌||◌, Option, Some, None, is_some}
+use Rattle.std.specs.Prelude.{◌≡◌, ◌⊎◌, ℕ, Bool, true, false, List, [], ◌∷◌, ◌++◌, codes, cond, length, not, nat_lt, ◌==◌, ◌||◌, Option, Some, None, is_some, if◌then◌else◌}
 use Rattle.history_model.specs.declared.Ended.{Ended}
 use Rattle.history_model.specs.declared.Entry.{Entry}
 use Rattle.history_model.specs.declared.Reading.{Reading}
@@ -15,6 +15,7 @@ use Rattle.run_times.specs.declared.writer.TextWriter.{TextWriter}
 use Rattle.run_times.specs.Told.{IsTold}
 use Rattle.run_times.specs.Written.{Adds}
 use Rattle.status_file.specs.declared.facts.JobFacts.{JobFacts}
+use Rattle.status_file.specs.declared.status.JobKeys.{JobKeys}
 use Rattle.status_file.specs.declared.status.JobNote.{JobNote}
 use Rattle.status_file.specs.declared.status.JobStatus.{JobStatus}
 use Rattle.run_log.specs.declared.facts.RefusedStart.{RefusedStart}
@@ -29,7 +30,7 @@ use Rattle.status_page.specs.declared.rows.StatusRow.{StatusRow}
 use Rattle.status_page.specs.declared.rows.ShownState.{ShownState}
 use Rattle.status_page.specs.declared.rows.ShownState.TheVariants.{Is, Unknown}
 use Rattle.status_page.specs.declared.throttles.ThrottleEnd.{ThrottleEnd}
-use Rattle.status_page.specs.Clocks.{StartsSo}
+use Rattle.status_page.specs.Clocks.{StartsSo, can_start}
 use Rattle.status_page.specs.Throttles.{EndsSo, throttled_by}
 
 -- the label is one of those that are named, or none is
@@ -80,6 +81,22 @@ TellsNext lives zone f entries at now (Clock when) =
     (lives ≡ true) × (is_some f.reasons.child ≡ false) × StartsBy zone f entries at now when
 TellsNext lives zone f entries at now (Event words) =
     (lives ≡ true) × (is_some f.reasons.child ≡ false) × StartsBy zone f entries at now starts.Never
+
+-- what a job waits for that the clocks start in none of the days that are looked at
+abbrev pub event_text : Reasons → JobKeys → Bool → List ℕ
+event_text r k has_calendar =
+    if not (can_start r) then codes "a load"
+    else (if is_some r.awaited then codes "an answer"
+    else (if nat_lt 0 k.path_state.count || nat_lt 0 k.watch_paths.count then codes "a path"
+    else (if nat_lt 0 k.queue_directories.count then codes "a file"
+    else (if k.has_sockets then codes "a client"
+    else (if has_calendar then codes "its calendar" else codes "a request")))))
+
+-- what is shown of it names that; a job without a calendar never waits for one
+abbrev pub NamesEvent : Reasons → JobKeys → List Entry → Next → Type 0
+NamesEvent r k entries Nothing = Unit {0}
+NamesEvent r k entries (Clock when) = Unit {0}
+NamesEvent r k entries (Event words) = words.now ≡ event_text r k (not (length entries == 0))
 
 -- the name of a state
 abbrev pub state_word : ShownState → List ℕ

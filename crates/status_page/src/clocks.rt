@@ -8,7 +8,7 @@ ghost use Rattle.history_model.specs.Reasons.{reasons_of, some_want};
 ghost use Rattle.calendar_due.specs.ZoneRules.{minute_at};
 ghost use Rattle.run_times.specs.Told.{IsTold};
 ghost use Rattle.status_page.specs.declared.clocks.TheConstants.{FARTHEST};
-ghost use Rattle.status_page.specs.Clocks.{can_start_again, gone_on, StartsSo};
+ghost use Rattle.status_page.specs.Clocks.{can_start, can_start_again, gone_on, StartsSo};
 
 use calendar_due::Zone;
 use history_model::{Entry, MAX_UP, MAX_WALL, Reading, Reasons, SECOND, Wants};
@@ -81,7 +81,8 @@ pub fn start_when(
 
 /// Whether a start can ever come of the load: it is not being removed, and its launches are not used up.
 pub fn can_start_again(reasons: &Reasons) -> bool
-    ensures { (past : History) → reasons.now ≡ reasons_of past → result ≡ can_start_again past }
+    ensures past { (past : History) → reasons.now ≡ reasons_of past → result ≡ can_start_again past }
+    ensures reasons { result ≡ can_start reasons.now }
 {
     !(reasons.is_removing || reasons.is_launch_spent || reasons.are_runs_spent)
 }

@@ -11,6 +11,7 @@ mod failing;
 mod head;
 mod left_out;
 mod passed;
+mod refused;
 mod rows;
 mod samples;
 mod standing;

@@ -4,7 +4,7 @@ ghost use Rattle.std.specs.Prelude.{◌-◌, ◌≡◌, ◌≤◌, is_some};
 ghost use Rattle.history_model.specs.declared.TheConstants.{MAX_UP, MAX_WALL};
 ghost use Rattle.calendar_due.specs.ZoneRules.{minute_at};
 ghost use Rattle.status_page.specs.Failing.{has_failed, is_start_refused, last_end_in};
-ghost use Rattle.status_page.specs.Rows.{last_refused, last_shown, process_shown, state_shown, state_word, EndsThrottle, TellsNext};
+ghost use Rattle.status_page.specs.Rows.{event_text, last_refused, last_shown, process_shown, state_shown, state_word, EndsThrottle, NamesEvent, TellsNext};
 
 use crate::clocks::{StartWhen, can_start_again, start_when};
 use crate::failing::{has_failed, is_start_refused, last_end_of};
@@ -79,6 +79,7 @@ pub fn row_of<'a>(
     ensures failures { result.failures ≡ job.now.note.unsuccessful - job.now.note.refusals }
     ensures refusals { result.refusals ≡ job.now.note.refusals }
     ensures next { TellsNext may_live (minute_at zone.now) job.now.facts entries.now at second result.next }
+    ensures event { NamesEvent job.now.facts.reasons job.now.keys entries.now result.next }
     ensures throttle { EndsThrottle job.now at result.throttle }
     ensures refused { result.is_refused ≡ is_start_refused job.now.note (is_some job.now.facts.reasons.child) }
     ensures failed { result.has_failed ≡ has_failed (last_end_in job.now.note) }
@@ -170,20 +171,24 @@ fn next_of(
 ) -> Next
     requires up { at.up ≤ MAX_UP }
     requires wall { at.wall ≤ MAX_WALL }
-    ensures { TellsNext may_live (minute_at zone.now) job.now.facts entries.now at second result }
+    ensures next { TellsNext may_live (minute_at zone.now) job.now.facts entries.now at second result }
+    ensures event { NamesEvent job.now.facts.reasons job.now.keys entries.now result }
 {
     let reasons = &job.facts.reasons;
     if !may_live || reasons.child.is_some() {
         return Next::Nothing;
     }
     match start_when(reasons, job.facts.spawns_from, entries, zone, at, second) {
-        StartWhen::Never => Next::Event(event_for(reasons, &job.keys)),
+        StartWhen::Never => Next::Event(event_for(reasons, &job.keys, !entries.is_empty())),
         when => Next::Clock(when),
     }
 }
 
-// What it waits for, in few letters: an event that ends what keeps it from a start, or one that makes it wanted.
-fn event_for(reasons: &Reasons, keys: &JobKeys<'_>) -> &'static str {
+// What it waits for, in few letters: an event that ends what keeps it from a start, or one that makes it wanted. Its calendar, if it has one, starts it
+// in no minute that is looked at.
+fn event_for(reasons: &Reasons, keys: &JobKeys<'_>, has_calendar: bool) -> &'static str
+    ensures { result.now ≡ event_text reasons.now keys.now has_calendar }
+{
     if !can_start_again(reasons) {
         "a load"
     } else if reasons.awaited.is_some() {
@@ -194,6 +199,8 @@ fn event_for(reasons: &Reasons, keys: &JobKeys<'_>) -> &'static str {
         "a file"
     } else if keys.has_sockets {
         "a client"
+    } else if has_calendar {
+        "its calendar"
     } else {
         "a request"
     }

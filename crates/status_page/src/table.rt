@@ -11,6 +11,7 @@ use crate::cells::cut_in_the_middle;
 use crate::clocks::{StartWhen, gone_on, within_limits};
 use crate::head::add_head;
 use crate::left_out::add_left_out;
+use crate::refused::add_refused_starts;
 use crate::rows::{Next, ShownState, StatusRow, row_of, word_of};
 use crate::standing::StatusRead;
 use crate::throttles::second_told;
@@ -48,7 +49,7 @@ pub struct Look {
 }
 
 /// The table as of a second: the report on the launcher, a head, and a line for each job, or for each named job that the file has. They are in the
-/// file's order. Then comes a line for each definition that the boot left out.
+/// file's order. Then comes a line for each of these jobs whose last start was refused, and for each definition that the boot left out.
 pub fn table_text(
     host: &HostRuntime,
     alloc: Global,
@@ -133,6 +134,7 @@ fn shown_text(
     let mut page = Page::new(alloc, &zone, told_as_of(standing, at, look.second));
     add_head(&mut page, standing, look.second);
     add_rows(&mut page, rows, look);
+    add_refused_starts(&mut page, standing, labels);
     let _count = add_left_out(&mut page, standing, labels);
     let text = page.into_text();
     drop(zone);
