@@ -311,6 +311,7 @@ def jobscope_plist_files(stage):
 HELD = """\
 As of 2026-11-25 Wed 14:02:57 +0100, the journal's last event, 2 days 7 h ago.
 {writer}
+Its journal alone was read: why starts were refused, what runs left running, and what the boot left out are not known.
 
 web is running.
   Run 1 is running, PID 5, since {since} (for {lived}).
@@ -321,6 +322,7 @@ web is running.
 AT_END = """\
 As of 2026-11-25 Wed 14:02:57 +0100, the journal's last event, 2 days 7 h ago.
 {writer}
+Its journal alone was read: why starts were refused, what runs left running, and what the boot left out are not known.
 
 web was running at the journal's end.
   Run 1 was running (PID 5). Whether that process still does is not known here.
@@ -498,7 +500,7 @@ def jobscope_pictures(stage):
 
 
 # The launcher's files whose launcher lives when they are read: the process that plays.
-LIVING = ("living.jsonl", "cut.jsonl", "torn.jsonl", "lacking.jsonl", "waits.jsonl", "well.jsonl", "rounded.jsonl", "others.jsonl", "starts.jsonl")
+LIVING = ("living.jsonl", "cut.jsonl", "torn.jsonl", "lacking.jsonl", "waits.jsonl", "well.jsonl", "rounded.jsonl", "others.jsonl", "starts.jsonl", "far.jsonl")
 
 
 def jobscope_status(stage):

@@ -247,6 +247,11 @@ def a_closed_journal_and_labels_like_lines(stage):
     launcher.ask({"req": "list"})
     first = wait_for(lambda: told(path)[0]["journal"] == "closed" and told(path)[0], lambda: f"the journal is not told closed: {text_at(path)[:400]!r}")
     check(first["journal_reason"] and launcher.lines("jobd: journal"), f"why: {first['journal_reason']}; it said {launcher.said()!r}")
+    # The status file goes on, so it says how jobs are now.
+    around = {key: value for key, value in os.environ.items() if not key.startswith("JOBD_")}
+    ran = subprocess.run([*stage.given.jobscope, "why", "b"], env={**around, "JOBD_SOCKET": stage.at("socket")}, capture_output=True, timeout=patience(), text=True)
+    check(ran.returncode == 0 and "The launcher is running (PID" in ran.stdout and "Its journal is closed: " in ran.stdout and f": {denied}.\n" in ran.stdout,
+          f"why with a closed journal: {ran}")
     launcher.shut_down()
 
 
@@ -663,12 +668,12 @@ def comes_to_say(stage, path, label, *parts):
 
 
 def cells(stage, path):
-    """The rows of the table by their labels, each as its cells."""
+    """The rows of the table by their labels, each as its cells. Lines on refused starts follow them, each with a colon after the label."""
     status, text, _ = asked(stage, path, "status")
     check(status == 0, f"status ended with {status}")
     lines = text.splitlines()
     at = next(place for place, line in enumerate(lines) if line.startswith("LABEL"))
-    return {line.split()[0]: line.split() for line in lines[at + 1:]}
+    return {line.split()[0]: line.split() for line in lines[at + 1:] if not line.split()[0].endswith(":")}
 
 
 def starting(stage, path):
@@ -697,7 +702,7 @@ def what_a_boot_left_out(stage):
     rows = ["/etc/jobd/a.json: not loaded at the boot: bad definition: NotJson -", "/etc/jobd/b.json: not loaded at the boot: no"]
     boot(minute - 1)
     status, text, error = asked(stage, path, "why", "--failing")
-    check(status == 2 and text.splitlines()[1:] == [missed, *rows] and not error, f"failing: {status}, {text!r}, {error!r}")
+    check(status == 2 and text.splitlines()[1:] == ["Its status file was read.", missed, *rows] and not error, f"failing: {status}, {text!r}, {error!r}")
     status, text, error = asked(stage, path, "why", "--failing", "--json")
     objects = [json.loads(line) for line in text.splitlines()]
     check([it.get("fault") for it in objects] == ["minute_passed", None, None], f"faults: {objects}")
@@ -760,6 +765,9 @@ def why_and_status_of_now(stage):
     launcher.ask({"req": "stop", "job": "halted"})
     comes_to_say(stage, path, "halted", "Its last run was killed by signal 15, ", "It is throttled until ", "It is wanted: KeepAlive is true.")
 
+    line = f"refused: its last start was refused, at "
+    found = [row for row in asked(stage, path, "status")[1].splitlines() if row.startswith(line)]
+    check(len(found) == 1 and found[0].endswith(f": {MISSING}"), f"the table of a refused start: {found}")
     rows = cells(stage, path)
     check(rows["runs"][1:3] == ["running", str(told(path)[1]["runs"]["pid"])] and rows["runs"][-1] == "-", f"of runs: {rows['runs']}")
     check(rows["waits"][1:3] == ["idle", "-"] and rows["waits"][-2:] == ["a", "path"], f"of waits: {rows['waits']}")
@@ -1033,8 +1041,65 @@ def since_when_labels_are_disabled(stage):
     launcher.shut_down()
 
 
+# What a launcher's journal and its status file say together, and each alone.
+BOTH = "Its journal and its status file were read.\n"
+JOURNAL_ALONE = "Its journal alone was read: why starts were refused, what runs left running, and what the boot left out are not known.\n"
+FILE_ALONE = "Its status file alone was read: refused loads, who disabled a label, and unsupported conditions are not known.\n"
+
+
+def what_both_sources_say(stage):
+    """Why a start and a load were refused, and who disabled a label: `why` says it by both sources of a launcher, whichever it is asked by. By one of them it
+    says which, and what is not known."""
+    launcher, path = serve(stage, journal="journal")
+    journal = stage.at("journal")
+    launcher.load({"Label": "refused", "ProgramArguments": ["/nonexistent/prog"], "RunAtLoad": True, "ThrottleInterval": 600})
+    launcher.load(shell_job("off", "exec sleep 600", KeepAlive={"Nonesuch": True}))
+    launcher.ask({"req": "disable", "job": "off"})
+    reply = launcher.ask({"req": "load", "def": json.dumps({"Label": "bad"}), "F": False})
+    check(reply["code"] != 0, f"a definition without a program is loaded: {reply}")
+    facts = {"refused": f": {MISSING}.\n", "off": " (jobctl disable): `jobctl enable off`.\n", "bad": "bad is not loaded.\n  Its load at "}
+    kept = {key: value for key, value in os.environ.items() if not key.startswith("JOBD_")}
+
+    def why(*words, **env):
+        ran = subprocess.run([*stage.given.jobscope, "why", *words], env={**kept, **env}, capture_output=True, timeout=patience(), text=True, stdin=subprocess.DEVNULL)
+        return ran.returncode, ran.stdout, ran.stderr
+
+    socket, file = {"JOBD_SOCKET": stage.at("socket")}, {"JOBD_STATUS_FILE": path}
+    ways = ((), socket), (("--journal", journal), file), (("--status-file", path), socket), ((), {**file, "JOBD_JOURNAL": journal})
+    # At once the file may be a second late: the journal then says who disabled the label, and that a load was refused.
+    for words, env in ways[:2]:
+        for label in ("off", "bad"):
+            status, text, error = why(*words, label, **env)
+            check(status == 0 and facts[label] in text and not error, f"{label} at once by {words} {env}: {status}, {text!r}, {error!r}")
+    job_where(path, "off", lambda job: job["disabled"] == "override")
+    job_where(path, "refused", lambda job: job["refused"] and job["refused"]["reason"])
+    for words, env in ways:
+        for label, fact in facts.items():
+            status, text, error = why(*words, label, **env)
+            check(status == 0 and BOTH in text and text.count(fact) == 1 and not error, f"{label} by {words} {env}: {status}, {text!r}, {error!r}")
+        text = why(*words, **env)[1]
+        check(all(text.count(fact) == 1 for fact in facts.values()), f"all by {words} {env}: {text!r}")
+        found = {it["label"]: it for it in map(json.loads, why("--json", *words, **env)[1].splitlines())}
+        check(found["refused"]["reason"] == MISSING and found["bad"]["load_refusal"] == "bad definition", f"objects by {words} {env}: {found}")
+        check(found["off"]["is_disabled"] and "disabled_since" in found["off"], f"objects by {words} {env}: {found}")
+        status, text, error = why("--failing", *words, **env)
+        check(status == 2 and f"refused: its last start was refused, at " in text and f": {MISSING}\n" in text, f"failing by {words} {env}: {status}, {text!r}")
+    status, text, error = why("--journal", journal, "refused")
+    check(status == 0 and JOURNAL_ALONE in text and "was refused, at " in text and MISSING not in text, f"by the journal alone: {status}, {text!r}, {error!r}")
+    status, text, error = why("--status-file", path, "off", "refused")
+    check(status == 0 and FILE_ALONE in text and facts["refused"] in text and "It is disabled since" in text and "jobctl disable" not in text,
+          f"by the file alone: {status}, {text!r}, {error!r}")
+    status, text, error = why("--status-file", path, "bad")
+    check(status == 65 and "nothing here names bad" in error, f"a refused load by the file alone: {status}, {text!r}, {error!r}")
+    # The file of another launcher says nothing of this one's jobs.
+    text = why("--journal", journal, "refused", JOBD_STATUS_FILE=make(stage.at("other"), text_at(path).replace('\\"wall\\":', '\\"wall\\":1', 1)))[1]
+    check(JOURNAL_ALONE in text and MISSING not in text, f"by another launcher's file: {text!r}")
+    launcher.shut_down()
+
+
 SCENES = [
     calls_that_failed,
+    what_both_sources_say,
     counts_over_restarts,
     since_when_labels_are_disabled,
     what_a_status_file_holds,

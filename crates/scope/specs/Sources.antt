@@ -33,7 +33,7 @@ named_source tasks.Why n = why_source n
 named_source tasks.Next n = next_source n
 named_source _ n = Some Journals
 
--- The journal if it can be opened, else the status file if there is one. Without either, the journal is asked for, so that the fault is its.
+-- The journal if it can be opened and goes on, else the status file if there is one. Without either, the journal is asked for, so that the fault is its.
 abbrev pub source_found : Bool → Bool → Source
 source_found true has_file = Journals
 source_found false true = LauncherFile

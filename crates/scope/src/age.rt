@@ -1,5 +1,6 @@
 //! The time as of which a journal is reported, how long ago that was, and whether its launcher was running then.
 
+use crate::joined::sources_said;
 use history_model::{Reading, SECOND};
 use launcher_life::{LauncherSeen, Life, foretells, may_live};
 use run_times::Filling::{Moment, Number, Time};
@@ -7,7 +8,7 @@ use run_times::Page;
 use status_page::{gone_on, within_limits};
 
 /// The line for a launcher that was asked for a shutdown, and may be running.
-const ENDING: &str = "It is shutting down: it starts no job.\n";
+pub(crate) const ENDING: &str = "It is shutting down: it starts no job.\n";
 
 /// The time as of which a journal is reported.
 #[derive(Clone, Copy)]
@@ -61,6 +62,14 @@ pub(crate) fn clock_as_of(as_of: AsOf, last: Reading) -> Reading {
     match as_of {
         AsOf::Seen(second, _, _) => gone_on(within_limits(last), second),
         as_of => reading_as_of(as_of, last),
+    }
+}
+
+/// Adds which sources were read, if the report is of now.
+pub(crate) fn add_sources(page: &mut Page<'_>, as_of: AsOf, has_file: bool) {
+    match as_of {
+        AsOf::Seen(_, _, _) => page.writer.put(sources_said(true, has_file)),
+        AsOf::End(_) | AsOf::Moment { .. } => {}
     }
 }
 

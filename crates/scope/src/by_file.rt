@@ -4,17 +4,18 @@ ghost use Rattle.std.specs.Prelude.{IfOk};
 ghost use Rattle.scope.specs.Findings.{AreFound};
 
 use crate::as_root::read_for;
+use crate::beside::{journal_beside, settings_of};
 use crate::clock::now;
 use crate::counted::counts_of;
 use crate::errors::put_errors;
 use crate::found::{Findings, NO_CLOCK, UNREADABLE, WELL};
+use crate::journal::reader::OpenJournal;
 use crate::journal::source::{NONE_NAMED, has_variable, open_journal};
 use crate::launcher::{LauncherFiles, is_there, launcher_files};
 use crate::left::left_running;
 use crate::objects::status::status_objects;
 use crate::objects::why::standing_objects;
-use crate::report::tell_unforetold;
-use crate::settings::settings_of;
+use crate::report::{put_now, tell_unforetold};
 use crate::sources::{NamedSources, Source, found_source, named_source};
 use crate::subcommands::Statuses;
 use crate::table_width::table_columns;
@@ -22,10 +23,12 @@ use crate::texts::standing::{failed_in, failing_in, standing_text};
 use crate::texts::standing_next::standing_lines;
 use crate::texts::starts::{ComingLines, tells_clockless};
 use crate::texts::unknown::unknown_in;
+use crate::texts::why::is_known;
 use definition_files::tell_clockless;
 use history_model::Text;
 use launchctl_words::{ScopeCommand, ScopeTask};
 use run_times::telling::{put, put_made, tell_of};
+use status_file::JournalStatus;
 use status_page::{
     Look, RunCounts, StatusRead, has_colour, named_path, print_diagnostic, read_standing,
     samples_text, table_text,
@@ -70,7 +73,7 @@ fn names_journal(of: &ScopeCommand) -> bool {
 fn launchers_file(host: &HostRuntime, of: &ScopeCommand) -> io::Result<Option<String>> {
     let files = launcher_files(host, host.alloc())?;
     let is_known = files.fault.is_none();
-    let opens = is_known && opens(host, &files.journal);
+    let opens = is_known && opens(host, &files.journal) && !is_closed(host, of, &files);
     let has_file = is_known && has_file(host, &files);
     let is_noted = files.is_packages && host.stdin().is_terminal();
     let path = files.into_status_file();
@@ -85,6 +88,36 @@ fn launchers_file(host: &HostRuntime, of: &ScopeCommand) -> io::Result<Option<St
             drop(path);
             Ok(None)
         }
+    }
+}
+
+// Whether a launcher that may be running writes nothing more to its journal, by its status file. That is looked at for the two tasks that either source
+// answers.
+fn is_closed(host: &HostRuntime, of: &ScopeCommand, files: &LauncherFiles) -> bool {
+    let path = match (of.task, &files.status_file) {
+        (ScopeTask::Why | ScopeTask::Next, Some(path)) => path,
+        _ => return false,
+    };
+    match read_standing(host, host.alloc(), path.as_str(), of.words.as_slice()) {
+        Ok(standing) => {
+            let is_closed = standing.may_live() && has_closed(&standing);
+            drop(standing);
+            is_closed
+        }
+        Err(diagnostic) => {
+            drop(diagnostic);
+            false
+        }
+    }
+}
+
+fn has_closed(standing: &StatusRead) -> bool {
+    match standing.launcher() {
+        Some(launcher) => match launcher.journal {
+            JournalStatus::Closed(_) => true,
+            JournalStatus::None | JournalStatus::Open => false,
+        },
+        None => false,
     }
 }
 
@@ -179,56 +212,22 @@ fn tell(
     second: u64,
 ) -> io::Result<(Findings, Findings)> {
     let labels = of.words.as_slice();
-    let fails = match of.task {
-        ScopeTask::Why if of.is_json => {
-            let left = left_running(host, alloc, standing, labels)?;
-            let settings = settings_of(host, alloc, of, standing)?;
-            let made = standing_objects(alloc, standing, of, second, left.as_slice(), &settings);
-            drop(settings);
-            drop(left);
-            let (text, count) = made?;
-            put_made(host, Ok(text))?;
-            of.is_failing && count > 0
-        }
-        ScopeTask::Why if of.is_failing => {
-            let (text, count) = failing_in(alloc, standing, labels, of.is_utc, second)?;
-            put_made(host, Ok(text))?;
-            count > 0
-        }
-        ScopeTask::Why => {
-            let left = left_running(host, alloc, standing, labels)?;
-            let settings = settings_of(host, alloc, of, standing)?;
-            let text = standing_text(
-                alloc,
-                standing,
-                labels,
-                of.is_utc,
-                second,
-                left.as_slice(),
-                &settings,
-            );
-            drop(settings);
-            drop(left);
-            put_made(host, text)?;
-            false
-        }
+    match of.task {
+        ScopeTask::Why => return tell_why(host, alloc, of, path, standing, second),
         ScopeTask::Next => {
             put_next(host, alloc, of, path, standing, second)?;
-            false
         }
         ScopeTask::Metrics => {
             let counts = counts_of(host, alloc, standing)?;
             let text = samples_text(host, alloc, standing, labels, second, lent(&counts));
             drop(counts);
             put_made(host, text)?;
-            false
         }
         _ if of.is_json => {
             let settings = settings_of(host, alloc, of, standing)?;
             let text = status_objects(host, alloc, standing, of, second, &settings);
             drop(settings);
             put_made(host, text)?;
-            false
         }
         _ => {
             let look = Look {
@@ -238,21 +237,85 @@ fn tell(
                 is_utc: of.is_utc,
             };
             put_made(host, table_text(host, alloc, standing, labels, look))?;
-            false
         }
-    };
-    let is_nowhere = tell_unknown(host, alloc, path, standing, labels)?;
-    match of.task {
-        ScopeTask::Why if !of.is_json => put_failed(host, alloc, of, path, standing, second)?,
-        _ => {}
     }
+    let is_nowhere = tell_unknown(host, alloc, path, standing, labels, None)?;
+    Ok((WELL, Findings { is_nowhere, ..WELL }))
+}
+
+// Why each job runs or not, by the file and, if it can be read, by the journal of its launcher. Which jobs fail the file says alone.
+fn tell_why(
+    host: &HostRuntime,
+    alloc: Global,
+    of: &ScopeCommand,
+    path: &str,
+    standing: &StatusRead,
+    second: u64,
+) -> io::Result<(Findings, Findings)> {
+    let kept = if of.is_failing {
+        None
+    } else {
+        journal_beside(host, alloc, of, standing)?
+    };
+    let told = put_why(host, alloc, of, path, standing, second, kept.as_ref());
+    drop(kept);
+    told
+}
+
+fn put_why(
+    host: &HostRuntime,
+    alloc: Global,
+    of: &ScopeCommand,
+    path: &str,
+    standing: &StatusRead,
+    second: u64,
+    journal: Option<&OpenJournal>,
+) -> io::Result<(Findings, Findings)> {
+    let labels = of.words.as_slice();
+    let count = put_jobs(host, alloc, of, standing, second, journal)?;
+    let is_nowhere = tell_unknown(host, alloc, path, standing, labels, journal)?;
+    if !of.is_json {
+        put_failed(host, alloc, of, path, standing, second)?;
+        if let Some(journal) = journal {
+            put_now(host, alloc, journal, labels)?;
+        }
+    }
+    let differs = of.is_failing && count > 0;
     Ok((
-        Findings {
-            differs: fails,
-            ..WELL
-        },
+        Findings { differs, ..WELL },
         Findings { is_nowhere, ..WELL },
     ))
+}
+
+// The jobs, and how many of them fail, if that is asked for.
+fn put_jobs(
+    host: &HostRuntime,
+    alloc: Global,
+    of: &ScopeCommand,
+    standing: &StatusRead,
+    second: u64,
+    journal: Option<&OpenJournal>,
+) -> io::Result<u64> {
+    let labels = of.words.as_slice();
+    if of.is_failing && !of.is_json {
+        let (text, count) = failing_in(alloc, standing, labels, of.is_utc, second)?;
+        put_made(host, Ok(text))?;
+        return Ok(count);
+    }
+    let left = left_running(host, alloc, standing, labels)?;
+    let made = if of.is_json {
+        standing_objects(alloc, standing, of, second, left.as_slice(), journal)
+    } else {
+        let left = left.as_slice();
+        match standing_text(alloc, standing, labels, of.is_utc, second, left, journal) {
+            Ok(text) => Ok((text, 0)),
+            Err(error) => Err(error),
+        }
+    };
+    drop(left);
+    let (text, count) = made?;
+    put_made(host, Ok(text))?;
+    Ok(count)
 }
 
 fn lent(counts: &Option<RunCounts>) -> Option<&RunCounts> {
@@ -300,18 +363,20 @@ fn put_next(
     put_made(host, Ok(text))
 }
 
-// Reports each of the labels that the file has no job of and that does not mean a definition which the boot left out. It returns whether there is one.
+// Reports each of the labels that nothing names: no job of the file, no definition that the boot left out, and not the journal, if it was read. It returns
+// whether there is one.
 fn tell_unknown(
     host: &HostRuntime,
     alloc: Global,
     path: &str,
     standing: &StatusRead,
     labels: &[Text],
+    journal: Option<&OpenJournal>,
 ) -> Result<bool, AllocError> {
     let mut is_nowhere = false;
     for label in labels {
         let label = label.as_str();
-        if !standing.has(label) && !standing.leaves_out(label) {
+        if !standing.has(label) && !standing.leaves_out(label) && !is_known_in(journal, label) {
             let told = unknown_in(alloc, standing, label)?;
             tell_of(host, path, &told);
             drop(told);
@@ -319,4 +384,11 @@ fn tell_unknown(
         }
     }
     Ok(is_nowhere)
+}
+
+fn is_known_in(journal: Option<&OpenJournal>, label: &str) -> bool {
+    match journal {
+        Some(journal) => is_known(journal, label),
+        None => false,
+    }
 }

@@ -22,10 +22,7 @@ pub(crate) fn journal_of(
     alloc: Global,
     standing: &StatusRead,
 ) -> Result<Option<(String, Reading)>, AllocError> {
-    let begun = match standing.launcher() {
-        Some(launcher) => first_reading(alloc, launcher.header.as_bytes())?,
-        None => None,
-    };
+    let begun = begun_of(alloc, standing)?;
     let (Some(begun), Some(path)) = (begun, journal_path(host, alloc)?) else {
         return Ok(None);
     };
@@ -34,6 +31,17 @@ pub(crate) fn journal_of(
     } else {
         drop(path);
         Ok(None)
+    }
+}
+
+/// The first clock reading of the file's launcher.
+pub(crate) fn begun_of(
+    alloc: Global,
+    standing: &StatusRead,
+) -> Result<Option<Reading>, AllocError> {
+    match standing.launcher() {
+        Some(launcher) => first_reading(alloc, launcher.header.as_bytes()),
+        None => Ok(None),
     }
 }
 

@@ -114,6 +114,14 @@ impl<'a> KnownRuns<'a> {
         }
     }
 
+    /// What the system said of the last start, if it refused that, as far as it is known.
+    pub(crate) fn reason(&self) -> Option<&'a str> {
+        match &self.refused {
+            Some(start) => start.reason,
+            None => None,
+        }
+    }
+
     /// What says whether a job with this `ThrottleInterval` is failing.
     pub(crate) fn past(&self, throttle: u32) -> PastRuns
         ensures { result ≡ past_in self.now throttle }

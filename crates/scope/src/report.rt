@@ -8,17 +8,20 @@ ghost use Rattle.scope.specs.Findings.{AreFound};
 use crate::age::{AsOf, clock_as_of, reading_as_of};
 use crate::as_root::read_for;
 use crate::at::{begun_by, read_up_to};
+use crate::beside::standing_beside;
 use crate::charted::{ReceivedMarks, chart_of};
 use crate::clock::now;
 use crate::drift::drift_of;
 use crate::errors::{add_errors, put_errors};
 use crate::found::{Findings, UNREADABLE, WELL};
+use crate::joined::JoinedJournal;
 use crate::journal::fault::{JournalFault, tell_fault, tell_long};
 use crate::journal::lines::JournalLines;
 use crate::journal::reader::OpenJournal;
 use crate::journal::source::{INPUT, journal_paths, read_journal, reads_input, tell_bad};
 use crate::known_runs::KnownRuns;
 use crate::launcher::tell_no_launcher;
+use crate::left::left_running;
 use crate::listener::{JournalListener, zone_shown};
 use crate::log::follow;
 use crate::objects::job::around_journal;
@@ -46,7 +49,7 @@ use launcher_life::{JournalAsked, LauncherSeen, Life, journal_life};
 use run_times::picture::{Beside, Chart, blocks_text, picture_piece};
 use run_times::telling::{put, put_made, put_outcome, tell_of};
 use run_times::{Page, Piece, TextWriter};
-use status_page::width_of;
+use status_page::{StatusRead, width_of};
 use std::alloc::{AllocError, Global};
 use std::io;
 use std::io::IsTerminal;
@@ -373,7 +376,7 @@ fn write_report(
     let zone = zone_shown(of, &listener.utc, &journal.zone);
     let labels = of.words.as_slice();
     let written = match of.task {
-        ScopeTask::Why => return put_why(host, alloc, name, journal, zone, of, as_of),
+        ScopeTask::Why => return put_joined(host, alloc, name, journal, zone, of, as_of),
         ScopeTask::Runs => put_runs(host, alloc, name, journal, zone, of, as_of),
         ScopeTask::Picture => paint(host, alloc, journal, zone, &listener.received, of, as_of),
         ScopeTask::Show => put_made(host, show_text(alloc, journal, zone, labels, of.is_json)),
@@ -390,7 +393,8 @@ fn write_report(
     }
 }
 
-fn put_why(
+// Why each job runs or not, by the journal and, if the report is of now, by the status file of its launcher.
+fn put_joined(
     host: &HostRuntime,
     alloc: Global,
     name: &str,
@@ -399,17 +403,53 @@ fn put_why(
     of: &ScopeCommand,
     as_of: AsOf,
 ) -> io::Result<Findings> {
+    let standing = match as_of {
+        AsOf::Seen(_, _, _) => standing_beside(host, alloc, journal.begun, of.words.as_slice())?,
+        AsOf::End(_) | AsOf::Moment { .. } => None,
+    };
+    let left = match &standing {
+        Some(standing) if !of.is_failing => {
+            left_running(host, alloc, standing, of.words.as_slice())
+        }
+        _ => Ok(Vec::new(alloc)),
+    };
+    let found = match &left {
+        Ok(left) => {
+            let joined = JoinedJournal {
+                journal,
+                standing: standing.as_ref(),
+                processes: left.as_slice(),
+            };
+            put_why(host, alloc, name, joined, zone, of, as_of)
+        }
+        Err(_) => Err(io::Error::from(io::ErrorKind::OutOfMemory)),
+    };
+    drop(left);
+    drop(standing);
+    found
+}
+
+fn put_why(
+    host: &HostRuntime,
+    alloc: Global,
+    name: &str,
+    joined: JoinedJournal<'_>,
+    zone: &Zone,
+    of: &ScopeCommand,
+    as_of: AsOf,
+) -> io::Result<Findings> {
     if of.is_json {
-        return put_objects(host, alloc, name, journal, zone, of, as_of);
+        return put_objects(host, alloc, name, joined, zone, of, as_of);
     }
+    let journal = joined.journal;
     let labels = of.words.as_slice();
     if of.is_failing {
-        let found = put_failing(host, alloc, name, journal, zone, labels, as_of)?;
+        let found = put_failing(host, alloc, name, joined, zone, labels, as_of)?;
         put_failed(host, alloc, name, journal, of, as_of)?;
         return Ok(found);
     }
-    put_made(host, why_text(alloc, journal, zone, labels, as_of))?;
-    let is_nowhere = tell_unknown(host, alloc, name, journal, labels)?;
+    put_made(host, why_text(alloc, joined, zone, labels, as_of))?;
+    let is_nowhere = tell_unknown(host, alloc, name, joined, labels)?;
     put_failed(host, alloc, name, journal, of, as_of)?;
     put_now(host, alloc, journal, labels)?;
     Ok(nowhere_if(is_nowhere))
@@ -437,14 +477,14 @@ fn put_failing(
     host: &HostRuntime,
     alloc: Global,
     name: &str,
-    journal: &OpenJournal,
+    joined: JoinedJournal<'_>,
     zone: &Zone,
     labels: &[Text],
     as_of: AsOf,
 ) -> io::Result<Findings> {
-    let (text, count) = failing_text(alloc, journal, zone, labels, as_of)?;
+    let (text, count) = failing_text(alloc, joined, zone, labels, as_of)?;
     put_made(host, Ok(text))?;
-    let is_nowhere = tell_unknown(host, alloc, name, journal, labels)?;
+    let is_nowhere = tell_unknown(host, alloc, name, joined, labels)?;
     Ok(nowhere_if(is_nowhere).and(differing_if(count > 0)))
 }
 
@@ -475,14 +515,14 @@ fn put_objects(
     host: &HostRuntime,
     alloc: Global,
     name: &str,
-    journal: &OpenJournal,
+    joined: JoinedJournal<'_>,
     zone: &Zone,
     of: &ScopeCommand,
     as_of: AsOf,
 ) -> io::Result<Findings> {
-    let (text, count) = why_objects(alloc, journal, zone, of, as_of)?;
+    let (text, count) = why_objects(alloc, joined, zone, of, as_of)?;
     put_made(host, Ok(text))?;
-    let is_nowhere = tell_unknown(host, alloc, name, journal, of.words.as_slice())?;
+    let is_nowhere = tell_unknown(host, alloc, name, joined, of.words.as_slice())?;
     Ok(nowhere_if(is_nowhere).and(differing_if(of.is_failing && count > 0)))
 }
 
@@ -572,8 +612,9 @@ fn why_sought(runs: &KnownRuns<'_>) -> Option<&'static str> {
     }
 }
 
-// Checks what a start of each such job needs now. It comes last: a path on a file system that hangs must not hold up what the journal says.
-fn put_now(
+/// Checks what a start of each job of the journal needs now whose last start was refused, or whose last run ended as if something was missing. It comes
+/// last: a path on a file system that hangs must not hold up what the journal says.
+pub(crate) fn put_now(
     host: &HostRuntime,
     alloc: Global,
     journal: &OpenJournal,
@@ -595,23 +636,30 @@ fn put_now(
     Ok(())
 }
 
-// Reports each of the labels that nothing in the journal has. It returns whether there is one.
+// Reports each of the labels that nothing in the journal has, and that means no definition which the boot left out. It returns whether there is one.
 fn tell_unknown(
     host: &HostRuntime,
     alloc: Global,
     name: &str,
-    journal: &OpenJournal,
+    joined: JoinedJournal<'_>,
     labels: &[Text],
 ) -> Result<bool, AllocError> {
     let mut is_nowhere = false;
     for label in labels {
         let label = label.as_str();
-        if !is_known(journal, label) {
-            tell_nowhere(host, alloc, name, journal, label)?;
+        if !is_known(joined.journal, label) && !leaves_out(joined.standing, label) {
+            tell_nowhere(host, alloc, name, joined.journal, label)?;
             is_nowhere = true;
         }
     }
     Ok(is_nowhere)
+}
+
+fn leaves_out(standing: Option<&StatusRead>, label: &str) -> bool {
+    match standing {
+        Some(standing) => standing.leaves_out(label),
+        None => false,
+    }
 }
 
 // Reports that nothing has the label, and those near it.
@@ -714,7 +762,12 @@ fn paint_page(
     as_of: AsOf,
 ) -> io::Result<()> {
     let table = runs_table(alloc, &journal.past, journal.table.reading(), labels)?;
-    let why = why_text(alloc, journal, zone, labels, as_of)?;
+    let joined = JoinedJournal {
+        journal,
+        standing: None,
+        processes: &[],
+    };
+    let why = why_text(alloc, joined, zone, labels, as_of)?;
     let coming = if as_of.foretells() {
         coming_of(alloc, journal, chart)?
     } else {
@@ -738,7 +791,12 @@ fn failing_front(
     labels: &[Text],
     as_of: AsOf,
 ) -> Result<String, AllocError> {
-    let (text, count) = failing_text(alloc, journal, zone, labels, as_of)?;
+    let joined = JoinedJournal {
+        journal,
+        standing: None,
+        processes: &[],
+    };
+    let (text, count) = failing_text(alloc, joined, zone, labels, as_of)?;
     let mut writer = TextWriter::new(alloc);
     if count > 0 {
         writer.put(text.as_str());

@@ -85,7 +85,7 @@ fn source_of_next(named: NamedSources) -> Option<Source>
     }
 }
 
-/// What the task reads of the launcher, given whether its journal can be opened, and whether it has a status file. None: nothing.
+/// What the task reads of the launcher, given whether its journal can be opened and goes on, and whether it has a status file. None: nothing.
 pub(crate) fn found_source(task: ScopeTask, opens: bool, has_file: bool) -> Option<Source>
     ensures { result ≡ found_source task opens has_file }
 {
@@ -97,7 +97,7 @@ pub(crate) fn found_source(task: ScopeTask, opens: bool, has_file: bool) -> Opti
     }
 }
 
-// The status file only if the journal can't be opened.
+// The status file only if the journal can't be opened, or is closed.
 fn source_found(opens: bool, has_file: bool) -> Source
     ensures { result ≡ source_found opens has_file }
 {

@@ -1,5 +1,8 @@
 //! What is known of labels besides their jobs: since when they are disabled, and their last refused load.
 
+ghost use Rattle.std.specs.Prelude.{◌≡◌};
+ghost use Rattle.scope.specs.Joined.{setting_kept};
+
 use crate::journal::job::JobRequest;
 use crate::journal::past::MOST_LABELS;
 use history_model::{Reading, Refusal};
@@ -42,6 +45,16 @@ const NOTHING: KnownLabel = KnownLabel {
     is_same: false,
 };
 
+// By what a label is disabled after a request that disables it by `by`, or enables it. A label that is disabled stays so by the first request.
+fn setting_kept(before: Option<DisabledBy>, by: Option<DisabledBy>) -> Option<DisabledBy>
+    ensures { result ≡ setting_kept before by }
+{
+    match (before, by) {
+        (Some(first), Some(_)) => Some(first),
+        (_, by) => by,
+    }
+}
+
 // By what a label is disabled, if it was disabled by `before` at the end of an earlier launcher.
 fn disabled_by(now: Option<DisabledBy>, before: Option<DisabledBy>) -> Option<DisabledBy> {
     match now {
@@ -71,7 +84,7 @@ impl KnownLabels {
         }
     }
 
-    /// The label is disabled by this, or enabled by None.
+    /// The label is disabled by this, if it is not disabled yet; or enabled by None.
     pub(crate) fn set(
         &mut self,
         alloc: Global,
@@ -79,7 +92,7 @@ impl KnownLabels {
         disabled: Option<DisabledBy>,
     ) -> Result<(), AllocError> {
         let mut known = self.of(label);
-        known.disabled = disabled;
+        known.disabled = setting_kept(known.disabled, disabled);
         self.keep(alloc, label, known)
     }
 

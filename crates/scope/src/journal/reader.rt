@@ -23,6 +23,8 @@ pub struct OpenJournal {
     /// The zone of the header.
     pub(crate) zone: Zone,
     pub(crate) past: Past,
+    /// The clock reading of the header.
+    pub(crate) begun: Reading,
     room: LineRoom,
 }
 
@@ -42,11 +44,13 @@ fn opened_by(alloc: Global, header: Header) -> Result<OpenJournal, JournalFault>
 {
     let zone = zone_of(alloc, &header.zone);
     let past = past_of(alloc, &header);
+    let begun = header.reading;
     match (zone, table_of(alloc, header), LineRoom::new(alloc), past) {
         (Ok(Some(zone)), Ok(table), Ok(room), Ok(past)) => Ok(OpenJournal {
             table,
             zone,
             past,
+            begun,
             room,
         }),
         (zone, table, room, past) => {

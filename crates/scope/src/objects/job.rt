@@ -1,6 +1,7 @@
 //! Why a job is in its state, as an object.
 
 use crate::age::AsOf;
+use crate::joined::Disabled;
 use crate::journal::labels::KnownLabel;
 use crate::known_runs::KnownRuns;
 use crate::objects::lines::{end_of, moment_of};
@@ -150,7 +151,15 @@ pub(crate) fn put_unloaded(
     put_line(page, "label", label, &fields);
 }
 
-/// Since when the label is disabled, if that is known.
+/// Since when a label is disabled by this, if that is known.
+pub(crate) fn since_value(disabled: Option<Disabled>) -> Value<'static> {
+    match disabled {
+        Some(disabled) => moment_of(disabled.since()),
+        None => Absent,
+    }
+}
+
+/// Since when the label is disabled by the journal, if that is known.
 pub(crate) fn disabled_since(known: KnownLabel) -> Value<'static> {
     moment_of(known.since())
 }

@@ -1,19 +1,22 @@
 //! Why each job of a journal or of a status file is in its state, an object a job.
 
 use crate::age::{AsOf, clock_as_of, reading_as_of};
-use crate::journal::labels::{KnownLabel, KnownLabels};
+use crate::joined::{
+    JoinedJournal, LabelNow, disabled_joined, label_now, label_past, line_with, runs_joined,
+};
+use crate::journal::labels::KnownLabel;
 use crate::journal::reader::OpenJournal;
 use crate::known_runs::KnownRuns;
 use crate::objects::causes::causes_list;
 use crate::objects::job::{
-    Beside, ReportContext, around_file, around_journal, disabled_since, put_job, put_unloaded,
+    Beside, ReportContext, around_file, around_journal, put_job, put_unloaded, since_value,
 };
 use crate::objects::left::put_left;
 use crate::objects::left_out::put_left_out;
-use crate::objects::lines::{moment_of, text_of};
+use crate::objects::lines::text_of;
 use crate::texts::failing::{LauncherNow, job_fault};
 use crate::texts::since::start_second;
-use crate::texts::standing::{disabled_at, is_failed_run, launcher_now, line_fault, told_of};
+use crate::texts::standing::{is_failed_run, launcher_now, line_fault, told_of};
 use crate::texts::told::ToldJob;
 use crate::texts::why::{asked_labels, throttle_shown, told_job};
 use calendar_due::Zone;
@@ -30,11 +33,12 @@ use std::alloc::{AllocError, Global};
 /// An object for each job or label that `why_text` shows, in order, or only for those that fail; and how many fail.
 pub(crate) fn why_objects(
     alloc: Global,
-    journal: &OpenJournal,
+    joined: JoinedJournal<'_>,
     zone: &Zone,
     of: &ScopeCommand,
     as_of: AsOf,
 ) -> Result<(String, u64), AllocError> {
+    let journal = joined.journal;
     let last = journal.table.reading();
     let mut page = Page::new(alloc, zone, reading_as_of(as_of, last));
     let around = around_journal(as_of, last);
@@ -42,10 +46,17 @@ pub(crate) fn why_objects(
     let asked = asked_labels(alloc, journal, of.words.as_slice())?;
     let mut count: u64 = 0;
     for label in &asked {
-        let fails = put_known(&mut page, journal, *label, of.is_failing, around, clock);
+        let fails = put_known(&mut page, joined, *label, of.is_failing, around, clock);
         count = count.saturating_add(u64::from(fails));
     }
     drop(asked);
+    if !of.is_failing {
+        put_left(&mut page, joined.processes, around);
+    }
+    if let Some(standing) = joined.standing {
+        let left_out = put_left_out(&mut page, standing, of.words.as_slice(), around);
+        count = count.saturating_add(left_out);
+    }
     match page.into_text() {
         Ok(text) => Ok((text, count)),
         Err(error) => Err(error),
@@ -55,12 +66,13 @@ pub(crate) fn why_objects(
 // Adds the line of a label, if it is asked for. Whether its job fails.
 fn put_known(
     page: &mut Page<'_>,
-    journal: &OpenJournal,
+    of: JoinedJournal<'_>,
     label: &str,
     is_failing: bool,
     around: ReportContext,
     clock: Reading,
 ) -> bool {
+    let journal = of.journal;
     let known = journal.past.labels.of(label);
     let Some(job) = journal.past.jobs.get(label) else {
         if !is_failing {
@@ -80,19 +92,22 @@ fn put_known(
     };
     let fault = job_fault(journal, job, &facts, now);
     if fault.is_some() || !is_failing {
+        let file = label_now(of.standing, label);
+        let runs = runs_joined(job.record.known(), file);
+        let disabled = disabled_joined(label_past(Some(journal), label), file);
         let mut beside = Beside {
             state: "unknown",
             causes: Absent,
             fault,
-            reason: Absent,
+            reason: text_of(runs.reason()),
             errors: errors_of(fault, def.standard_error_path()),
             next: Absent,
-            is_disabled: known.disabled.is_some(),
-            disabled_since: disabled_since(known),
+            is_disabled: disabled.is_some(),
+            disabled_since: since_value(disabled),
             known,
         };
         if !around.foretells {
-            put_job(page, label, &job.record.known(), &beside, around);
+            put_job(page, label, &runs, &beside, around);
             return fault.is_some();
         }
         beside.state = state_name(state_of(&facts.reasons));
@@ -164,17 +179,18 @@ fn put_whole<'x>(
     put_job(page, label, &told.runs, &whole, around);
 }
 
-/// An object for each job of the file, or for each of those named, in order, or only for those that fail; and how many fail.
+/// An object for each job of the file, or for each of those named, in order, or only for those that fail; and how many fail. Labels follow of which the
+/// journal alone has something, if it was read.
 pub(crate) fn standing_objects(
     alloc: Global,
     standing: &StatusRead,
     of: &ScopeCommand,
     second: u64,
     left: &[RunProcess],
-    settings: &KnownLabels,
+    journal: Option<&OpenJournal>,
 ) -> Result<(String, u64), AllocError> {
     let zone = standing.zone(alloc, false)?;
-    let objects = objects_in(alloc, standing, of, second, &zone, left, settings);
+    let objects = objects_in(alloc, standing, of, second, &zone, left, journal);
     drop(zone);
     objects
 }
@@ -187,7 +203,7 @@ fn objects_in(
     second: u64,
     zone: &Zone,
     left: &[RunProcess],
-    settings: &KnownLabels,
+    journal: Option<&OpenJournal>,
 ) -> Result<(String, u64), AllocError> {
     let shown = standing.zone(alloc, of.is_utc)?;
     let last = reading_of(standing);
@@ -201,23 +217,21 @@ fn objects_in(
             if is_asked(of.words.as_slice(), job.label) {
                 let fault = line_fault(alloc, standing, line, &job, zone, now)?;
                 if fault.is_some() || !of.is_failing {
-                    let beside = Beside {
-                        state: "unknown",
-                        causes: Absent,
-                        fault,
-                        reason: reason_of(&job),
-                        errors: errors_of(fault, job.keys.errors),
-                        next: Absent,
-                        is_disabled: job.disabled.is_some(),
-                        disabled_since: moment_of(disabled_at(&job, settings)),
-                        known: NOTHING,
-                    };
+                    let beside = beside_of(&job, last, fault, journal);
                     let of_file = ByFile { zone, last, clock };
                     put_status(&mut page, line, &job, beside, of_file, around);
                 }
                 count = count.saturating_add(u64::from(fault.is_some()));
             }
         }
+    }
+    if let (Some(journal), false) = (journal, of.is_failing) {
+        let joined = JoinedJournal {
+            journal,
+            standing: Some(standing),
+            processes: left,
+        };
+        put_others(&mut page, joined, standing, of, around, clock)?;
     }
     if !of.is_failing {
         put_left(&mut page, left, around);
@@ -230,6 +244,51 @@ fn objects_in(
         Ok(text) => Ok((text, count)),
         Err(error) => Err(error),
     }
+}
+
+// What is said of a job of a file besides its runs, by the journal too, if that was read.
+fn beside_of<'a>(
+    job: &JobStatus<'a>,
+    at: Reading,
+    fault: Option<Fault>,
+    journal: Option<&OpenJournal>,
+) -> Beside<'a> {
+    let runs = KnownRuns::noted(&job.note, job.facts.reasons.child);
+    let past = label_past(journal, job.label);
+    let disabled = disabled_joined(past, Some(LabelNow::of(job, at)));
+    Beside {
+        state: "unknown",
+        causes: Absent,
+        fault,
+        reason: text_of(runs.reason()),
+        errors: errors_of(fault, job.keys.errors),
+        next: Absent,
+        is_disabled: disabled.is_some(),
+        disabled_since: since_value(disabled),
+        known: match journal {
+            Some(journal) => journal.past.labels.of(job.label),
+            None => NOTHING,
+        },
+    }
+}
+
+// Adds what the journal has of labels of which the file has no job.
+fn put_others(
+    page: &mut Page<'_>,
+    joined: JoinedJournal<'_>,
+    standing: &StatusRead,
+    of: &ScopeCommand,
+    around: ReportContext,
+    clock: Reading,
+) -> Result<(), AllocError> {
+    let asked = asked_labels(page.alloc, joined.journal, of.words.as_slice())?;
+    for label in &asked {
+        if line_with(standing.jobs(), *label).is_none() {
+            let _fails = put_known(page, joined, *label, false, around, clock);
+        }
+    }
+    drop(asked);
+    Ok(())
 }
 
 /// A launcher's zone, its last clock reading, and its clocks as they went on since.
@@ -293,16 +352,7 @@ fn errors_of(fault: Option<Fault>, errors: Option<&str>) -> Value<'_> {
     }
 }
 
-// What the system said of the last start, if it refused that.
-fn reason_of<'a>(job: &JobStatus<'a>) -> Value<'a> {
-    let runs = KnownRuns::noted(&job.note, job.facts.reasons.child);
-    match runs.refused {
-        Some(start) => text_of(start.reason),
-        None => Absent,
-    }
-}
-
-/// A status file knows of a label only what its job has.
+/// Nothing but what its job has is known of a label.
 const NOTHING: KnownLabel = KnownLabel {
     disabled: None,
     refused: None,

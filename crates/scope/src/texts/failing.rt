@@ -4,8 +4,9 @@ ghost use Rattle.std.specs.Prelude.{◌≡◌, is_some, IfSome};
 ghost use Rattle.status_page.specs.Failing.{is_failing, FaultHolds};
 ghost use Rattle.scope.specs.KnownFaults.{past_in};
 
-use crate::age::{AsOf, add_head, clock_as_of, reading_as_of};
+use crate::age::{AsOf, add_head, add_sources, clock_as_of, reading_as_of};
 use crate::errors::FailedRun;
+use crate::joined::{JoinedJournal, label_now, runs_joined};
 use crate::journal::job::KeptJob;
 use crate::journal::reader::OpenJournal;
 use crate::known_runs::KnownRuns;
@@ -14,27 +15,32 @@ use calendar_due::Zone;
 use history_model::{Reading, Text};
 use run_times::Page;
 use status_file::JobFacts;
-use status_page::{Failing, Fault, add_failing, fault_of, is_asked, passed_minute};
+use status_page::{Failing, Fault, add_failing, add_left_out, fault_of, is_asked, passed_minute};
 use std::alloc::{AllocError, Global};
 
-/// A line for each loaded job of the journal, or of those named, that fails, and how many there are.
+/// A line for each loaded job of the journal, or of those named, that fails, and how many there are. Lines for definitions that the boot left out follow, if
+/// the status file was read.
 pub(crate) fn failing_text(
     alloc: Global,
-    journal: &OpenJournal,
+    of: JoinedJournal<'_>,
     zone: &Zone,
     labels: &[Text],
     as_of: AsOf,
 ) -> Result<(String, u64), AllocError> {
-    let last = journal.table.reading();
+    let last = of.journal.table.reading();
     let mut page = Page::new(alloc, zone, reading_as_of(as_of, last));
     add_head(&mut page, as_of, last);
+    add_sources(&mut page, as_of, of.standing.is_some());
     let seen = LauncherNow::of(as_of, last);
     let mut count: u64 = 0;
-    for (label, job) in &journal.past.jobs {
+    for (label, job) in &of.journal.past.jobs {
         let label = label.as_str();
-        if is_asked(labels, label) && add_if_failing(&mut page, journal, label, job, seen) {
+        if is_asked(labels, label) && add_if_failing(&mut page, of, label, job, seen) {
             count = count.saturating_add(1);
         }
+    }
+    if let Some(standing) = of.standing {
+        count = count.saturating_add(add_left_out(&mut page, standing, labels));
     }
     match page.into_text() {
         Ok(text) => Ok((text, count)),
@@ -63,16 +69,16 @@ impl LauncherNow {
 
 fn add_if_failing(
     page: &mut Page<'_>,
-    journal: &OpenJournal,
+    of: JoinedJournal<'_>,
     label: &str,
     job: &KeptJob,
     now: LauncherNow,
 ) -> bool {
-    let Some(facts) = journal.facts(label) else {
+    let Some(facts) = of.journal.facts(label) else {
         return false;
     };
-    let runs = job.record.known();
-    let Some(fault) = job_fault(journal, job, &facts, now) else {
+    let runs = runs_joined(job.record.known(), label_now(of.standing, label));
+    let Some(fault) = job_fault(of.journal, job, &facts, now) else {
         return false;
     };
     let ended = match &runs.last {
@@ -85,7 +91,7 @@ fn add_if_failing(
             label,
             fault,
             refused: runs.refused_at(),
-            reason: None,
+            reason: runs.reason(),
             ended,
         },
     );

@@ -1,5 +1,6 @@
 //! The definitions that are loaded, as they were read.
 
+use crate::joined::setting_told;
 use crate::journal::job::KeptJob;
 use crate::journal::labels::KnownLabel;
 use crate::journal::reader::OpenJournal;
@@ -51,7 +52,7 @@ fn add_job(page: &mut Page<'_>, label: &str, job: &KeptJob, known: KnownLabel, i
         "$ was loaded at $.\n",
         &[Text(label), Moment(job.record.loaded().wall)],
     );
-    add_disabled(page, label, known);
+    add_disabled(page, label, setting_told(known.disabled));
     add_output(page, def);
     add_stream(page, "Its errors go", def.standard_error_path());
     add_unheeded(page, def);

@@ -4,15 +4,19 @@ ghost use Rattle.std.specs.Prelude.{◌≡◌};
 ghost use Rattle.calendar_due.specs.ZoneRules.{minute_at};
 ghost use Rattle.scope.specs.Told.{IsCalendarNext, facts_then};
 
+use crate::age::ENDING;
 use crate::errors::FailedRun;
-use crate::journal::labels::{KnownLabel, KnownLabels};
+use crate::joined::{JoinedJournal, LabelNow, disabled_joined, line_with, sources_said};
+use crate::journal::labels::KnownLabels;
+use crate::journal::reader::OpenJournal;
 use crate::known_runs::KnownRuns;
 use crate::texts::coming::calendar_next;
 use crate::texts::failing::{LauncherNow, fault_in};
 use crate::texts::since::add_coming;
 use crate::texts::told::ToldJob;
 use crate::texts::why::{
-    add_last_end, add_refused, add_stand, add_state_then, facts_then, throttle_shown,
+    add_beside, add_disabled, add_known, add_last_end, add_refused, add_stand, add_state_then,
+    asked_labels, facts_then, throttle_shown,
 };
 use calendar_due::Zone;
 use history_model::{Entry, Reading};
@@ -30,7 +34,8 @@ use std::alloc::{AllocError, Global};
 const WRITTEN: u64 = 2;
 
 /// For each job of the file, or for those named: its state, a line for each thing that keeps it from a start or wants it, and its last exit. The
-/// system's reason follows if its last start was refused, and then when it starts, as of a second. Times are shown in the launcher's zone or in UTC.
+/// system's reason follows if its last start was refused, and then when it starts, as of a second. Of the launcher's journal, if it was read, are refused
+/// loads, who disabled a label, and labels that are not loaded. Times are shown in the launcher's zone or in UTC.
 pub(crate) fn standing_text(
     alloc: Global,
     standing: &StatusRead,
@@ -38,11 +43,11 @@ pub(crate) fn standing_text(
     is_utc: bool,
     second: u64,
     left: &[RunProcess],
-    settings: &KnownLabels,
+    journal: Option<&OpenJournal>,
 ) -> Result<String, AllocError> {
     let zone = standing.zone(alloc, false)?;
     let text = text_in(
-        alloc, standing, labels, is_utc, second, &zone, left, settings,
+        alloc, standing, labels, is_utc, second, &zone, left, journal,
     );
     drop(zone);
     text
@@ -57,12 +62,16 @@ fn text_in(
     second: u64,
     zone: &Zone,
     left: &[RunProcess],
-    settings: &KnownLabels,
+    journal: Option<&OpenJournal>,
 ) -> Result<String, AllocError> {
     let shown = standing.zone(alloc, is_utc)?;
     let last = reading_of(standing);
     let mut page = Page::new(alloc, &shown, told_as_of(standing, last, second));
     add_head(&mut page, standing, second);
+    if is_ending(standing, journal) {
+        page.writer.put(ENDING);
+    }
+    page.writer.put(sources_said(journal.is_some(), true));
     if standing.is_empty() {
         page.writer.put("\nNo job is loaded.\n");
     }
@@ -70,11 +79,18 @@ fn text_in(
     for line in standing.jobs() {
         if let Ok(job) = line.job() {
             if is_asked(labels, job.label) {
-                let known = settings.of(job.label);
-                add_job(&mut page, zone, standing, line, &job, clock, known);
+                add_job(&mut page, zone, standing, line, &job, clock, journal);
                 add_left(&mut page, job.label, left);
             }
         }
+    }
+    if let Some(journal) = journal {
+        let of = JoinedJournal {
+            journal,
+            standing: Some(standing),
+            processes: left,
+        };
+        add_others(&mut page, of, standing, labels, clock)?;
     }
     add_left_of_others(&mut page, standing, left);
     let _count = add_left_out(&mut page, standing, labels);
@@ -83,8 +99,34 @@ fn text_in(
     text
 }
 
-// A line for each process that runs of the job left running.
-fn add_left(page: &mut Page<'_>, label: &str, left: &[RunProcess]) {
+// Whether the launcher was asked for a shutdown, which the journal alone says, and may be running.
+fn is_ending(standing: &StatusRead, journal: Option<&OpenJournal>) -> bool {
+    match journal {
+        Some(journal) => standing.may_live() && journal.table.is_shutting_down(),
+        None => false,
+    }
+}
+
+// What the journal has of labels of which the file has no job.
+fn add_others(
+    page: &mut Page<'_>,
+    of: JoinedJournal<'_>,
+    standing: &StatusRead,
+    labels: &[history_model::Text],
+    clock: Reading,
+) -> Result<(), AllocError> {
+    let asked = asked_labels(page.alloc, of.journal, labels)?;
+    for label in &asked {
+        if line_with(standing.jobs(), *label).is_none() {
+            add_known(page, of, *label, standing.foretells(), clock);
+        }
+    }
+    drop(asked);
+    Ok(())
+}
+
+/// A line for each process that runs of the job left running.
+pub(crate) fn add_left(page: &mut Page<'_>, label: &str, left: &[RunProcess]) {
     for process in left {
         if process.label.as_str() == label {
             add_process(page, process);
@@ -92,11 +134,11 @@ fn add_left(page: &mut Page<'_>, label: &str, left: &[RunProcess]) {
     }
 }
 
-// The same of labels that are not loaded.
-fn add_left_of_others(page: &mut Page<'_>, standing: &StatusRead, left: &[RunProcess]) {
+/// The same of labels of which the file has no job.
+pub(crate) fn add_left_of_others(page: &mut Page<'_>, standing: &StatusRead, left: &[RunProcess]) {
     for process in left {
         let label = process.label.as_str();
-        if !has_line(standing, label) {
+        if line_with(standing.jobs(), label).is_none() {
             page.add(
                 "\nProcess $ ($) of run $ of $, which is not loaded, still runs.\n",
                 &[
@@ -108,17 +150,6 @@ fn add_left_of_others(page: &mut Page<'_>, standing: &StatusRead, left: &[RunPro
             );
         }
     }
-}
-
-// Whether the file has a line of this job that was asked for.
-fn has_line(standing: &StatusRead, label: &str) -> bool {
-    for line in standing.jobs() {
-        match line.job() {
-            Ok(job) if job.label == label => return true,
-            _ => {}
-        }
-    }
-    false
 }
 
 fn add_process(page: &mut Page<'_>, process: &RunProcess) {
@@ -140,9 +171,10 @@ fn add_job(
     line: &StatusLine,
     job: &JobStatus<'_>,
     clock: Reading,
-    known: KnownLabel,
+    journal: Option<&OpenJournal>,
 ) {
     let runs = KnownRuns::noted(&job.note, job.facts.reasons.child);
+    let at = reading_of(standing);
     if standing.foretells() {
         match line.calendar(page.alloc) {
             Ok(entries) => {
@@ -153,9 +185,9 @@ fn add_job(
                     job,
                     runs,
                     entries.as_slice(),
-                    reading_of(standing),
+                    at,
                     clock,
-                    known,
+                    journal,
                 );
                 add_missed(page, missed);
                 drop(entries);
@@ -165,6 +197,7 @@ fn add_job(
     } else {
         add_gone(page, standing, job);
         add_past(page, &job.note, &runs);
+        add_setting(page, job, at, journal);
     }
 }
 
@@ -176,13 +209,13 @@ fn add_living(
     entries: &[Entry],
     at: Reading,
     clock: Reading,
-    known: KnownLabel,
+    journal: Option<&OpenJournal>,
 ) {
     let facts = &job.facts;
     let told = told_of(page, zone, job, runs, entries);
     let is_idle = add_stand(page, job.label, facts, &told);
     add_past(page, &job.note, &runs);
-    add_disabled(page, job, known);
+    add_setting(page, job, at, journal);
     let last = within_limits(at);
     let end = throttle_shown(&told, facts, last);
     add_coming(page, facts, entries, zone, last, clock, is_idle, end);
@@ -233,44 +266,31 @@ fn add_gone(page: &mut Page<'_>, standing: &StatusRead, job: &JobStatus<'_>) {
 // How the last run ended, how many starts there were, and that the last one was refused, with what the system said.
 fn add_past(page: &mut Page<'_>, note: &JobNote<'_>, runs: &KnownRuns<'_>) {
     add_last_end(page, runs, note.unsuccessful, "failed");
-    let Some(start) = &runs.refused else {
-        return;
-    };
-    match start.reason {
-        Some(reason) => page.add(
-            "  Its last start (run $) was refused, at $: $.\n",
-            &[Number(start.run), Time(start.at.wall), Text(reason)],
-        ),
-        None => add_refused(page, start),
+    if let Some(start) = &runs.refused {
+        add_refused(page, start);
+    }
+}
+
+// By what its label is disabled, and what the journal has of it besides.
+fn add_setting(
+    page: &mut Page<'_>,
+    job: &JobStatus<'_>,
+    at: Reading,
+    journal: Option<&OpenJournal>,
+) {
+    let now = LabelNow::of(job, at);
+    match journal {
+        Some(journal) => add_beside(page, journal, job.label, now),
+        None => add_disabled(page, job.label, disabled_joined(None, Some(now))),
     }
 }
 
 /// When a setting disabled its label, by the file, or else by what journals say of settings. None: no setting does, or it is not known.
 pub(crate) fn disabled_at(job: &JobStatus<'_>, settings: &KnownLabels) -> Option<Reading> {
-    disabled_by(job, settings.of(job.label))
-}
-
-fn disabled_by(job: &JobStatus<'_>, known: KnownLabel) -> Option<Reading> {
     match job.disabled {
-        Some(DisabledBy::Override) => job.note.disabled_at.or(known.since()),
+        Some(DisabledBy::Override) => job.note.disabled_at.or(settings.of(job.label).since()),
         Some(DisabledBy::Definition) | None => None,
     }
-}
-
-// That its label is disabled, and since when.
-fn add_disabled(page: &mut Page<'_>, job: &JobStatus<'_>, known: KnownLabel) {
-    if let Some(at) = disabled_by(job, known) {
-        let holes = [Time(at.wall), Text(job.label)];
-        return page.add("  It is disabled since $: `jobctl enable $`.\n", &holes);
-    }
-    let form = match job.disabled {
-        Some(DisabledBy::Override) => "  It is disabled: `jobctl enable $`.\n",
-        Some(DisabledBy::Definition) => {
-            "  It is disabled, since its definition has Disabled: `jobctl enable $` lets it be loaded.\n"
-        }
-        None => return,
-    };
-    page.add(form, &[Text(job.label)]);
 }
 
 /// Adds that a minute of a job's calendar passed while no launcher ran, if one did.
@@ -322,6 +342,7 @@ fn failing_by(
     let last = reading_of(standing);
     let mut page = Page::new(alloc, &shown, told_as_of(standing, last, second));
     add_head(&mut page, standing, second);
+    page.writer.put("Its status file was read.\n");
     let now = launcher_now(standing, second);
     let mut count: u64 = 0;
     for line in standing.jobs() {
@@ -352,10 +373,6 @@ fn add_if_failing(
     now: LauncherNow,
 ) -> bool {
     let runs = KnownRuns::noted(&job.note, job.facts.reasons.child);
-    let reason = match &runs.refused {
-        Some(start) => start.reason,
-        None => None,
-    };
     let fault = match line_fault(page.alloc, standing, line, job, zone, now) {
         Ok(Some(fault)) => fault,
         Ok(None) => return false,
@@ -374,7 +391,7 @@ fn add_if_failing(
             label: job.label,
             fault,
             refused: runs.refused_at(),
-            reason,
+            reason: runs.reason(),
             ended,
         },
     );

@@ -4,9 +4,13 @@ ghost use Rattle.std.specs.Prelude.{◌≡◌};
 ghost use Rattle.calendar_due.specs.ZoneRules.{minute_at};
 ghost use Rattle.scope.specs.Told.{IsCalendarNext, asked_in, facts_then, is_refusal_told};
 
-use crate::age::{AsOf, add_head, clock_as_of, reading_as_of};
+use crate::age::{AsOf, add_head, add_sources, clock_as_of, reading_as_of};
+use crate::joined::{
+    Disabled, JoinedJournal, LabelNow, disabled_joined, label_now, label_past, runs_joined,
+    setting_told,
+};
 use crate::journal::job::{KeptJob, Record};
-use crate::journal::labels::{DisabledBy, KnownLabel};
+use crate::journal::labels::KnownLabel;
 use crate::journal::reader::OpenJournal;
 use crate::known_runs::KnownRuns;
 use crate::texts::after_exit::add_after_exit;
@@ -15,8 +19,8 @@ use crate::texts::causes::throttle_of;
 use crate::texts::coming::calendar_next;
 use crate::texts::failing::missed_by;
 use crate::texts::since::{add_coming, reasons_then};
-use crate::texts::standing::add_missed;
-use crate::texts::told::ToldJob;
+use crate::texts::standing::{add_left, add_left_of_others, add_missed};
+use crate::texts::told::{NONE, ToldJob};
 use crate::texts::words::{asked_name, how_words, refusal_words};
 use calendar_due::Zone;
 use history_model::{Reading, Reasons, Refusal};
@@ -25,21 +29,23 @@ use run_log::RefusedStart;
 use run_times::Filling::{Number, Span, Text, Time};
 use run_times::Page;
 use status_file::{JobFacts, JobKeys};
-use status_page::{ThrottleEnd, within_limits};
+use status_page::{ThrottleEnd, add_left_out, within_limits};
 use std::alloc::{AllocError, Global};
 
-/// For each loaded job, or for those named: its state, what keeps it from a start or wants it (a line each), its last exit, and its next start. Times
-/// are shown in the zone.
+/// For each loaded job, or for those named: its state, what keeps it from a start or wants it (a line each), its last exit, and its next start. The
+/// system's reason for a refused start is the status file's. Times are shown in the zone.
 pub(crate) fn why_text(
     alloc: Global,
-    journal: &OpenJournal,
+    of: JoinedJournal<'_>,
     zone: &Zone,
     labels: &[history_model::Text],
     as_of: AsOf,
 ) -> Result<String, AllocError> {
+    let journal = of.journal;
     let last = journal.table.reading();
     let mut page = Page::new(alloc, zone, reading_as_of(as_of, last));
     add_head(&mut page, as_of, last);
+    add_sources(&mut page, as_of, of.standing.is_some());
     let clock = clock_as_of(as_of, last);
     let asked = asked_labels(alloc, journal, labels)?;
     match asked.first() {
@@ -48,14 +54,33 @@ pub(crate) fn why_text(
         _ => {}
     }
     for label in &asked {
-        match journal.past.jobs.get(*label) {
-            Some(job) if !as_of.foretells() => add_at_end(&mut page, journal, *label, job),
-            Some(job) => add_job(&mut page, journal, *label, job, clock),
-            None => add_unloaded(&mut page, journal, *label),
+        add_known(&mut page, of, *label, as_of.foretells(), clock);
+        if label_now(of.standing, *label).is_some() {
+            add_left(&mut page, *label, of.processes);
         }
     }
     drop(asked);
+    if let Some(standing) = of.standing {
+        add_left_of_others(&mut page, standing, of.processes);
+        let _count = add_left_out(&mut page, standing, labels);
+    }
     page.into_text()
+}
+
+/// Adds the report on a label of which the journal has something. If nothing is foretold, it is that on the journal's end.
+pub(crate) fn add_known(
+    page: &mut Page<'_>,
+    of: JoinedJournal<'_>,
+    label: &str,
+    foretells: bool,
+    clock: Reading,
+) {
+    let now = label_now(of.standing, label);
+    match of.journal.past.jobs.get(label) {
+        Some(job) if !foretells => add_at_end(page, of.journal, label, job, now),
+        Some(job) => add_job(page, of.journal, label, job, clock, now),
+        None => add_unloaded(page, of.journal, label),
+    }
 }
 
 /// The labels to report: the known ones of those named. If none is named, each that is loaded, and then each other of which something is known.
@@ -97,27 +122,51 @@ pub(crate) fn is_known(journal: &OpenJournal, label: &str) -> bool {
 
 fn add_unloaded(page: &mut Page<'_>, journal: &OpenJournal, label: &str) {
     page.add("\n$ is not loaded.\n", &[Text(label)]);
-    add_label(page, label, journal.past.labels.of(label));
+    add_label_of_journal(page, label, journal);
 }
 
-/// Adds since when the label is disabled, and by which subcommand, if it is.
-pub(crate) fn add_disabled(page: &mut Page<'_>, label: &str, known: KnownLabel) {
-    match known.disabled {
-        Some(DisabledBy::Client(asked, at)) => page.add(
+/// Adds by what the label is disabled, if it is, and since when.
+pub(crate) fn add_disabled(page: &mut Page<'_>, label: &str, disabled: Option<Disabled>) {
+    let Some(disabled) = disabled else {
+        return;
+    };
+    let name = Text(label);
+    let (form, holes) = match disabled {
+        Disabled::Client(asked, at) => (
             "  It is disabled since $ (jobctl $): `jobctl enable $`.\n",
-            &[Time(at.wall), Text(asked_name(asked)), Text(label)],
+            [Time(at.wall), Text(asked_name(asked)), name],
         ),
-        Some(DisabledBy::Header) => page.add(
+        Disabled::Since(at) => (
+            "  It is disabled since $: `jobctl enable $`.\n",
+            [Time(at.wall), name, NONE],
+        ),
+        Disabled::Before => (
             "  It is disabled since before the journal's first event: `jobctl enable $`.\n",
-            &[Text(label)],
+            [name, NONE, NONE],
         ),
-        None => {}
-    }
+        Disabled::Unknown => ("  It is disabled: `jobctl enable $`.\n", [name, NONE, NONE]),
+        Disabled::Definition => (
+            "  It is disabled, since its definition has Disabled: `jobctl enable $` lets it be loaded.\n",
+            [name, NONE, NONE],
+        ),
+    };
+    page.add(form, &holes);
 }
 
-// What is known of the label besides its job: since when it is disabled, and why its last load was refused.
-fn add_label(page: &mut Page<'_>, label: &str, known: KnownLabel) {
-    add_disabled(page, label, known);
+// What is known of a label that is not loaded.
+fn add_label_of_journal(page: &mut Page<'_>, label: &str, journal: &OpenJournal) {
+    let known = journal.past.labels.of(label);
+    add_label(page, label, known, setting_told(known.disabled));
+}
+
+/// Adds what is known of the label besides its job: since when it is disabled, and why its last load was refused.
+pub(crate) fn add_label(
+    page: &mut Page<'_>,
+    label: &str,
+    known: KnownLabel,
+    disabled: Option<Disabled>,
+) {
+    add_disabled(page, label, disabled);
     let Some((refusal, at)) = known.refused else {
         return;
     };
@@ -128,7 +177,7 @@ fn add_label(page: &mut Page<'_>, label: &str, known: KnownLabel) {
         "  Its load at $ was refused: $$ $.\n"
     };
     page.add(form, &[Time(at.wall), Text(words), Text(reason), Text(key)]);
-    match (refusal, known.disabled) {
+    match (refusal, disabled) {
         (Refusal::Disabled, None) => page.add(
             "  Its definition has Disabled: `jobctl enable $` lets it be loaded.\n",
             &[Text(label)],
@@ -143,19 +192,18 @@ fn add_job<'x>(
     label: &str,
     job: &'x KeptJob,
     clock: Reading,
+    now: Option<LabelNow<'_>>,
 ) {
     let (Some(def), Some(facts)) = (&job.def, journal.facts(label)) else {
-        let form = "\n$ is not loaded: it was removed at $.\n";
-        page.add(form, &[Text(label), Time(job.record.gone.wall)]);
-        return add_label(page, label, journal.past.labels.of(label));
+        return add_removed(page, journal, label, job);
     };
     let told = told_job(journal, job, def, &facts, page.now);
     let is_idle = add_stand(page, label, &facts, &told);
-    add_past(page, &job.record);
+    add_past(page, &job.record, now);
     add_missed(page, missed_by(journal, job));
     add_background(page, &job.record);
     add_inert(page, def.not_acted_on());
-    add_label(page, label, label_of_loaded(journal, label, job));
+    add_label_of_loaded(page, journal, label, job, now);
     let last = within_limits(journal.table.reading());
     let end = throttle_shown(&told, &facts, last);
     add_coming(
@@ -172,17 +220,63 @@ fn add_job<'x>(
 
 // The report on a job whose launcher is not known to run: what it did at the journal's end. It does not say what kept it from a
 // start then, and when it would have started.
-fn add_at_end(page: &mut Page<'_>, journal: &OpenJournal, label: &str, job: &KeptJob) {
+fn add_at_end(
+    page: &mut Page<'_>,
+    journal: &OpenJournal,
+    label: &str,
+    job: &KeptJob,
+    now: Option<LabelNow<'_>>,
+) {
     let (Some(_), Some(facts)) = (&job.def, journal.facts(label)) else {
-        let form = "\n$ is not loaded: it was removed at $.\n";
-        page.add(form, &[Text(label), Time(job.record.gone.wall)]);
-        return add_label(page, label, journal.past.labels.of(label));
+        return add_removed(page, journal, label, job);
     };
     add_state_then(page, label, &facts.reasons, "at the journal's end");
-    add_past(page, &job.record);
+    add_past(page, &job.record, now);
     add_missed(page, missed_by(journal, job));
     add_background(page, &job.record);
-    add_label(page, label, label_of_loaded(journal, label, job));
+    add_label_of_loaded(page, journal, label, job, now);
+}
+
+// That the job is not loaded any more.
+fn add_removed(page: &mut Page<'_>, journal: &OpenJournal, label: &str, job: &KeptJob) {
+    let form = "\n$ is not loaded: it was removed at $.\n";
+    page.add(form, &[Text(label), Time(job.record.gone.wall)]);
+    add_label_of_journal(page, label, journal);
+}
+
+// What is known of the label of a loaded job, by both sources.
+fn add_label_of_loaded(
+    page: &mut Page<'_>,
+    journal: &OpenJournal,
+    label: &str,
+    job: &KeptJob,
+    now: Option<LabelNow<'_>>,
+) {
+    let disabled = disabled_joined(label_past(Some(journal), label), now);
+    add_label(page, label, label_of_loaded(journal, label, job), disabled);
+}
+
+/// Adds what the journal has of the job of a status file, besides its runs, and by what its label is disabled, by both.
+pub(crate) fn add_beside(
+    page: &mut Page<'_>,
+    journal: &OpenJournal,
+    label: &str,
+    now: LabelNow<'_>,
+) {
+    match journal.past.jobs.get(label) {
+        Some(job) => {
+            add_background(page, &job.record);
+            if let Some(def) = &job.def {
+                add_inert(page, def.not_acted_on());
+            }
+            add_label_of_loaded(page, journal, label, job, Some(now));
+        }
+        None => {
+            let known = journal.past.labels.of(label);
+            let disabled = disabled_joined(label_past(Some(journal), label), Some(now));
+            add_label(page, label, known, disabled);
+        }
+    }
 }
 
 // What is reported of the label of a loaded job besides: a load that was refused since the job was loaded already only as long as it matters.
@@ -303,8 +397,8 @@ fn words_then(reasons: &Reasons) -> &'static str {
 }
 
 // How the last run ended, how many there were, and that the last start was refused.
-fn add_past(page: &mut Page<'_>, job: &Record) {
-    let runs = job.known();
+fn add_past(page: &mut Page<'_>, job: &Record, now: Option<LabelNow<'_>>) {
+    let runs = runs_joined(job.known(), now);
     add_last_end(page, &runs, job.log.facts().ends, "ended");
     if let Some(start) = &runs.refused {
         add_refused(page, start);
@@ -339,11 +433,16 @@ pub(crate) fn add_last_end(
     page.add(form, &holes);
 }
 
-/// Adds that the last start was refused, where the system's reason is not kept.
+/// Adds that the last start was refused, with the system's reason, if that is known.
 pub(crate) fn add_refused(page: &mut Page<'_>, start: &RefusedStart<'_>) {
-    let form =
-        "  Its last start (run $) was refused, at $. The launcher logged the system's reason to its standard error (journalctl -u jobd).\n";
-    page.add(form, &[Number(start.run), Time(start.at.wall)]);
+    let form = match start.reason {
+        Some(_) => "  Its last start (run $) was refused, at $: $.\n",
+        None => {
+            "  Its last start (run $) was refused, at $. The launcher logged the system's reason to its standard error (journalctl -u jobd).\n"
+        }
+    };
+    let reason = Text(start.reason.unwrap_or(""));
+    page.add(form, &[Number(start.run), Time(start.at.wall), reason]);
 }
 
 // The conditions of `KeepAlive` among the ignored keys.

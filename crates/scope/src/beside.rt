@@ -1,0 +1,213 @@
+//! The other source of a launcher: the journal besides its status file, and the status file besides its journal. Both are of one launcher if its first
+//! clock reading is the same in both.
+
+use crate::journal::fault::JournalFault;
+use crate::journal::labels::KnownLabels;
+use crate::journal::lines::JournalLines;
+use crate::journal::reader::OpenJournal;
+use crate::journal::source::read_journal;
+use crate::kept_journals::{
+    MOST_KEPT, before_path, begin_at, begun_of, journal_of, kept_journals, length_at,
+};
+use crate::launcher::launcher_files;
+use crate::listener::JournalListener;
+use crate::window::WHOLE;
+use history_model::{Reading, Text};
+use launchctl_words::ScopeCommand;
+use status_file::{DisabledBy, StatusFault};
+use status_page::{Diagnostic, StatusRead, is_asked, named_path, read_standing};
+use std::alloc::{AllocError, Global};
+use std::mem;
+
+/// How many bytes of journals are read for it, together.
+const MOST_BYTES: u64 = 33_554_432;
+
+/// The status file of the journal's launcher: that of `JOBD_STATUS_FILE`, else that of the launcher that is meant. Of its jobs it has those of the labels,
+/// or all if none is named. None: it can't be read, or is another launcher's.
+pub(crate) fn standing_beside(
+    host: &HostRuntime,
+    alloc: Global,
+    begun: Reading,
+    labels: &[Text],
+) -> Result<Option<StatusRead>, AllocError> {
+    let Some(path) = status_path(host, alloc)? else {
+        return Ok(None);
+    };
+    let read = read_standing(host, alloc, path.as_str(), labels);
+    drop(path);
+    match read {
+        Ok(standing) => of_launcher(alloc, standing, begun),
+        Err(Diagnostic::NoMemory | Diagnostic::Line(_, StatusFault::NoMemory)) => Err(AllocError),
+        unread => {
+            drop(unread);
+            Ok(None)
+        }
+    }
+}
+
+fn status_path(host: &HostRuntime, alloc: Global) -> Result<Option<String>, AllocError> {
+    if let Some(path) = named_path(host, &None::<Text>)? {
+        return Ok(Some(path));
+    }
+    match launcher_files(host, alloc) {
+        Ok(files) => Ok(files.into_status_file()),
+        Err(error) => {
+            drop(error);
+            Err(AllocError)
+        }
+    }
+}
+
+// The file, if its launcher has this first clock reading.
+fn of_launcher(
+    alloc: Global,
+    standing: StatusRead,
+    begun: Reading,
+) -> Result<Option<StatusRead>, AllocError> {
+    match begun_of(alloc, &standing) {
+        Ok(Some(first)) if first == begun => Ok(Some(standing)),
+        Ok(_) => {
+            drop(standing);
+            Ok(None)
+        }
+        Err(error) => {
+            drop(standing);
+            Err(error)
+        }
+    }
+}
+
+/// The journal of the file's launcher, read to its end. If the file leaves open since when a label is disabled that is asked for, those before it are
+/// read too, as far as they have not too many bytes. None: it can't be read, or is another launcher's.
+pub(crate) fn journal_beside(
+    host: &HostRuntime,
+    alloc: Global,
+    of: &ScopeCommand,
+    standing: &StatusRead,
+) -> Result<Option<OpenJournal>, AllocError> {
+    let Some((path, begun)) = journal_of(host, alloc, standing)? else {
+        return Ok(None);
+    };
+    let mut listener = JournalListener::new(alloc, of, WHOLE);
+    let with_before = leaves_open(standing, of.words.as_slice());
+    let read = read_all(host, alloc, path.as_str(), with_before, &mut listener);
+    drop(path);
+    let journal = listener.journal.take();
+    drop(listener);
+    match read {
+        Ok(()) => Ok(begun_at(journal, begun)),
+        Err(error) => {
+            drop(journal);
+            Err(error)
+        }
+    }
+}
+
+// The journal, if it has this first clock reading: the last one that was read may be an earlier one.
+fn begun_at(journal: Option<OpenJournal>, begun: Reading) -> Option<OpenJournal> {
+    let journal = journal?;
+    if journal.begun == begun {
+        Some(journal)
+    } else {
+        drop(journal);
+        None
+    }
+}
+
+/// What the journals say of settings, if the file leaves open since when a label is disabled that is asked for. Nothing if they don't say it.
+pub(crate) fn settings_of(
+    host: &HostRuntime,
+    alloc: Global,
+    of: &ScopeCommand,
+    standing: &StatusRead,
+) -> Result<KnownLabels, AllocError> {
+    if !leaves_open(standing, of.words.as_slice()) {
+        return Ok(KnownLabels::new(alloc));
+    }
+    match journal_beside(host, alloc, of, standing)? {
+        Some(mut journal) => {
+            let labels = mem::replace(&mut journal.past.labels, KnownLabels::new(alloc));
+            drop(journal);
+            Ok(labels)
+        }
+        None => Ok(KnownLabels::new(alloc)),
+    }
+}
+
+// Whether a job that is asked for is disabled by a setting of which the file has no time.
+fn leaves_open(standing: &StatusRead, labels: &[Text]) -> bool {
+    for line in standing.jobs() {
+        match line.job() {
+            Ok(job) if is_asked(labels, job.label) => {
+                match (job.disabled, job.note.disabled_at) {
+                    (Some(DisabledBy::Override), None) => return true,
+                    _ => {}
+                }
+            }
+            _ => {}
+        }
+    }
+    false
+}
+
+// Reads the journals, the oldest first. One that can't be read says nothing.
+fn read_all(
+    host: &HostRuntime,
+    alloc: Global,
+    path: &str,
+    with_before: bool,
+    listener: &mut JournalListener<'_>,
+) -> Result<(), AllocError> {
+    let before = if with_before {
+        count_before(host, alloc, path)?
+    } else {
+        0
+    };
+    for newer in 0..before {
+        let older = before_path(alloc, path, before - newer)?;
+        let read = read_one(host, alloc, older.as_str(), listener);
+        drop(older);
+        read?;
+    }
+    read_one(host, alloc, path, listener)
+}
+
+fn read_one(
+    host: &HostRuntime,
+    alloc: Global,
+    path: &str,
+    listener: &mut JournalListener<'_>,
+) -> Result<(), AllocError> {
+    let mut lines = JournalLines::new(alloc);
+    let read = read_journal(host, Some(path), false, &mut lines, listener);
+    drop(lines);
+    match read {
+        Err(JournalFault::NoMemory) => Err(AllocError),
+        read => {
+            drop(read);
+            Ok(())
+        }
+    }
+}
+
+// How many journals of launchers before are there, without a gap, as far as their bytes and those of the last journal are not too many.
+fn count_before(host: &HostRuntime, alloc: Global, path: &str) -> Result<u64, AllocError> {
+    let last = length_at(host, path).unwrap_or(0);
+    let mut room = MOST_BYTES.checked_sub(last);
+    let mut count = 0;
+    for number in 1..kept_journals(host)?.min(MOST_KEPT) + 1 {
+        let before = before_path(alloc, path, number)?;
+        let length = length_at(host, before.as_str()).unwrap_or(0);
+        let is_there = begin_at(host, alloc, before.as_str())?.is_some();
+        drop(before);
+        room = if is_there {
+            room.and_then(|room| room.checked_sub(length))
+        } else {
+            None
+        };
+        if room.is_some() {
+            count = number;
+        }
+    }
+    Ok(count)
+}
