@@ -56,6 +56,21 @@ pub(crate) struct LabelPast {
     pub(crate) disabled: Option<DisabledBy>,
 }
 
+impl<'a> JoinedJournal<'a> {
+    /// What was read of a launcher, its journal and maybe its status file.
+    pub(crate) fn new(
+        journal: &'a OpenJournal,
+        standing: Option<&'a StatusRead>,
+        processes: &'a [RunProcess],
+    ) -> JoinedJournal<'a> {
+        JoinedJournal {
+            journal,
+            standing,
+            processes,
+        }
+    }
+}
+
 impl<'a> LabelNow<'a> {
     /// By a job of a file with this clock reading.
     pub(crate) fn of(job: &JobStatus<'a>, at: Reading) -> LabelNow<'a> {

@@ -415,11 +415,7 @@ fn put_joined(
     };
     let found = match &left {
         Ok(left) => {
-            let joined = JoinedJournal {
-                journal,
-                standing: standing.as_ref(),
-                processes: left.as_slice(),
-            };
+            let joined = JoinedJournal::new(journal, standing.as_ref(), left.as_slice());
             put_why(host, alloc, name, joined, zone, of, as_of)
         }
         Err(_) => Err(io::Error::from(io::ErrorKind::OutOfMemory)),
@@ -762,11 +758,7 @@ fn paint_page(
     as_of: AsOf,
 ) -> io::Result<()> {
     let table = runs_table(alloc, &journal.past, journal.table.reading(), labels)?;
-    let joined = JoinedJournal {
-        journal,
-        standing: None,
-        processes: &[],
-    };
+    let joined = JoinedJournal::new(journal, None, &[]);
     let why = why_text(alloc, joined, zone, labels, as_of)?;
     let coming = if as_of.foretells() {
         coming_of(alloc, journal, chart)?
@@ -791,11 +783,7 @@ fn failing_front(
     labels: &[Text],
     as_of: AsOf,
 ) -> Result<String, AllocError> {
-    let joined = JoinedJournal {
-        journal,
-        standing: None,
-        processes: &[],
-    };
+    let joined = JoinedJournal::new(journal, None, &[]);
     let (text, count) = failing_text(alloc, joined, zone, labels, as_of)?;
     let mut writer = TextWriter::new(alloc);
     if count > 0 {

@@ -28,7 +28,7 @@ fn add_if_refused(page: &mut Page<'_>, job: &JobStatus<'_>) {
     }
 }
 
-fn add_start(page: &mut Page<'_>, job: &JobStatus<'_>, start: RefusedStart<'_>) {
+fn add_start<'a>(page: &mut Page<'_>, job: &JobStatus<'a>, start: RefusedStart<'a>) {
     let label = Words(job.label);
     let at = Time(start.at.wall);
     let reason = Words(start.reason.unwrap_or("the reason is not known"));

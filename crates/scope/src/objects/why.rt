@@ -226,11 +226,7 @@ fn objects_in(
         }
     }
     if let (Some(journal), false) = (journal, of.is_failing) {
-        let joined = JoinedJournal {
-            journal,
-            standing: Some(standing),
-            processes: left,
-        };
+        let joined = JoinedJournal::new(journal, Some(standing), left);
         put_others(&mut page, joined, standing, of, around, clock)?;
     }
     if !of.is_failing {

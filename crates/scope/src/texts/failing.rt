@@ -67,11 +67,11 @@ impl LauncherNow {
     }
 }
 
-fn add_if_failing(
+fn add_if_failing<'a>(
     page: &mut Page<'_>,
-    of: JoinedJournal<'_>,
-    label: &str,
-    job: &KeptJob,
+    of: JoinedJournal<'a>,
+    label: &'a str,
+    job: &'a KeptJob,
     now: LauncherNow,
 ) -> bool {
     let Some(facts) = of.journal.facts(label) else {

@@ -85,11 +85,7 @@ fn text_in(
         }
     }
     if let Some(journal) = journal {
-        let of = JoinedJournal {
-            journal,
-            standing: Some(standing),
-            processes: left,
-        };
+        let of = JoinedJournal::new(journal, Some(standing), left);
         add_others(&mut page, of, standing, labels, clock)?;
     }
     add_left_of_others(&mut page, standing, left);

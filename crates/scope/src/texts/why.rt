@@ -192,7 +192,7 @@ fn add_job<'x>(
     label: &str,
     job: &'x KeptJob,
     clock: Reading,
-    now: Option<LabelNow<'_>>,
+    now: Option<LabelNow<'x>>,
 ) {
     let (Some(def), Some(facts)) = (&job.def, journal.facts(label)) else {
         return add_removed(page, journal, label, job);
@@ -220,12 +220,12 @@ fn add_job<'x>(
 
 // The report on a job whose launcher is not known to run: what it did at the journal's end. It does not say what kept it from a
 // start then, and when it would have started.
-fn add_at_end(
+fn add_at_end<'x>(
     page: &mut Page<'_>,
-    journal: &OpenJournal,
+    journal: &'x OpenJournal,
     label: &str,
-    job: &KeptJob,
-    now: Option<LabelNow<'_>>,
+    job: &'x KeptJob,
+    now: Option<LabelNow<'x>>,
 ) {
     let (Some(_), Some(facts)) = (&job.def, journal.facts(label)) else {
         return add_removed(page, journal, label, job);
@@ -397,7 +397,7 @@ fn words_then(reasons: &Reasons) -> &'static str {
 }
 
 // How the last run ended, how many there were, and that the last start was refused.
-fn add_past(page: &mut Page<'_>, job: &Record, now: Option<LabelNow<'_>>) {
+fn add_past<'a>(page: &mut Page<'_>, job: &'a Record, now: Option<LabelNow<'a>>) {
     let runs = runs_joined(job.known(), now);
     add_last_end(page, &runs, job.log.facts().ends, "ended");
     if let Some(start) = &runs.refused {
