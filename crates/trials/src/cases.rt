@@ -4,7 +4,7 @@ use crate::edges::{control_stage, refused, system};
 use crate::memory_stage::Stage;
 use crate::parts::{exchange, feed, heap, lines, zones};
 use crate::rounds::{ends, refusals};
-use crate::stores::{files, on_disks, stops};
+use crate::stores::{files, stops};
 use crate::tables::{rows, visits};
 use crate::turns::{journals, launchers};
 use anyhow::Result;
@@ -24,7 +24,7 @@ pub enum Case {
     System(&'static system::Scene),
     RefusedRounds,
     Ends(&'static ends::Ends),
-    Lasting(&'static str, &'static [on_disks::Listed<'static>]),
+    Lasting(&'static str, &'static [files::Listed]),
     Stopping(stops::Run, bool),
     Launched(&'static launchers::Turns),
     Journal(&'static journals::Row),
@@ -52,8 +52,8 @@ fn goes(rt: &HostRuntime, case: &Case) -> bool {
         Case::System(scene) => matches!(system::is_played(rt, scene), Some(true)),
         Case::RefusedRounds => matches!(refusals::are_taken(rt), Some(true)),
         Case::Ends(ends) => matches!(ends::is_so(rt, ends), Some(true)),
-        Case::Lasting(made, rounds) => files::do_last(alloc, made, rounds),
-        Case::Stopping(run, is_log) => stops::are_followed(alloc, run, is_log),
+        Case::Lasting(made, lists) => files::do_last(alloc, made, lists),
+        Case::Stopping(run, is_mended) => stops::are_followed(alloc, run, is_mended),
         Case::Launched(turns) => matches!(launchers::is_so::<Stage>(alloc, turns), Some(true)),
         Case::Journal(row) => matches!(journals::become_so(alloc, row), Some(true)),
     }

@@ -1,10 +1,10 @@
 //! The store of settings: over files that are closed and opened again, and on disks that stop.
 
+mod asked;
 pub mod calls;
-pub mod disks;
+mod disks;
 pub mod files;
-pub mod on_disks;
-mod over_files;
+mod over_disks;
 mod stopped_turns;
 pub mod stops;
 
@@ -30,17 +30,20 @@ static LINES: &[Line] = &[
         "an_old_row_beside_a_new_one",
         &[Case::Lasting(files::BOTH_TABLES, files::OLD_BESIDE_NEW)],
     ),
-    ("the_log_stops", &[Case::Stopping(Run::Settings, true)]),
     (
-        "the_database_stops",
-        &[Case::Stopping(Run::Settings, false)],
+        "settings_last_where_the_disks_stop",
+        &[Case::Stopping(Run::Store, false)],
     ),
     (
-        "a_setting_lasts_where_the_log_stops",
-        &[Case::Stopping(Run::Turns, true)],
+        "settings_last_where_a_mend_stops",
+        &[Case::Stopping(Run::Store, true)],
     ),
     (
-        "a_setting_lasts_where_the_database_stops",
-        &[Case::Stopping(Run::Turns, false)],
+        "a_launchers_settings_last_where_the_disks_stop",
+        &[Case::Stopping(Run::Launcher, false)],
+    ),
+    (
+        "a_launchers_settings_last_where_a_mend_stops",
+        &[Case::Stopping(Run::Launcher, true)],
     ),
 ];

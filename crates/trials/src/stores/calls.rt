@@ -1,7 +1,6 @@
 //! One call each, and whether it succeeded.
 
 use history_model::Setting;
-use job_defs::is_label;
 use override_store::{OverrideStore, StoreFault};
 use sqlite::{Alter, Connection};
 use std::alloc::Global;
@@ -23,29 +22,14 @@ pub fn opened<S: Alter + Drop>(alloc: Global, conn: Connection<S>) -> Option<Ove
     OverrideStore::open_on(alloc, conn).ok()
 }
 
-/// Whether the store makes all of these settings.
-pub fn set_all<S: Alter>(store: &mut OverrideStore<S>, rows: &[Row<'_>]) -> bool {
-    let mut is_set = true;
-    for row in rows {
-        is_set = sets(store, *row) && is_set;
-    }
-    is_set
-}
-
-/// Whether the store makes the setting.
-pub fn sets<S: Alter>(store: &mut OverrideStore<S>, row: Row<'_>) -> bool {
-    let (label, disabled, second) = row;
-    is_label(label) && second <= 250_000_000_000 && store.set(label, disabled, second).is_ok()
-}
-
-pub fn all_of<S: Alter>(
+fn all_of<S: Alter>(
     alloc: Global,
     store: &mut OverrideStore<S>,
 ) -> Result<Vec<Setting>, StoreFault> {
     store.all(alloc)
 }
 
-pub fn changes_of<S: Alter>(
+fn changes_of<S: Alter>(
     alloc: Global,
     store: &mut OverrideStore<S>,
 ) -> Result<Vec<(String, u64)>, StoreFault> {
@@ -53,7 +37,7 @@ pub fn changes_of<S: Alter>(
 }
 
 /// Whether the settings are these, in this order.
-pub fn show_all(all: &[Setting], want: &[Row<'_>]) -> bool {
+fn show_all(all: &[Setting], want: &[Row<'_>]) -> bool {
     let mut are_so = all.len() == want.len();
     for (setting, row) in all.iter().zip(want) {
         are_so &= setting.label.as_str() == row.0;

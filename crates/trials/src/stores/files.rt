@@ -1,15 +1,23 @@
-//! Stores over files that are closed and opened again, on disks in memory: each acknowledged setting is there.
+//! A launcher's store over files that are closed and opened again, on disks in memory: each acknowledged setting is there.
 
-use crate::stores::calls::SECOND;
-use crate::stores::disks::{Disks, are_there, new_disks};
-use crate::stores::on_disks::{Listed, NOTHING};
-use crate::stores::over_files::{Task, so_over};
+use crate::stores::calls::{Row, SECOND};
+use crate::stores::disks::Machine;
+use crate::stores::over_disks::{Task, done};
 use std::alloc::Global;
 
-/// Over files that hold nothing yet: what is set between an opening and the closing, and then listed, the last setting of each label by rising
-/// bytes of the labels.
-pub const NEW: &[Listed<'static>] = &[
-    NOTHING,
+/// What is set between an opening and the closing, and what the store then has by rising bytes of the labels.
+#[derive(Clone, Copy)]
+pub struct Listed {
+    sets: &'static [Row<'static>],
+    want: &'static [Row<'static>],
+}
+
+/// Over files that hold nothing yet.
+pub const NEW: &[Listed] = &[
+    Listed {
+        sets: &[],
+        want: &[],
+    },
     Listed {
         sets: &[
             ("b", true, SECOND),
@@ -37,7 +45,7 @@ pub const NEW: &[Listed<'static>] = &[
 ];
 
 /// Over files of the first version.
-pub const OLD: &[Listed<'static>] = &[
+pub const OLD: &[Listed] = &[
     Listed {
         sets: &[],
         want: &[("a", true, 0), ("b", false, 0)],
@@ -57,27 +65,40 @@ pub const BOTH_TABLES: &str =
     "CREATE TABLE overrides (label TEXT NOT NULL PRIMARY KEY, disabled INTEGER NOT NULL CHECK (disabled IN (0, 1))) STRICT; CREATE TABLE settings (label TEXT NOT NULL PRIMARY KEY, disabled INTEGER NOT NULL CHECK (disabled IN (0, 1)), changed INTEGER NOT NULL CHECK (changed >= 0)) STRICT; INSERT INTO settings VALUES ('a', 0, 5); INSERT INTO overrides VALUES ('a', 1)";
 
 /// The row of the first version is there.
-pub const OLD_BESIDE_NEW: &[Listed<'static>] = &[Listed {
+pub const OLD_BESIDE_NEW: &[Listed] = &[Listed {
     sets: &[],
     want: &[("a", true, 0)],
 }];
 
-/// The files that are left. First this text made their database, unless it is empty. Then a store over the files set and listed each of these,
-/// closed, and listed them again. None, if a result is not as it says.
-pub fn left_by(alloc: Global, made: &'static str, rounds: &[Listed<'_>]) -> Option<Disks> {
-    let mut files = so_over(alloc, new_disks(alloc), 3, Task::Execute(made))?;
-    for round in rounds {
-        files = so_over(alloc, files, 5, Task::List(*round))?;
-        let again = Listed {
-            sets: &[],
-            want: round.want,
-        };
-        files = so_over(alloc, files, 6, Task::List(again))?;
+/// A machine whose disks have the database that this text makes.
+pub fn made_by(alloc: Global, made: &'static str) -> Option<Machine> {
+    let machine = Machine::new(alloc);
+    if done(alloc, &machine, Task::Execute(made), &mut []) {
+        Some(machine)
+    } else {
+        drop(machine);
+        None
     }
-    Some(files)
 }
 
-/// Whether the settings of all turns last.
-pub fn do_last(alloc: Global, made: &'static str, rounds: &[Listed<'_>]) -> bool {
-    are_there(left_by(alloc, made, rounds))
+/// Whether each list of settings is made, and the store that is opened after it has them.
+fn all_last(alloc: Global, machine: &Machine, lists: &[Listed]) -> bool {
+    let mut are_so = true;
+    for list in lists {
+        are_so &= done(alloc, machine, Task::Set(list.sets), &mut []);
+        are_so &= done(alloc, machine, Task::Have(list.want), &mut []);
+    }
+    are_so
+}
+
+/// The same, over the database that this text makes.
+pub fn do_last(alloc: Global, made: &'static str, lists: &[Listed]) -> bool {
+    match made_by(alloc, made) {
+        Some(machine) => {
+            let are_so = all_last(alloc, &machine, lists);
+            drop(machine);
+            are_so
+        }
+        None => false,
+    }
 }

@@ -1,16 +1,20 @@
-//! A launcher over a store whose disks stop after a number of calls, for each such number. A setting that was acknowledged is found by the store that
-//! is opened again, and one that was refused is not made.
+//! A launcher over a store whose disks refuse calls, or stop.
 
 use crate::memory_stage::{Sink, edge, header};
-use crate::stores::stops::{Acknowledged, NO_LAUNCHER};
+use crate::stores::asked::{Asked, last_of};
 use child_edge::MemoryEdge;
 use launcher::{Host, Input};
 use outside::SettingStore;
-use override_store::opened;
-use sqlite::{Alter, Connection};
 use std::alloc::Global;
 
-const DISABLE: &[u8] = b"{\"req\":\"disable\",\"job\":\"a\"}";
+/// What a client of the launcher asks for, by the places of the settings.
+const LINES: [&[u8]; 5] = [
+    b"",
+    b"",
+    b"{\"req\":\"enable\",\"job\":\"a\"}",
+    b"{\"req\":\"disable\",\"job\":\"c\"}",
+    b"{\"req\":\"enable\",\"job\":\"c\"}",
+];
 
 const LOAD: &[u8] =
     b"{\"req\":\"load\",\"def\":\"{\\\"Label\\\":\\\"a\\\",\\\"ProgramArguments\\\":[\\\"/bin/a\\\"]}\"}";
@@ -35,32 +39,41 @@ fn code<T: SettingStore>(alloc: Global, host: &mut Host<T, MemoryEdge, Sink>, li
     }
 }
 
-/// The store once `a` was disabled and loaded.
-fn turned<T: SettingStore + Drop>(
+/// Asks the launcher for each setting that has no answer yet. Whether each one is made or refused, and a load of `a` is refused exactly if `a` is
+/// disabled by what was made.
+fn is_asked<T: SettingStore>(
     alloc: Global,
-    host: Host<T, MemoryEdge, Sink>,
-) -> (Acknowledged, T) {
-    let mut host = host;
-    let disabled = code(alloc, &mut host, DISABLE);
-    let loaded = code(alloc, &mut host, LOAD);
-    let (table, store, edge, journal) = host.into_parts();
-    drop(table);
-    drop(edge);
-    drop(journal);
-    (Acknowledged::Turns { disabled, loaded }, store)
+    host: &mut Host<T, MemoryEdge, Sink>,
+    asked: &mut [Asked],
+) -> bool {
+    let mut is_so = true;
+    for (one, line) in asked.iter_mut().zip(&LINES) {
+        if one.answer.is_none() {
+            let code = code(alloc, host, line);
+            one.answer = Some(code == 0);
+            is_so &= code == 0 || code == 9;
+        }
+    }
+    let loaded = code(alloc, host, LOAD);
+    match last_of(asked, asked.len(), "a") {
+        Some((_, true, _)) => is_so && loaded == 5,
+        _ => is_so && loaded == 0,
+    }
 }
 
-/// What was acknowledged, and what stays of the connection, closed as far as that goes; none if a disk stopped in the making of the launcher.
-pub fn turned_over<S: Alter + Drop>(
-    alloc: Global,
-    conn: Connection<S>,
-) -> Option<(Acknowledged, S)> {
-    match opened(alloc, conn) {
-        Ok((settings, all)) => {
-            drop(all);
-            let (said, settings) = turned(alloc, launched(alloc, settings)?);
-            Some((said, settings.store.close_on().into_store()))
+/// The same of a launcher that is made over the store, and dropped.
+pub fn turned<T: SettingStore + Drop>(alloc: Global, store: T, asked: &mut [Asked]) -> bool {
+    match launched(alloc, store) {
+        Some(host) => {
+            let mut host = host;
+            let is_so = is_asked(alloc, &mut host, asked);
+            let (table, store, edge, journal) = host.into_parts();
+            drop(table);
+            drop(store);
+            drop(edge);
+            drop(journal);
+            is_so
         }
-        Err((_, store)) => Some((NO_LAUNCHER, store)),
+        None => false,
     }
 }

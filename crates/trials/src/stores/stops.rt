@@ -1,165 +1,153 @@
-//! Disks in memory that stop after a number of calls: what was acknowledged is found again. The calls go from the opening of a first version's file
-//! to the second of two settings, or from the opening of a new one through a launcher's turns.
+//! A launcher's store on a machine whose disks refuse a call, or two, or which stops, for each new call. The store that is opened then has of each label
+//! the last setting that was acknowledged, or the one that was being made. So it is with all that was written, and with only what was synced.
 
-use crate::stores::calls::{FIRST_VERSION, Row, SECOND, sets, show_all};
-use crate::stores::disks::{Disks, MANY, are_there, copies};
-use crate::stores::files::left_by;
-use crate::stores::on_disks::NOTHING;
-use crate::stores::over_files::{Task, done_on_disks, so_over};
-use history_model::Setting;
-use override_store::OverrideStore;
-use sqlite::{Alter, Connection};
+use crate::stores::asked::{Asked, refused_of};
+use crate::stores::calls::{FIRST_VERSION, SECOND};
+use crate::stores::disks::{Machine, NEVER, NONE, Plan};
+use crate::stores::files::made_by;
+use crate::stores::over_disks::{Task, done};
 use std::alloc::Global;
 
-const ON: Row<'static> = ("c", true, SECOND);
+/// More new calls than a run makes.
+const MOST: u64 = 1_000;
 
-const OFF: Row<'static> = ("c", false, SECOND);
+/// How often the disks are opened without a mend, if a setting is refused: at the start, for the next setting, and at the end.
+const WITHOUT_MEND: u64 = 3;
 
-/// What may be found: the settings of the first version, and one of the two after them or neither.
-static WITH_NEITHER: [Row<'static>; 2] = [("a", true, 0), ("b", false, 0)];
+/// The settings of the first version, and those that are asked for.
+const SETTINGS: [Asked; 5] = [
+    Asked {
+        row: ("a", true, 0),
+        answer: Some(true),
+    },
+    Asked {
+        row: ("b", false, 0),
+        answer: Some(true),
+    },
+    Asked {
+        row: ("a", false, SECOND),
+        answer: None,
+    },
+    Asked {
+        row: ("c", true, SECOND),
+        answer: None,
+    },
+    Asked {
+        row: ("c", false, SECOND),
+        answer: None,
+    },
+];
 
-static WITH_ON: [Row<'static>; 3] = [("a", true, 0), ("b", false, 0), ON];
-
-static WITH_OFF: [Row<'static>; 3] = [("a", true, 0), ("b", false, 0), OFF];
-
-/// What was acknowledged.
+/// Who asks for the settings.
 #[derive(Clone, Copy)]
-pub enum Acknowledged {
-    /// Whether a store was opened, and whether each of two settings was made.
-    Settings {
-        opened: bool,
-        first: bool,
-        second: bool,
-    },
-    /// The codes that a launcher answered to `a`'s disabling and then to a load of it.
-    Turns {
-        disabled: u8,
-        loaded: u8,
-    },
+pub enum Run {
+    Store,
+    Launcher,
 }
 
-/// No store was opened.
-const NO_STORE: Acknowledged = Acknowledged::Settings {
-    opened: false,
-    first: false,
-    second: false,
-};
-
-/// No launcher was made, so `a` was not disabled.
-pub const NO_LAUNCHER: Acknowledged = Acknowledged::Turns {
-    disabled: 9,
-    loaded: 0,
-};
-
-/// A store is opened and two settings are made.
-pub fn set_over<S: Alter + Drop>(alloc: Global, conn: Connection<S>) -> (Acknowledged, S) {
-    match OverrideStore::open_or_give(alloc, conn) {
-        Ok(store) => {
-            let mut store = store;
-            let first = sets(&mut store, ON);
-            let second = sets(&mut store, OFF);
-            let said = Acknowledged::Settings {
-                opened: true,
-                first,
-                second,
-            };
-            (said, store.close_on().into_store())
-        }
-        Err((_, store)) => (NO_STORE, store),
+fn plan_of(first: u64, second: u64, stops: bool) -> Plan {
+    Plan {
+        first,
+        second,
+        stops,
     }
 }
 
-/// Whether what is found may follow what was acknowledged: the last setting, or one that was made and not acknowledged. A launcher's setting
-/// disables `a`; it may be there also if it was refused, and a load of `a` is refused once it was made.
-pub fn may_follow(said: Acknowledged, all: &[Setting]) -> bool {
-    match said {
-        Acknowledged::Settings {
-            opened,
-            first,
-            second,
-        } => {
-            let is_old = show_all(all, &WITH_NEITHER);
-            let is_on = show_all(all, &WITH_ON);
-            let is_off = show_all(all, &WITH_OFF);
-            (is_old & !first & !second) | (is_on & opened & !second) | (is_off & opened)
-        }
-        Acknowledged::Turns { disabled, loaded } => match (disabled, loaded, all) {
-            (0, 5, [one]) | (9, 0, [one]) => one.label.as_str() == "a" && one.disabled,
-            (9, 0, []) => true,
-            _ => false,
-        },
-    }
+/// How a run went.
+#[derive(Clone, Copy)]
+struct Went {
+    /// How many calls were refused, and how often the disks were opened.
+    refused: u64,
+    opens: u64,
 }
 
-/// Whether a store over copies of these files, on disks that do not stop, lists what may follow. The files are dropped.
-fn is_followed(alloc: Global, files: Disks, said: Acknowledged) -> bool {
-    let left = copies(alloc, &files, MANY, MANY);
-    drop(files);
-    match left {
-        Some(left) => are_there(so_over(alloc, left, 9, Task::Follows(said))),
+/// Whether a store on a machine with the same disks has what it may have.
+fn is_followed(alloc: Global, machine: &mut Machine, asked: &mut [Asked], is_exact: bool) -> bool {
+    match machine.copy(alloc, NONE) {
+        Some(machine) => {
+            let is_so = done(alloc, &machine, Task::MayHave { is_exact }, asked);
+            drop(machine);
+            is_so
+        }
         None => false,
     }
 }
 
-/// What runs over the disks: two settings, or a launcher.
-#[derive(Clone, Copy)]
-pub enum Run {
-    Settings,
-    Turns,
-}
-
-/// Whether the run was acknowledged whole; None if what is found does not follow. A launcher that is not made acknowledges nothing, and the disks of
-/// its store may be lost.
-fn stops(alloc: Global, run: Run, from: &Disks, log: u64, db: u64) -> Option<bool> {
-    let (task, nothing) = match run {
-        Run::Settings => (Task::SetTwice, NO_STORE),
-        Run::Turns => (Task::Turn, NO_LAUNCHER),
+/// The run over copies of the disks, which refuse what the plan says; None if what is found after it does not follow. As long as the machine does not
+/// stop, a call that is refused fails one setting at most, and at its end the store writes what it should have.
+fn run_by(alloc: Global, from: &mut Machine, run: Run, plan: Plan) -> Option<Went> {
+    let mut machine = from.copy(alloc, plan)?;
+    let mut asked = SETTINGS;
+    let is_run = match run {
+        Run::Store => done(alloc, &machine, Task::Ask, &mut asked),
+        Run::Launcher => done(alloc, &machine, Task::Turn, &mut asked),
     };
-    match (
-        done_on_disks(alloc, copies(alloc, from, log, db)?, 7, task),
-        run,
-    ) {
-        (Some((done, files)), _) => {
-            let said = done.said.unwrap_or(nothing);
-            let is_whole = matches!(
-                said,
-                Acknowledged::Settings { second: true, .. }
-                    | Acknowledged::Turns { disabled: 0, .. }
-            );
-            if is_followed(alloc, files, said) {
-                Some(is_whole)
-            } else {
-                None
-            }
-        }
-        (None, Run::Turns) => Some(false),
-        (None, Run::Settings) => None,
+    let counts = machine.counts();
+    let refused = refused_of(&asked);
+    let is_exact = !plan.stops && refused == counts.refused;
+    let is_kept = is_followed(alloc, &mut machine, &mut asked, is_exact);
+    machine.crash();
+    let is_synced = is_followed(alloc, &mut machine, &mut asked, is_exact);
+    drop(machine);
+    let is_unopened = asked[4].answer.is_none() && counts.refused > 0;
+    let is_answered = plan.stops || refused <= counts.refused;
+    if (is_run || is_unopened) && is_answered && is_kept && is_synced {
+        Some(Went {
+            refused: counts.refused,
+            opens: counts.opens,
+        })
+    } else {
+        None
     }
 }
 
-/// Whether each stop of the log, or of the database, is followed, up to a run that is acknowledged whole.
-fn each_is_followed(alloc: Global, run: Run, from: &Disks, is_log: bool) -> bool {
-    for calls in 0..200u64 {
-        let (log, db) = if is_log { (calls, MANY) } else { (MANY, calls) };
-        match stops(alloc, run, from, log, db) {
-            Some(true) => return calls > 0,
-            Some(false) => {}
+/// Whether each new call from `start` on may be refused, and the machine may stop at each. Before them the call `first` is refused, if it is one.
+fn each_follows(alloc: Global, from: &mut Machine, run: Run, first: u64, start: u64) -> bool {
+    let before = if first == NEVER { 0 } else { 1 };
+    for second in start..MOST {
+        let refused = run_by(alloc, from, run, plan_of(first, second, false));
+        let stopped = run_by(alloc, from, run, plan_of(first, second, true));
+        match (refused, stopped) {
+            (Some(one), Some(_)) => {
+                if one.refused == before {
+                    return second > start;
+                }
+            }
+            _ => return false,
+        }
+    }
+    false
+}
+
+/// Whether it is so after the first call whose refusal makes the store write its settings again.
+fn mend_follows(alloc: Global, from: &mut Machine, run: Run) -> bool {
+    for first in 1..MOST {
+        match run_by(alloc, from, run, plan_of(first, NEVER, false)) {
+            Some(one) => {
+                if one.opens > WITHOUT_MEND {
+                    return each_follows(alloc, from, run, first, first + 1);
+                }
+                if one.refused == 0 {
+                    return false;
+                }
+            }
             None => return false,
         }
     }
     false
 }
 
-/// The same, from files of the first version for settings, and from a store with no setting for a launcher.
-pub fn are_followed(alloc: Global, run: Run, is_log: bool) -> bool {
-    let from = match run {
-        Run::Settings => left_by(alloc, FIRST_VERSION, &[]),
-        Run::Turns => left_by(alloc, "", &[NOTHING]),
-    };
-    match from {
-        Some(from) => {
-            let is_so = each_is_followed(alloc, run, &from, is_log);
-            drop(from);
+/// Over the settings of the first version: whether each new call may be refused; or, if `is_mended`, each one within and after a mend.
+pub fn are_followed(alloc: Global, run: Run, is_mended: bool) -> bool {
+    match made_by(alloc, FIRST_VERSION) {
+        Some(machine) => {
+            let mut machine = machine;
+            let is_so = if is_mended {
+                mend_follows(alloc, &mut machine, run)
+            } else {
+                each_follows(alloc, &mut machine, run, NEVER, 1)
+            };
+            drop(machine);
             is_so
         }
         None => false,
