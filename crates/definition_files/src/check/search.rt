@@ -104,7 +104,7 @@ fn go_on(sought: &Sought, def: &mut Value, place: &mut Place) -> Result<bool, Al
         return Ok(false);
     };
     let total = count_in(value);
-    let has_wait = value.get(WAIT).is_some();
+    let has_wait = place.way.len() == 1 && value.get(WAIT).is_some();
     let names = names_of(sought.alloc, value, sought.key, place.way.len())?;
     let count = bringing(sought, def, place.way.as_slice(), names.as_slice(), total)?;
     if count == 0 {

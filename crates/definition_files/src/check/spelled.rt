@@ -86,8 +86,9 @@ impl Spelling {
 
 /// Whether a key means this name, by its text between the quotes.
 pub(crate) fn spells(raw: &str, name: &str) -> bool {
-    if !raw.contains('\\') {
-        return raw == name;
+    // An escape is longer than what it means.
+    if raw.len() <= name.len() || !raw.contains('\\') {
+        return raw == name && !raw.contains('\\');
     }
     let mut spelling = Spelling::new();
     let mut wanted = name.chars();
