@@ -60,7 +60,7 @@ pub struct Made {
 
 /// The definition that runs the job's command by the shell, with the variables that were set and those that cron sets, in the home folder. A
 /// load takes each such definition. A test comes before the command, if no 64 entries say the line's minutes, or if a day and a weekday must
-/// both suit. Refused: the command has an input, a NUL byte or more than 4,096 bytes. Refused too: a load would refuse the definition for
+/// both suit. Refused: the command has an input, a NUL byte or more bytes than an argument may have. Refused too: a load would refuse the definition for
 /// something else, as for a variable that is too long.
 pub fn definition_of(
     alloc: Global,
