@@ -1,11 +1,11 @@
 //! All faults of a definition, as the reader says them: the first one is asked for, mended, and the next one asked for.
 
-ghost use Rattle.std.specs.Prelude.{◌≡◌, IfOk};
+ghost use Rattle.std.specs.Prelude.{◌≡◌, ◌∷◌, IfOk};
 ghost use Rattle.serde_json.specs.View.{view};
-ghost use Rattle.job_defs.specs.Keys.{def_at};
-ghost use Rattle.definition_files.specs.Faults.{BeginsWith, FirstIs};
+ghost use Rattle.definition_files.specs.Faults.{AreSaid};
+ghost use Rattle.definition_files.specs.declared.check.faults.TheConstants.{MOST_FAULTS};
 
-use crate::check::mend::mend;
+use crate::check::mend::mended;
 use crate::check::search::{Place, place_of};
 use crate::check::way::Step;
 use history_model::{KeyName, Reason};
@@ -24,68 +24,52 @@ pub struct FaultAt {
 /// The most faults of a definition that are listed.
 const MOST_FAULTS: usize = 256;
 
-/// The faults of a value of JSON as a definition, at most 256. The first one is what a load says; each later one is what it says once those
-/// before are mended. There is none exactly if a load takes the definition. A value that is not an object has that fault alone.
+/// The faults of a value of JSON as a definition, at most 256. The first one is what a load says; each later one is what it says once the
+/// values of the keys of those before are mended. After the last a load takes the definition, if there are fewer than 256.
 pub fn faults_of(alloc: Global, value: &Value) -> Result<Vec<FaultAt>, AllocError>
-    ensures { IfOk result (λ faults. BeginsWith (def_at (view value.now)) faults.items) }
+    ensures { IfOk result (λ faults. AreSaid MOST_FAULTS (view value.now) faults.items) }
 {
-    match read_value(alloc, value) {
-        Ok(def) => {
+    let def = value.clone()?;
+    faults_from(alloc, def, MOST_FAULTS)
+}
+
+// The faults of the definition, up to this number.
+fn faults_from(alloc: Global, def: Value, most: usize) -> Result<Vec<FaultAt>, AllocError>
+    ensures { IfOk result (λ faults. AreSaid most (view def) faults.items) }
+{
+    if most == 0 {
+        drop(def);
+        return Ok(Vec::new(alloc));
+    }
+    match read_value(alloc, &def) {
+        Ok(read) => {
+            drop(read);
             drop(def);
             Ok(Vec::new(alloc))
         }
-        Err(DefFault::Bad { reason, key }) => faults_from(alloc, value, reason, key),
-        Err(DefFault::NoMemory) => Err(AllocError),
-    }
-}
-
-// The faults of a definition of which the reader says this one.
-fn faults_from(
-    alloc: Global,
-    value: &Value,
-    reason: Reason,
-    key: KeyName,
-) -> Result<Vec<FaultAt>, AllocError>
-    ensures { IfOk result (λ faults. FirstIs reason key faults.items) }
-{
-    let mut def = value.clone()?;
-    let way = mended_at(alloc, &mut def, reason, key)?;
-    let mut faults = Vec::new(alloc);
-    faults.push(FaultAt { reason, key, way })?;
-    if reason != Reason::NotObject {
-        let mut others = faults_left(alloc, &mut def)?;
-        faults.append(&mut others)?;
-    }
-    Ok(faults)
-}
-
-// The faults that the definition still has, one less than the most at most. It mends each.
-fn faults_left(alloc: Global, def: &mut Value) -> Result<Vec<FaultAt>, AllocError> {
-    let mut faults = Vec::new(alloc);
-    for _ in 1..MOST_FAULTS {
-        match read_value(alloc, def) {
-            Ok(read) => {
-                drop(read);
-                break;
-            }
-            Err(DefFault::Bad { reason, key }) => {
-                let way = mended_at(alloc, def, reason, key)?;
-                faults.push(FaultAt { reason, key, way })?;
-            }
-            Err(DefFault::NoMemory) => return Err(AllocError),
+        Err(DefFault::Bad { reason, key }) => {
+            let Place { way, most: kept } = place_of(alloc, &def, reason, key)?;
+            let next = mended(alloc, def, key, way.as_slice(), kept)?;
+            let others = faults_from(alloc, next, most - 1)?;
+            with_first(alloc, FaultAt { reason, key, way }, others)
+        }
+        Err(DefFault::NoMemory) => {
+            drop(def);
+            Err(AllocError)
         }
     }
-    Ok(faults)
 }
 
-// Mends the fault that the reader says of the definition, and returns the way to its place.
-fn mended_at(
+fn with_first(
     alloc: Global,
-    def: &mut Value,
-    reason: Reason,
-    key: KeyName,
-) -> Result<Vec<Step>, AllocError> {
-    let Place { way, most } = place_of(alloc, def, reason, key)?;
-    mend(alloc, def, key, way.as_slice(), most)?;
-    Ok(way)
+    first: FaultAt,
+    others: Vec<FaultAt>,
+) -> Result<Vec<FaultAt>, AllocError>
+    ensures { IfOk result (λ faults. faults.items ≡ first ∷ others.items) }
+{
+    let mut others = others;
+    let mut faults = Vec::new(alloc);
+    faults.push(first)?;
+    faults.append(&mut others)?;
+    Ok(faults)
 }

@@ -1,5 +1,11 @@
 //! A definition with a fault mended, so that the reader goes on to the next one.
 
+ghost use Rattle.std.specs.Prelude.{◌≡◌, ℕ, List, IfOk};
+ghost use Rattle.serde_json.specs.View.{view, members_view};
+ghost use Rattle.serde_json.specs.Find.{get, get_member};
+ghost use Rattle.history_model.specs.RefusalTexts.{key_text};
+ghost use Rattle.definition_files.specs.Faults.{ChangesKey};
+
 use crate::check::way::{Step, place_mut};
 use history_model::KeyName;
 use json_kinds::key_name;
@@ -7,9 +13,113 @@ use json_kinds::names::{PATH_NAME, SERVICE_NAME, WAIT};
 use serde_json::{Map, Value};
 use std::alloc::{AllocError, Global};
 
-/// Mends the fault of this key at the place. Of a collection with too many members the first `most` stay. Else the value is taken out, or a
-/// proper one put there, where it is wanted or counts.
-pub(crate) fn mend(
+/// The definition with the fault of this key at the place mended. Of a collection with too many members the first `most` stay. Else the value
+/// is taken out, or a proper one put there, where it is wanted or counts. Other keys keep their values. For a fault without a key there is a
+/// proper definition instead.
+pub(crate) fn mended(
+    alloc: Global,
+    def: Value,
+    key: KeyName,
+    way: &[Step],
+    most: Option<usize>,
+) -> Result<Value, AllocError>
+    ensures { IfOk result (λ next. ChangesKey key (view def) (view next)) }
+{
+    if key == KeyName::NoKey {
+        drop(def);
+        return proper_def(alloc);
+    }
+    let value = mended_value(alloc, &def, key, way, most)?;
+    changed(alloc, def, key, value)
+}
+
+// The definition with this value of the key, or without the key. A value that is not an object stays.
+fn changed(
+    alloc: Global,
+    def: Value,
+    key: KeyName,
+    value: Option<Value>,
+) -> Result<Value, AllocError>
+    ensures { IfOk result (λ next. ChangesKey key (view def) (view next)) }
+{
+    match def {
+        Value::Object(members) => with_key(alloc, members, key, value),
+        Value::Null => Ok(Value::Null),
+        Value::Bool(flag) => Ok(Value::Bool(flag)),
+        Value::Number(number) => Ok(Value::Number(number)),
+        Value::String(text) => Ok(Value::String(text)),
+        Value::Array(items) => Ok(Value::Array(items)),
+    }
+}
+
+// The object with this value of the key, or without the key.
+fn with_key(
+    alloc: Global,
+    members: Map<String, Value>,
+    key: KeyName,
+    value: Option<Value>,
+) -> Result<Value, AllocError>
+    ensures { IfOk result (λ next. (name : List ℕ) → (name ≡ key_text key → ⊥)
+        → get name (view next) ≡ get_member name (members_view members.entries)) }
+{
+    match value {
+        Some(value) => with_value(alloc, members, key, value),
+        None => Ok(without(members, key)),
+    }
+}
+
+fn with_value(
+    alloc: Global,
+    members: Map<String, Value>,
+    key: KeyName,
+    value: Value,
+) -> Result<Value, AllocError>
+    ensures { IfOk result (λ next. (name : List ℕ) → (name ≡ key_text key → ⊥)
+        → get name (view next) ≡ get_member name (members_view members.entries)) }
+{
+    let mut members = members;
+    let name = String::from_str(alloc, key_name(key))?;
+    drop(members.insert(name, value)?);
+    Ok(Value::Object(members))
+}
+
+fn without(members: Map<String, Value>, key: KeyName) -> Value
+    ensures { (name : List ℕ) → (name ≡ key_text key → ⊥)
+        → get name (view result) ≡ get_member name (members_view members.entries) }
+{
+    let mut members = members;
+    drop(members.remove(key_name(key)));
+    Value::Object(members)
+}
+
+// The value of the key with the fault mended; none, if the key is taken out.
+fn mended_value(
+    alloc: Global,
+    def: &Value,
+    key: KeyName,
+    way: &[Step],
+    most: Option<usize>,
+) -> Result<Option<Value>, AllocError> {
+    let mut copy = def.clone()?;
+    mend(alloc, &mut copy, key, way, most)?;
+    match copy.as_object_mut() {
+        Some(members) => Ok(members.remove(key_name(key))),
+        None => Ok(None),
+    }
+}
+
+// A definition that a load takes.
+fn proper_def(alloc: Global) -> Result<Value, AllocError> {
+    let mut members = Map::new(alloc);
+    let label = String::from_str(alloc, key_name(KeyName::Label))?;
+    drop(members.insert(label, proper_text(alloc)?)?);
+    let program = String::from_str(alloc, key_name(KeyName::Program))?;
+    drop(members.insert(program, proper_text(alloc)?)?);
+    Ok(Value::Object(members))
+}
+
+// Mends the fault in place.
+fn mend(
     alloc: Global,
     def: &mut Value,
     key: KeyName,
