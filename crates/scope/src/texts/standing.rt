@@ -67,7 +67,23 @@ fn text_in(
     let shown = standing.zone(alloc, is_utc)?;
     let last = reading_of(standing);
     let mut page = Page::new(alloc, &shown, told_as_of(standing, last, second));
-    add_head(&mut page, standing, second);
+    add_all(&mut page, zone, standing, labels, second, left, journal);
+    let text = page.into_text();
+    drop(shown);
+    text
+}
+
+// All that the text has, on its page.
+fn add_all(
+    page: &mut Page<'_>,
+    zone: &Zone,
+    standing: &StatusRead,
+    labels: &[history_model::Text],
+    second: u64,
+    left: &[RunProcess],
+    journal: Option<&OpenJournal>,
+) {
+    add_head(page, standing, second);
     if is_ending(standing, journal) {
         page.writer.put(ENDING);
     }
@@ -75,24 +91,21 @@ fn text_in(
     if standing.is_empty() {
         page.writer.put("\nNo job is loaded.\n");
     }
-    let clock = gone_on(last, second);
+    let clock = gone_on(reading_of(standing), second);
     for line in standing.jobs() {
         if let Ok(job) = line.job() {
             if is_asked(labels, job.label) {
-                add_job(&mut page, zone, standing, line, &job, clock, journal);
-                add_left(&mut page, job.label, left);
+                add_job(page, zone, standing, line, &job, clock, journal);
+                add_left(page, job.label, left);
             }
         }
     }
     if let Some(journal) = journal {
         let of = JoinedJournal::new(journal, Some(standing), left);
-        add_others(&mut page, of, standing, labels, clock)?;
+        add_others(page, of, standing, labels, clock);
     }
-    add_left_of_others(&mut page, standing, left);
-    let _count = add_left_out(&mut page, standing, labels);
-    let text = page.into_text();
-    drop(shown);
-    text
+    add_left_of_others(page, standing, left);
+    let _count = add_left_out(page, standing, labels);
 }
 
 // Whether the launcher was asked for a shutdown, which the journal alone says, and may be running.
@@ -110,15 +123,18 @@ fn add_others(
     standing: &StatusRead,
     labels: &[history_model::Text],
     clock: Reading,
-) -> Result<(), AllocError> {
-    let asked = asked_labels(page.alloc, of.journal, labels)?;
-    for label in &asked {
-        if line_with(standing.jobs(), *label).is_none() {
-            add_known(page, of, *label, standing.foretells(), clock);
+) {
+    match asked_labels(page.alloc, of.journal, labels) {
+        Ok(asked) => {
+            for label in &asked {
+                if line_with(standing.jobs(), *label).is_none() {
+                    add_known(page, of, *label, standing.foretells(), clock);
+                }
+            }
+            drop(asked);
         }
+        Err(_) => page.writer.refuse(),
     }
-    drop(asked);
-    Ok(())
 }
 
 /// A line for each process that runs of the job left running.
