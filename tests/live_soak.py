@@ -3,15 +3,17 @@
 
     live_soak.py MINUTES JOBD JOBCTL
 
-In the end no child, no descriptor and no spool file may be left over, and the journal must replay to the replies that the
-requests got, and to the orders whose answers it holds. It prints what it did, and what is wrong, with status 1 then. SEED in
-the environment makes the choices again.
+In the end no child, no descriptor and no spool file may be left over, each run that began must have its end in the journal, and
+the journal must replay to the replies that the requests got, and to the orders whose answers it holds. It prints what it did, and
+what is wrong, with status 1 then. SEED in the environment makes the choices again. If WAKE_KILLED is a number of seconds, it kills
+the launcher's jobd-wake that often, which has to lie beside JOBD.
 """
 import json
 import os
 import random
 import re
 import shutil
+import signal
 import socket
 import subprocess
 import sys
@@ -21,23 +23,28 @@ import types
 
 sys.dont_write_bytecode = True
 sys.path.insert(0, os.path.join(os.path.dirname(os.path.abspath(__file__)), "scenes"))
-from harness import Fault, Stage  # noqa: E402
+from harness import Fault, Stage, text_at, wakes  # noqa: E402
 
 JOBS = 100
 # What the launcher has to say: that the jobs of one kind have no program.
 REFUSED = re.compile(r"jobd: job\d\d: run \d+: cannot start /no/such/program: No such file or directory \(os error 2\)")
+# And of a jobd-wake that was killed.
+WAKE_GONE = re.compile(r"jobd: exits are seen within 0\.1 s, as no jobd-wake reports them: .*")
 ANSWERED = {"spawned": "spawn", "spawn_refused": "spawn", "termed": "term", "killed": "kill"}
 REQUESTS = ("load", "unload", "start", "stop", "kickstart", "enable", "disable", "list", "print", "shutdown")
 
 
 def is_helper(pid):
-    """Whether the launcher's child is a look-out, or the shell that gives TERM, and no job."""
-    try:
-        with open(f"/proc/{pid}/cmdline", encoding="utf-8") as told:
-            words = told.read()
-    except OSError:
-        return False
-    return words.startswith("jobd-look-out") or "while read" in words
+    """Whether the launcher's child is a look-out, jobd-wake, or the shell that gives TERM, and no job."""
+    # one that was killed has a name, and no words, until the launcher asks about it
+    named, words = text_at(f"/proc/{pid}/comm"), text_at(f"/proc/{pid}/cmdline")
+    return named == "jobd-wake\n" or words.startswith("jobd-look-out") or "while read" in words
+
+
+def is_reply(request, got):
+    """Whether jobctl printed what the journal replays to; lines of its own may follow."""
+    return request[:2] == got[:2] and all(line.startswith("jobctl: ") for line in got[2].removeprefix(request[2]).splitlines()) \
+        and got[2].startswith(request[2])
 
 
 class Soak:
@@ -152,10 +159,22 @@ class Soak:
             number = self.random.randrange(JOBS // 12) * 12 + 6
             self.call(self.labels[number])
 
+    def kill_wake(self):
+        """Returns whether there was one: it is started again ten seconds after its end."""
+        found = wakes(self.launcher.pid)
+        for pid in found:
+            os.kill(int(pid), signal.SIGKILL)
+            self.count("jobd-wake killed")
+        return bool(found)
+
     def run(self):
         until = time.monotonic() + 60 * self.minutes
+        each = float(os.environ.get("WAKE_KILLED", "inf"))
+        kills = time.monotonic() + each
         while time.monotonic() < until and self.launcher.poll() is None:
             self.act()
+            if time.monotonic() > kills and self.kill_wake():
+                kills += each
             time.sleep(self.random.random() * 0.05)
 
     # ---- what must be left
@@ -180,9 +199,9 @@ class Soak:
     def look(self):
         time.sleep(0.5)
         if self.children():
-            self.complain(f"children are left: {self.children()}")
-        # One more is that of the shell which gives TERM, and two those of the look-outs.
-        if len(self.descriptors()) > len(self.open_before) + 3:
+            self.complain(f"children are left: {[(pid, text_at(f'/proc/{pid}/cmdline')) for pid in self.children()]}")
+        # One more is that of the shell which gives TERM, two are those of the look-outs, and one is that of jobd-wake.
+        if len(self.descriptors()) > len(self.open_before) + 3 + len(wakes(self.launcher.pid)):
             self.complain(f"descriptors are left: {len(self.open_before)} before, {len(self.descriptors())} after")
         spool = [name for name in os.listdir(self.path("spool")) if name != "jobd.lock"]
         if spool:
@@ -204,7 +223,7 @@ class Soak:
         lines = self.started.lines("")
         self.counts["refusals told"] = len(lines)
         for line in lines:
-            if not REFUSED.fullmatch(line):
+            if not REFUSED.fullmatch(line) and not ("WAKE_KILLED" in os.environ and WAKE_GONE.fullmatch(line)):
                 self.complain(f"standard error: {line[:200]}")
         left = [pid for pid in children if os.path.exists(f"/proc/{pid}")]
         if left:
@@ -225,16 +244,24 @@ class Soak:
             self.complain(f"replay: status {done.returncode}, {len(outcomes)} outcomes of {len(events)} events")
         self.compare_replies(events, outcomes)
         self.compare_orders(events, outcomes)
+        self.compare_ends(events)
 
     def compare_replies(self, events, outcomes):
         told = [(event["ev"], outcome["code"], outcome["text"])
                 for event, outcome in zip(events, outcomes) if event["ev"] in REQUESTS]
         got = [(words[0], status, text) for words, status, text in self.replies]
         self.counts["replies"] = len(got)
-        if told != got:
-            at = next((at for at, pair in enumerate(zip(told, got)) if pair[0] != pair[1]), min(len(told), len(got)))
-            self.complain(f"replies differ from number {at}: {told[at:at + 1]} in the journal, {got[at:at + 1]} from jobctl;"
-                          f" {len(told)} and {len(got)} in all")
+        at = 0
+        for request in told:
+            if at < len(got) and is_reply(request, got[at]):
+                at += 1
+            elif request[0] == "list":
+                self.count("lists for labels like one that is not loaded")
+            else:
+                self.complain(f"replies differ from number {at}: {request} in the journal, {got[at:at + 1]} from jobctl")
+                return
+        if at < len(got):
+            self.complain(f"the journal has no request for the replies from number {at}: {got[at]}")
 
     def compare_orders(self, events, outcomes):
         orders = [(order["order"], order["job"], order["run"])
@@ -243,6 +270,19 @@ class Soak:
         self.counts["orders"] = len(orders)
         if orders != answers:
             self.complain(f"{len(orders)} orders and {len(answers)} answers differ")
+
+    def compare_ends(self, events):
+        """Each run that began has one end, after the lines of a job's removal too."""
+        running = {}
+        for event in events:
+            if event["ev"] == "spawned":
+                running[event["job"], event["run"]] = running.get((event["job"], event["run"]), 0) + 1
+                self.count("runs begun")
+            elif event["ev"] in ("ended", "lost"):
+                running[event["job"], event["run"]] = running.get((event["job"], event["run"]), 0) - 1
+                self.count("runs ended")
+        if wrong := [run for run, count in running.items() if count]:
+            self.complain(f"{len(wrong)} runs have no end, or one too many: {wrong[:5]}")
 
     def whole(self):
         self.prepare()
