@@ -15,7 +15,7 @@ from limits import load_patiently
 CROWDS = ((35, 1, 3, 10), (64, 8, 6, 7), (256, 30, 6, 6))
 
 # With so many clients of each job they are still more than the places.
-FEWEST = 3
+FEWEST = 2
 
 
 def print_of(launcher, label):
@@ -90,7 +90,7 @@ def no_reply_is_lost(stage):
         # Who waits for 5 seconds may go for a client of another job: here that is the machine's doing, and fewer clients come again. They are still more
         # than there are places for.
         while is_slow(told) and clients > FEWEST:
-            clients -= 1
+            clients = max(FEWEST, clients // 2)
             lost, made, told = lost_replies(stage, limit, jobs, clients, requests)
         in_time(not is_slow(told), f"at {limit} descriptors clients waited for 5 seconds: {told[-200:]!r}")
         if lost or told:
