@@ -40,10 +40,11 @@ pub fn the_store_holds_what_the_machine_sets<T: SettingStore>(store: &T)
 /// A launcher's store is closed after any turns and opened again, over a disk that returns what was written. For each
 /// label it then has the last setting that the launcher made. Refused settings between, and earlier openings, do not
 /// matter. `listed` is what `all` gives of it. The condition: the launcher's store is not shut at its end.
-pub fn a_store_opened_again_has_the_last_settings<S: Alter, P: StorePlace<Connection<S>>, R: Alter>(
-    store: &LastingSettings<S, P>,
-    again: &OverrideStore<R>,
-)
+pub fn a_store_opened_again_has_the_last_settings<
+    S: Alter,
+    P: StorePlace<Connection<S>, S>,
+    R: Alter,
+>(store: &LastingSettings<S, P>, again: &OverrideStore<R>)
     ensures { (header : Header) (calls : Option (List ToldCall)) (stores : Option (List StoreCall))
         (journal : JournalState) (first last : Snapshot (Lasting S P)) (turns : List (Turn (Lasting S P))) →
         (new : IsNew header calls stores journal first.stands

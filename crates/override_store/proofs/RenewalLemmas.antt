@@ -5,7 +5,7 @@ use Rattle.sqlite.specs.State.{State, HasCleanDisk, Survives}
 use Rattle.sqlite.specs.Tree.{Trees}
 use Rattle.sqlite.specs.Steps.{IsEmpty}
 use Rattle.sqlite_catalog.specs.Listing.{IsSound}
-use Rattle.override_store.specs.StoreTables.{both_schema}
+use Rattle.override_store.specs.StoreTables.{both_schema, no_schema}
 use Rattle.override_store.specs.OverrideStores.{AreFit, Carries, CommitsOpen, HoldsAs, IsOpenedOn, LeavesAll, old_rows_in, setting_rows}
 
 empty_fits : (conn : State) → IsEmpty conn → AreFit conn.committed.trees
@@ -17,6 +17,10 @@ new_schema conn s empty on clean = (on.opened clean (empty_fits conn empty)).our
 -- the trees of a store are fit to be opened
 pub both_fit : (trees : Trees) → IsSound both_schema trees → AreFit trees
 both_fit trees sound = (old_rows_in trees, setting_rows trees, inl (sound, refl, refl))
+
+-- and so are those of a database without tables
+pub none_fit : (trees : Trees) → IsSound no_schema trees → AreFit trees
+none_fit trees sound = ([], [], inr (inr (sound, refl, refl)))
 
 -- a store that was opened and read leaves what its connection could leave, or what it holds
 pub leaves_held : (conn opened new : State) → IsOpenedOn conn opened → (HasCleanDisk opened → AreFit conn.committed.trees → LeavesAll opened) → Survives opened new (λ _. CommitsOpen opened ⊥) →

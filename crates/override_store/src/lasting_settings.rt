@@ -1,6 +1,6 @@
 //! The store that a launcher's settings last in: it goes on after its disk failed.
 
-ghost use Rattle.std.specs.Prelude.{◌≡◌, ◌≢◌, ◌⊎◌, ◌<◌, ◌≤◌, ◌∷◌, ◌↔◌, Err, IfErr, IfOk, IsSomeAnd, IsTrue, None, Option, [], reverse, true, false};
+ghost use Rattle.std.specs.Prelude.{◌≡◌, ◌≢◌, ◌⊎◌, ◌<◌, ◌≤◌, ◌∷◌, ◌↔◌, Err, IfErr, IfOk, IsSomeAnd, IsTrue, None, Option, Some, [], reverse, true, false};
 ghost use Rattle.std.specs.Vec.{vec_capacity, vec_len};
 ghost use Rattle.sqlite.specs.Held.{state};
 ghost use Rattle.sqlite.specs.State.{HasCleanDisk};
@@ -10,12 +10,12 @@ ghost use Rattle.history_model.specs.declared.TheConstants.{MAX_WALL};
 ghost use Rattle.history_model.specs.Labels.{is_label};
 ghost use Rattle.override_store.specs.OverrideStores.{AreFit, HoldsAs};
 ghost use Rattle.override_store.specs.StoreTables.{both_schema};
-ghost use Rattle.override_store.specs.Places.{IsAskedMore};
-ghost use Rattle.override_store.specs.KnownSettings.{AtHand, HasMade, HoldsKnown, HoldsLast, IsOneTooMany, StampsLast, TellAlike, known_as};
+ghost use Rattle.override_store.specs.Places.{IsAskedMore, IsKnownOr, IsOver, Keeps, LeadsTo, over_connection, over_stores};
+ghost use Rattle.override_store.specs.KnownSettings.{AtHand, HasMade, HoldsKnown, HoldsLast, HoldsTrees, IsOneTooMany, StampsLast, TellAlike, known_as};
 
 use crate::known::{Known, is_one_too_many, put, rising};
 use crate::place::{StorePlace, StoreStatus, Telling};
-use crate::renewal::{open_all, renewed, store_schema};
+use crate::renewal::{leave, open_all, renewed, store_schema};
 use crate::stored_settings::fault_of;
 use crate::{OverrideStore, StoreFault};
 use history_model::{Setting, Text};
@@ -38,13 +38,13 @@ pub enum NotKept {
 
 /// The store at its place, with the settings that it must hold. A refused setting shuts it. The next setting opens it again, and before
 /// that setting is made, what its database then has otherwise is written back. When it is dropped, it closes its database whole.
-pub struct LastingSettings<S: Alter, P: StorePlace<Connection<S>>> {
+pub struct LastingSettings<S: Alter, P: StorePlace<Connection<S>, S>> {
     alloc: Global,
     pub place: P,
     /// The store, if it is not shut.
     pub store: Option<OverrideStore<S>>,
     /// One that a refusal shut. It keeps the place from others.
-    shut: Option<OverrideStore<S>>,
+    pub shut: Option<OverrideStore<S>>,
     pub known: Vec<Known>,
     /// The schema of a store. A store that is opened again is compared with it.
     pub pattern: Schema,
@@ -52,7 +52,7 @@ pub struct LastingSettings<S: Alter, P: StorePlace<Connection<S>>> {
     is_full: bool,
 }
 
-impl<S: Alter + Drop, P: StorePlace<Connection<S>> + Drop> Drop for LastingSettings<S, P> {
+impl<S: Alter + Drop, P: StorePlace<Connection<S>, S> + Drop> Drop for LastingSettings<S, P> {
     fn drop(self) {
         let LastingSettings {
             alloc,
@@ -63,9 +63,9 @@ impl<S: Alter + Drop, P: StorePlace<Connection<S>> + Drop> Drop for LastingSetti
             pattern,
             is_full: _,
         } = self;
-        drop(store);
-        drop(shut);
         let mut place = place;
+        leave_one(&mut place, store);
+        leave_one(&mut place, shut);
         settle(alloc, &mut place, &pattern, known.as_slice());
         drop(pattern);
         drop(known);
@@ -73,8 +73,22 @@ impl<S: Alter + Drop, P: StorePlace<Connection<S>> + Drop> Drop for LastingSetti
     }
 }
 
+// Closes the store, if there is one.
+fn leave_one<S: Alter + Drop, P: StorePlace<Connection<S>, S>>(
+    place: &mut P,
+    store: Option<OverrideStore<S>>,
+)
+    ensures asked { P.asked place.new ≡ P.asked place.old }
+    ensures found { IsOver S.Store P.finds P.over P.after P.is_open → Keeps (over_stores S.Store (P.finds place.old) None store) (P.finds place.new) }
+{
+    match store {
+        Some(store) => leave(place, store),
+        None => {}
+    }
+}
+
 // Opens the store again, to see and mend what others did to its files meanwhile, and closes it.
-fn settle<S: Alter + Drop, P: StorePlace<Connection<S>>>(
+fn settle<S: Alter + Drop, P: StorePlace<Connection<S>, S>>(
     alloc: Global,
     place: &mut P,
     pattern: &Schema,
@@ -91,7 +105,7 @@ fn settle<S: Alter + Drop, P: StorePlace<Connection<S>>>(
 
 /// The store on a connection to the database at the place, and the settings that it holds, by rising bytes of their labels. Refused as
 /// `opened` is.
-pub fn lasting<S: Alter + Drop, P: StorePlace<Connection<S>> + Drop>(
+pub fn lasting<S: Alter + Drop, P: StorePlace<Connection<S>, S> + Drop>(
     alloc: Global,
     place: P,
     conn: Connection<S>,
@@ -141,7 +155,7 @@ pub fn lasting<S: Alter + Drop, P: StorePlace<Connection<S>> + Drop>(
     }
 }
 
-impl<S: Alter + Drop, P: StorePlace<Connection<S>> + Drop> LastingSettings<S, P> {
+impl<S: Alter + Drop, P: StorePlace<Connection<S>, S> + Drop> LastingSettings<S, P> {
     // The store, taken out. It is opened again if it is shut.
     fn at_hand(&mut self) -> Result<OverrideStore<S>, StoreFault>
         ensures pattern { self.new.pattern ≡ self.old.pattern }
@@ -152,6 +166,14 @@ impl<S: Alter + Drop, P: StorePlace<Connection<S>> + Drop> LastingSettings<S, P>
             IfOk result (λ store. HoldsKnown (state S.Store store) self.old.known.items) }
         ensures asked { self.old.store ≡ None →
             IsAskedMore (P.asked self.old.place) (P.asked self.new.place) }
+        ensures crash { IsOver S.Store P.finds P.over P.after P.is_open → self.old.pattern ≡ both_schema → IfOk result (λ store. LeadsTo
+            (over_stores S.Store (P.finds self.old.place) self.old.store self.old.shut)
+            (over_connection S.Store (P.finds self.new.place) store)
+            (λ db. HoldsTrees db self.old.known.items)) }
+        ensures left { IsOver S.Store P.finds P.over P.after P.is_open → self.old.pattern ≡ both_schema → IfErr result (λ _. LeadsTo
+            (over_stores S.Store (P.finds self.old.place) self.old.store self.old.shut)
+            (over_stores S.Store (P.finds self.new.place) self.new.store self.new.shut)
+            (λ db. HoldsTrees db self.old.known.items)) }
     {
         match self.store.take() {
             Some(store) => Ok(store),
@@ -166,8 +188,16 @@ impl<S: Alter + Drop, P: StorePlace<Connection<S>> + Drop> LastingSettings<S, P>
         ensures holds { self.old.pattern ≡ both_schema →
             IfOk result (λ store. HoldsKnown (state S.Store store) self.old.known.items) }
         ensures asked { IsAskedMore (P.asked self.old.place) (P.asked self.new.place) }
+        ensures shut { self.new.shut ≡ None }
+        ensures crash { IsOver S.Store P.finds P.over P.after P.is_open → self.old.pattern ≡ both_schema → IfOk result (λ store. LeadsTo
+            (over_stores S.Store (P.finds self.old.place) None self.old.shut)
+            (over_connection S.Store (P.finds self.new.place) store)
+            (λ db. HoldsTrees db self.old.known.items)) }
+        ensures left { IsOver S.Store P.finds P.over P.after P.is_open → self.old.pattern ≡ both_schema → IfErr result (λ _. LeadsTo
+            (over_stores S.Store (P.finds self.old.place) None self.old.shut)
+            (P.finds self.new.place) (λ db. HoldsTrees db self.old.known.items)) }
     {
-        drop(self.shut.take());
+        leave_one(&mut self.place, self.shut.take());
         let telling = Telling::New;
         match renewed(
             self.alloc,
@@ -187,6 +217,7 @@ impl<S: Alter + Drop, P: StorePlace<Connection<S>> + Drop> LastingSettings<S, P>
         ensures known { self.new.known ≡ self.old.known }
         ensures store { self.new.store ≡ self.old.store }
         ensures place { self.new.place ≡ self.old.place }
+        ensures held { self.new.shut ≡ Some store }
     {
         self.place.tell(StoreStatus::Refused(fault));
         self.shut = Some(store);
@@ -205,6 +236,10 @@ impl<S: Alter + Drop, P: StorePlace<Connection<S>> + Drop> LastingSettings<S, P>
             HasMade (state S.Store store) label.now disabled changed self.old.known.items)) }
         ensures asked { self.old.store ≡ None →
             IsAskedMore (P.asked self.old.place) (P.asked self.new.place) }
+        ensures crash { IsOver S.Store P.finds P.over P.after P.is_open → self.old.pattern ≡ both_schema → AtHand S.Store self.old.store self.old.known.items → LeadsTo
+            (over_stores S.Store (P.finds self.old.place) self.old.store self.old.shut)
+            (over_stores S.Store (P.finds self.new.place) self.new.store self.new.shut)
+            (λ db. IsKnownOr db self.old.known.items label.now disabled changed) }
     {
         let mut store = match self.at_hand() {
             Ok(store) => store,
@@ -231,6 +266,7 @@ impl<S: Alter + Drop, P: StorePlace<Connection<S>> + Drop> LastingSettings<S, P>
         ensures room { IfOk result (λ _. vec_len self.new.known < vec_capacity self.new.known) }
         ensures full { result ≡ Err NotKept.TooMany ↔ IsOneTooMany self.old.known.items label.now }
         ensures place { self.new.place ≡ self.old.place }
+        ensures shut { self.new.shut ≡ self.old.shut }
         ensures memory { result ≢ Err NotKept.Refused }
     {
         if is_one_too_many(self.known.as_slice(), label) {
@@ -249,6 +285,9 @@ impl<S: Alter + Drop, P: StorePlace<Connection<S>> + Drop> LastingSettings<S, P>
     /// This is `set` of `SettingStore`. Once it returns Ok the setting lasts, and the store has all that was set, whatever was refused
     /// before. Err: the store need not hold the setting, though the database may have it until the store is opened again. A label is one
     /// too many exactly if it has no setting and `MOST_LABELS` have one.
+    ///
+    /// At each exit a stop leaves what one could leave before, or all that was set, or that with this setting. This holds over all openings
+    /// of the store, where each finds what the one before it left (`Finds`).
     pub fn keep(&mut self, label: &str, disabled: bool, changed: u64) -> Result<(), NotKept>
         requires label { IsTrue (is_label label.now) }
         requires second { changed ≤ MAX_WALL }
@@ -264,6 +303,10 @@ impl<S: Alter + Drop, P: StorePlace<Connection<S>> + Drop> LastingSettings<S, P>
             HasMade (state S.Store store) label.now disabled changed self.old.known.items))) }
         ensures asked { self.old.store ≡ None → result ≡ Err NotKept.Refused →
             IsAskedMore (P.asked self.old.place) (P.asked self.new.place) }
+        ensures crash { IsOver S.Store P.finds P.over P.after P.is_open → self.old.pattern ≡ both_schema → AtHand S.Store self.old.store self.old.known.items → LeadsTo
+            (over_stores S.Store (P.finds self.old.place) self.old.store self.old.shut)
+            (over_stores S.Store (P.finds self.new.place) self.new.store self.new.shut)
+            (λ db. IsKnownOr db self.old.known.items label.now disabled changed) }
     {
         match self.make_room(label) {
             Ok(()) => {}
@@ -287,7 +330,8 @@ impl<S: Alter + Drop, P: StorePlace<Connection<S>> + Drop> LastingSettings<S, P>
     }
 }
 
-impl<S: Alter + Drop, P: StorePlace<Connection<S>> + Drop> SettingStore for LastingSettings<S, P> {
+impl<S: Alter + Drop, P: StorePlace<Connection<S>, S> + Drop> SettingStore
+    for LastingSettings<S, P> {
     ghost holds = { λ s settings. HoldsLast S.Store s.pattern s.store s.known.items settings };
 
     ghost stamped = { λ s stamps. StampsLast S.Store s.pattern s.store s.known.items stamps };

@@ -11,9 +11,11 @@ ghost use Rattle.sqlite_wal.specs.Reads.{AreClean};
 ghost use Rattle.history_model.specs.declared.event.Setting.{Setting};
 ghost use Rattle.override_store.specs.OverrideStores.{HoldsNow, IsOpenedOn, HoldsOn, StaysSame, rows_now};
 ghost use Rattle.override_store.specs.Settings.{HoldsEach, ListAlike};
+ghost use Rattle.override_store.specs.Places.{IsOver};
+ghost use Rattle.sqlite.specs.Steps.{over_memory};
 
-use crate::OverrideStore;
-use sqlite::{Alter, Connection, FileStore};
+use crate::{MemoryPlace, OverrideStore, StorePlace};
+use sqlite::{Alter, Connection, FileStore, MemStore};
 use sqlite_disk::{Disk, Files};
 
 /// What a store held, a store holds that `open_on` gives on the connection that `close_on` gave.
@@ -59,4 +61,15 @@ pub fn what_all_lists_is_what_is_held<S: Alter>(store: &OverrideStore<S>)
         ListAlike (reverse listed) settings }
 {
     let _ = store;
+}
+
+/// A place in memory is one that `LastingSettings::keep` asks for: it says of its connections what a stop leaves under them.
+pub fn a_place_in_memory_is_over_its_connections(place: &MemoryPlace)
+    ensures { IsOver over_memory
+        ⟦<MemoryPlace as StorePlace<Connection<MemStore>, MemStore>>⟧.finds
+        ⟦<MemoryPlace as StorePlace<Connection<MemStore>, MemStore>>⟧.over
+        ⟦<MemoryPlace as StorePlace<Connection<MemStore>, MemStore>>⟧.after
+        ⟦<MemoryPlace as StorePlace<Connection<MemStore>, MemStore>>⟧.is_open }
+{
+    let _ = place;
 }

@@ -7,7 +7,7 @@ ghost use Rattle.sqlite.specs.Held.{state};
 ghost use Rattle.sqlite.specs.State.{HasCleanDisk, Survives};
 ghost use Rattle.sqlite_disk.specs.Disk.{MoreFaults};
 ghost use Rattle.sqlite.specs.Tree.{Trees};
-ghost use Rattle.sqlite.specs.View.{IsClean};
+ghost use Rattle.sqlite.specs.View.{IsClean, doubt};
 ghost use Rattle.override_store.specs.KnownSettings.{HoldsKnown, HoldsTrees};
 ghost use Rattle.history_model.specs.declared.TheConstants.{MAX_WALL};
 ghost use Rattle.history_model.specs.Labels.{is_label, is_same};
@@ -21,6 +21,7 @@ mod known;
 mod lasting_settings;
 pub mod laws;
 mod lists;
+mod memory_place;
 mod mending;
 mod open;
 mod place;
@@ -32,6 +33,7 @@ mod stored_settings;
 use history_model::Setting;
 pub use known::{Known, MOST_LABELS};
 pub use lasting_settings::{LastingSettings, NotKept, lasting};
+pub use memory_place::MemoryPlace;
 pub use place::{StorePlace, StoreStatus, Telling};
 use sqlite::{Alter, Connection, Error, ErrorCode};
 use sqlite_trees::store::Store;
@@ -97,6 +99,8 @@ impl<S: Alter + Drop> OverrideStore<S> {
         ensures left { IfErr result (λ e. IsClean (S.Store.view e.1) →
             AreFit (state S.Store conn).committed.trees → (db : Trees) → S.Store.recovers e.1 db →
             (state S.Store conn).may_leave db ⊎ HoldsAs (state S.Store conn).committed.trees db) }
+        ensures doubted { IfErr result (λ e.
+            doubt (state S.Store conn).is_clean ≤ doubt (S.Store.view e.1).is_clean) }
         ensures known { IfErr result (λ e. e.0 ≢ StoreFault.Foreign) }
     {
         let mut conn = match open::renewed(alloc, conn) {

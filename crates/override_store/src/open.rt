@@ -30,6 +30,8 @@ pub(crate) fn renewed<S: Alter + Drop>(
         (db : Trees) → (state S.Store c).may_leave db → (state S.Store conn).may_leave db) }
     ensures left { IfErr result (λ e.
         (db : Trees) → S.Store.recovers e.1 db → (state S.Store conn).may_leave db) }
+    ensures doubted { IfErr result (λ e.
+        doubt (state S.Store conn).is_clean ≤ doubt (S.Store.view e.1).is_clean) }
     ensures known { IfErr result (λ e. e.0 ≢ StoreFault.Foreign) }
 {
     let store = conn.into_store();

@@ -1,7 +1,7 @@
 //! The place of a launcher's store, as the system or a test has it.
 
-ghost use Rattle.std.specs.Prelude.{ℕ, Option};
-ghost use Rattle.override_store.specs.Places.{IsAskedOnce};
+ghost use Rattle.std.specs.Prelude.{◌≡◌, ℕ, IfErr, IfOk, Option};
+ghost use Rattle.override_store.specs.Places.{Finds, IsAskedOnce, Keeps};
 
 use crate::StoreFault;
 use std::alloc::Global;
@@ -28,14 +28,34 @@ pub enum Telling {
     AllButBusy,
 }
 
-/// Opens the database of a store, and again after its disk failed. A `C` is a connection to it.
-pub trait StorePlace<C> {
+/// Opens the database of a store, and again after its disk failed. A `C` is a connection to it, and an `L` is what is left of a closed one.
+pub trait StorePlace<C, L> {
     /// How often it was asked for a connection. A place that does not record it has none.
     ghost asked: { Self → Option ℕ };
 
-    /// A new connection to the database. No other connection that it gave is there any more. No clause says what it finds: the store looks.
+    /// What the next connection may find, if there is none now. A place that can't say so is not honest.
+    ghost finds: { Self → Finds };
+
+    /// What the next one may find where this connection is there.
+    ghost over: { Self → C → Finds };
+
+    /// What it may find where this is left of a connection.
+    ghost after: { Self → L → Finds };
+
+    /// The connection can be used.
+    ghost is_open: { C → Type 0 };
+
+    /// A new connection to the database. No other connection that it gave is there any more.
     fn open(&mut self, alloc: Global, telling: Telling) -> Result<C, StoreFault>
-        ensures asked { IsAskedOnce (Self.asked self.old) (Self.asked self.new) };
+        ensures asked { IsAskedOnce (Self.asked self.old) (Self.asked self.new) }
+        ensures is_open { IfOk result (λ conn. (Self.over self.new conn).IsHonest → Self.is_open conn) }
+        ensures found { IfOk result (λ conn. Keeps (Self.finds self.old) (Self.over self.new conn)) }
+        ensures refused { IfErr result (λ _. Keeps (Self.finds self.old) (Self.finds self.new)) };
+
+    /// Drops what is left of a connection that it gave.
+    fn leave(&mut self, left: L)
+        ensures asked { Self.asked self.new ≡ Self.asked self.old }
+        ensures found { Keeps (Self.after self.old left) (Self.finds self.new) };
 
     /// Moves what a log next to the database holds into it, and drops the connection.
     fn close(&self, conn: C);

@@ -1,18 +1,17 @@
 //! A store that is opened again: its database is made to have what it must hold.
 
-ghost use Rattle.std.specs.Prelude.{◌≡◌, ◌⊎◌, IfErr, IfOk, IsTrue, None};
+ghost use Rattle.std.specs.Prelude.{◌≡◌, ◌⊎◌, ◌≤◌, IfErr, IfOk, IsTrue, None};
 ghost use Rattle.sqlite_catalog.specs.Listing.{IsSound};
-ghost use Rattle.override_store.specs.StoreTables.{both_schema};
+ghost use Rattle.override_store.specs.StoreTables.{both_schema, no_schema};
 ghost use Rattle.sqlite.specs.Held.{state};
 ghost use Rattle.sqlite.specs.State.{HasCleanDisk};
 ghost use Rattle.sqlite.specs.Tree.{Trees};
-ghost use Rattle.sqlite.specs.View.{IsClean};
-ghost use Rattle.override_store.specs.OverrideStores.{AreFit, HoldsAs};
-ghost use Rattle.override_store.specs.KnownSettings.{HoldsKnown};
-ghost use Rattle.override_store.specs.Places.{IsAskedMore};
+ghost use Rattle.sqlite.specs.View.{IsClean, doubt};
+ghost use Rattle.override_store.specs.OverrideStores.{AreFit, HoldsAs, IsOurs};
+ghost use Rattle.override_store.specs.KnownSettings.{HoldsKnown, HoldsTrees};
+ghost use Rattle.override_store.specs.Places.{IsAskedMore, IsOver, Keeps, LeadsTo, over_connection};
 
 use crate::known::{Known, are_same};
-use crate::open::open_tables;
 use crate::place::{StorePlace, StoreStatus, Telling};
 use crate::sameness::Same;
 use crate::{OverrideStore, StoreFault};
@@ -35,6 +34,10 @@ pub(crate) fn open_all<S: Alter + Drop>(
     ensures left { IfErr result (λ e. IsClean (S.Store.view e.1) →
         AreFit (state S.Store conn).committed.trees → (db : Trees) → S.Store.recovers e.1 db →
         (state S.Store conn).may_leave db ⊎ HoldsAs (state S.Store conn).committed.trees db) }
+    ensures clean { IfOk result (λ r.
+        doubt (state S.Store conn).is_clean ≤ doubt (state S.Store r.0).is_clean) }
+    ensures doubted { IfErr result (λ e.
+        doubt (state S.Store conn).is_clean ≤ doubt (S.Store.view e.1).is_clean) }
 {
     let mut store = match OverrideStore::open_or_give(alloc, conn) {
         Ok(store) => store,
@@ -47,7 +50,7 @@ pub(crate) fn open_all<S: Alter + Drop>(
 }
 
 // It reports a refusal.
-fn open_at<S: Alter + Drop, P: StorePlace<Connection<S>>>(
+fn open_at<S: Alter + Drop, P: StorePlace<Connection<S>, S>>(
     alloc: Global,
     place: &mut P,
     pattern: &Schema,
@@ -56,53 +59,52 @@ fn open_at<S: Alter + Drop, P: StorePlace<Connection<S>>>(
     ensures holds { pattern.now ≡ both_schema →
         IfOk result (λ r. HoldsKnown (state S.Store r.0) r.1.items) }
     ensures asked { IsAskedMore (P.asked place.old) (P.asked place.new) }
+    ensures crash { IsOver S.Store P.finds P.over P.after P.is_open → pattern.now ≡ both_schema → IfOk result (λ r.
+        LeadsTo (P.finds place.old) (over_connection S.Store (P.finds place.new) r.0) (λ _. ⊥)) }
+    ensures left { IsOver S.Store P.finds P.over P.after P.is_open → pattern.now ≡ both_schema → IfErr result (λ _.
+        LeadsTo (P.finds place.old) (P.finds place.new) (λ _. ⊥)) }
 {
     let conn = match place.open(alloc, telling) {
         Ok(conn) => conn,
         Err(fault) => return Err(fault),
     };
-    let conn = match fit(conn, pattern) {
-        Ok(conn) => conn,
-        Err((fault, store)) => {
-            drop(store);
-            return Err(told(place, telling, fault));
-        }
-    };
+    if !is_fit(&conn, pattern) {
+        place.leave(conn.into_store());
+        return Err(told(place, telling, StoreFault::Foreign));
+    }
     match open_all(alloc, conn) {
         Ok(both) => Ok(both),
         Err((fault, store)) => {
-            drop(store);
+            place.leave(store);
             Err(told(place, telling, fault))
         }
     }
 }
 
-// The connection with the tables of a store, and with nothing else.
-fn fit<S: Alter + Drop>(
-    conn: Connection<S>,
-    pattern: &Schema,
-) -> Result<Connection<S>, (StoreFault, S)>
-    ensures { pattern.now ≡ both_schema →
-        IfOk result (λ conn. HasCleanDisk (state S.Store conn) → IsTrue (state S.Store conn).is_open →
-        AreFit (state S.Store conn).committed.trees) }
+// Whether the database has the tables of a store and nothing else, or no table at all. Nothing is written to another one.
+fn is_fit<S: Alter>(conn: &Connection<S>, pattern: &Schema) -> bool
+    ensures { IsTrue result → pattern.now ≡ both_schema → IsTrue (state S.Store conn.now).is_open →
+        AreFit (state S.Store conn.now).committed.trees }
 {
-    let mut conn = conn;
-    if is_empty(&conn) {
-        match open_tables(&mut conn) {
-            Ok(()) => {}
-            Err(fault) => return Err((fault, conn.into_store())),
-        }
-    }
-    if has_schema(&conn, pattern) {
-        Ok(conn)
+    if is_empty(conn) {
+        true
     } else {
-        Err((StoreFault::Foreign, conn.into_store()))
+        has_schema(conn, pattern)
     }
 }
 
-// Nothing is written to a database that has other tables.
-fn is_empty<S: Alter>(conn: &Connection<S>) -> bool {
-    let schema = conn.schema();
+// Whether the database has no table, with no transaction open.
+fn is_empty<S: Alter>(conn: &Connection<S>) -> bool
+    ensures { IsTrue result → IsTrue (state S.Store conn.now).is_open →
+        IsSound no_schema (state S.Store conn.now).committed.trees }
+{
+    let is_settled = conn.is_autocommit();
+    is_settled && has_nothing(conn.schema())
+}
+
+fn has_nothing(schema: &Schema) -> bool
+    ensures { IsTrue result → schema.now ≡ no_schema }
+{
     let has_no_table = schema.tables.is_empty();
     let has_no_index = schema.indexes.is_empty();
     let has_no_view = schema.views.is_empty();
@@ -138,7 +140,11 @@ pub(crate) fn store_schema(alloc: Global) -> Result<Schema, StoreFault>
     }
 }
 
-fn told<C, P: StorePlace<C>>(place: &P, telling: Telling, fault: StoreFault) -> StoreFault
+fn told<S: Alter, P: StorePlace<Connection<S>, S>>(
+    place: &P,
+    telling: Telling,
+    fault: StoreFault,
+) -> StoreFault
     ensures { result ≡ fault }
 {
     match telling {
@@ -148,7 +154,7 @@ fn told<C, P: StorePlace<C>>(place: &P, telling: Telling, fault: StoreFault) -> 
 }
 
 // The store at its place, and what it has, if that is not what is known.
-fn look<S: Alter + Drop, P: StorePlace<Connection<S>>>(
+fn look<S: Alter + Drop, P: StorePlace<Connection<S>, S>>(
     alloc: Global,
     place: &mut P,
     pattern: &Schema,
@@ -157,7 +163,13 @@ fn look<S: Alter + Drop, P: StorePlace<Connection<S>>>(
 ) -> Result<(OverrideStore<S>, Option<Vec<Known>>), StoreFault>
     ensures holds { pattern.now ≡ both_schema →
         IfOk result (λ r. r.1 ≡ None → HoldsKnown (state S.Store r.0) known.now) }
+    ensures ours { pattern.now ≡ both_schema → IfOk result (λ r. HasCleanDisk (state S.Store r.0) →
+        IsTrue (state S.Store r.0).is_open → IsOurs (state S.Store r.0)) }
     ensures asked { IsAskedMore (P.asked place.old) (P.asked place.new) }
+    ensures crash { IsOver S.Store P.finds P.over P.after P.is_open → pattern.now ≡ both_schema → IfOk result (λ r.
+        LeadsTo (P.finds place.old) (over_connection S.Store (P.finds place.new) r.0) (λ _. ⊥)) }
+    ensures left { IsOver S.Store P.finds P.over P.after P.is_open → pattern.now ≡ both_schema → IfErr result (λ _.
+        LeadsTo (P.finds place.old) (P.finds place.new) (λ _. ⊥)) }
 {
     let (store, found) = match open_at(alloc, place, pattern, telling) {
         Ok(both) => both,
@@ -173,7 +185,7 @@ fn look<S: Alter + Drop, P: StorePlace<Connection<S>>>(
 
 /// The store opened again, with all that is known, and whether that had to be written back. If so, it reads the store again before it
 /// returns.
-pub(crate) fn renewed<S: Alter + Drop, P: StorePlace<Connection<S>>>(
+pub(crate) fn renewed<S: Alter + Drop, P: StorePlace<Connection<S>, S>>(
     alloc: Global,
     place: &mut P,
     pattern: &Schema,
@@ -183,6 +195,11 @@ pub(crate) fn renewed<S: Alter + Drop, P: StorePlace<Connection<S>>>(
     ensures holds { pattern.now ≡ both_schema →
         IfOk result (λ r. HoldsKnown (state S.Store r.0) known.now) }
     ensures asked { IsAskedMore (P.asked place.old) (P.asked place.new) }
+    ensures crash { IsOver S.Store P.finds P.over P.after P.is_open → pattern.now ≡ both_schema → IfOk result (λ r.
+        LeadsTo (P.finds place.old) (over_connection S.Store (P.finds place.new) r.0)
+        (λ db. HoldsTrees db known.now)) }
+    ensures left { IsOver S.Store P.finds P.over P.after P.is_open → pattern.now ≡ both_schema → IfErr result (λ _.
+        LeadsTo (P.finds place.old) (P.finds place.new) (λ db. HoldsTrees db known.now)) }
 {
     let (store, other) = match look(alloc, place, pattern, known, telling) {
         Ok(both) => both,
@@ -192,7 +209,7 @@ pub(crate) fn renewed<S: Alter + Drop, P: StorePlace<Connection<S>>>(
         None => Ok((store, false)),
         Some(found) => {
             drop(found);
-            match mend(store, known) {
+            match mend(place, store, known) {
                 Ok(()) => look_again(alloc, place, pattern, known, telling),
                 Err(fault) => Err(told(place, telling, fault)),
             }
@@ -201,7 +218,7 @@ pub(crate) fn renewed<S: Alter + Drop, P: StorePlace<Connection<S>>>(
 }
 
 // The store, once it was mended.
-fn look_again<S: Alter + Drop, P: StorePlace<Connection<S>>>(
+fn look_again<S: Alter + Drop, P: StorePlace<Connection<S>, S>>(
     alloc: Global,
     place: &mut P,
     pattern: &Schema,
@@ -211,6 +228,10 @@ fn look_again<S: Alter + Drop, P: StorePlace<Connection<S>>>(
     ensures holds { pattern.now ≡ both_schema →
         IfOk result (λ r. HoldsKnown (state S.Store r.0) known.now) }
     ensures asked { IsAskedMore (P.asked place.old) (P.asked place.new) }
+    ensures crash { IsOver S.Store P.finds P.over P.after P.is_open → pattern.now ≡ both_schema → IfOk result (λ r.
+        LeadsTo (P.finds place.old) (over_connection S.Store (P.finds place.new) r.0) (λ _. ⊥)) }
+    ensures left { IsOver S.Store P.finds P.over P.after P.is_open → pattern.now ≡ both_schema → IfErr result (λ _.
+        LeadsTo (P.finds place.old) (P.finds place.new) (λ _. ⊥)) }
 {
     let (store, other) = match look(alloc, place, pattern, known, telling) {
         Ok(both) => both,
@@ -219,17 +240,37 @@ fn look_again<S: Alter + Drop, P: StorePlace<Connection<S>>>(
     match other {
         None => Ok((store, true)),
         Some(found) => {
-            drop(store);
+            leave(place, store);
             drop(found);
             Err(told(place, telling, StoreFault::Refused))
         }
     }
 }
 
-// Makes the store have what is known, and drops it.
-fn mend<S: Alter + Drop>(store: OverrideStore<S>, known: &[Known]) -> Result<(), StoreFault> {
+// Makes the store have what is known, and closes it.
+fn mend<S: Alter + Drop, P: StorePlace<Connection<S>, S>>(
+    place: &mut P,
+    store: OverrideStore<S>,
+    known: &[Known],
+) -> Result<(), StoreFault>
+    ensures asked { P.asked place.new ≡ P.asked place.old }
+    ensures crash { IsOver S.Store P.finds P.over P.after P.is_open → (HasCleanDisk (state S.Store store) → IsTrue (state S.Store store).is_open →
+        IsOurs (state S.Store store)) → LeadsTo (over_connection S.Store (P.finds place.old) store)
+        (P.finds place.new) (λ db. HoldsTrees db known.now) }
+{
     let mut store = store;
     let mended = store.mend(known);
-    drop(store);
+    leave(place, store);
     mended
+}
+
+/// Closes the store, and has the place drop what is under its connection.
+pub(crate) fn leave<S: Alter + Drop, P: StorePlace<Connection<S>, S>>(
+    place: &mut P,
+    store: OverrideStore<S>,
+)
+    ensures asked { P.asked place.new ≡ P.asked place.old }
+    ensures found { IsOver S.Store P.finds P.over P.after P.is_open → Keeps (over_connection S.Store (P.finds place.old) store) (P.finds place.new) }
+{
+    place.leave(store.close_on().into_store());
 }

@@ -17,8 +17,11 @@ pub(crate) trait ConnectionTask {
     fn over<S: Alter + Drop>(self, conn: Connection<S>) -> Result<Self::Done, (StoreRefusal, Self)>;
 }
 
-/// A connection to the database of such files.
-pub(crate) type MediaConnection = Connection<FileStore<Medium<File, Memory>>>;
+/// What is under a connection to the database of such files.
+pub(crate) type MediaStore = FileStore<Medium<File, Memory>>;
+
+/// A connection to it.
+pub(crate) type MediaConnection = Connection<MediaStore>;
 
 /// Opens the database of these files, and does the task over it.
 pub(crate) fn over_files<T: ConnectionTask>(

@@ -1,8 +1,11 @@
 //! The store of a launcher: opened, served from, and settled once the launcher has released it.
 
 ghost use Rattle.std.specs.Prelude.{None};
+ghost use Rattle.override_store.specs.Places.{unknown};
 
-use crate::connections::{ConnectionTask, Media, MediaConnection, connection_over, over_files};
+use crate::connections::{
+    ConnectionTask, Media, MediaConnection, MediaStore, connection_over, over_files,
+};
 use crate::looking::{StoreKind, copied_connection, look};
 use crate::medium::Medium;
 use crate::one_file::taken_for_store;
@@ -119,7 +122,7 @@ fn used_over<U: StoreUser>(
 
 // The settings at the place. If it is refused, what is under the connection is dropped. This is over any store, since a
 // real one would be dropped part by part.
-fn settings_of<S: Alter + Drop, P: StorePlace<Connection<S>> + Drop>(
+fn settings_of<S: Alter + Drop, P: StorePlace<Connection<S>, S> + Drop>(
     alloc: Global,
     place: P,
     conn: Connection<S>,
@@ -182,15 +185,27 @@ impl StoreFiles<'_> {
     }
 }
 
-impl StorePlace<MediaConnection> for StoreFiles<'_> {
-    // Contracts do not see what is asked of the system.
+impl StorePlace<MediaConnection, MediaStore> for StoreFiles<'_> {
+    // Contracts do not see what is asked of the system, nor what it finds.
     ghost asked = { λ s. None };
+
+    ghost finds = { λ s. unknown };
+
+    ghost over = { λ s conn. unknown };
+
+    ghost after = { λ s left. unknown };
+
+    ghost is_open = { λ conn. Unit {0} };
 
     fn open(&mut self, _alloc: Global, telling: Telling) -> Result<MediaConnection, StoreFault> {
         match private_connection_at(self.rt, self.path) {
             Ok(conn) => Ok(conn),
             Err(refusal) => Err(fault_of(self, telling, refusal)),
         }
+    }
+
+    fn leave(&mut self, left: MediaStore) {
+        drop(left);
     }
 
     fn close(&self, conn: MediaConnection) {

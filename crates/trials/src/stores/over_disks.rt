@@ -2,6 +2,7 @@
 //! to prove.
 
 ghost use Rattle.std.specs.Prelude.{None};
+ghost use Rattle.override_store.specs.Places.{unknown};
 
 use crate::stores::asked::{Asked, ask_all, has_asked, set_all};
 use crate::stores::calls::{Row, has, opened, runs};
@@ -30,11 +31,11 @@ pub enum Task {
 /// What the launcher's connection has, too. It makes room for all of them when it is opened: with the 2,000 of `Options::new` a run took three times as long.
 const CACHE_PAGES: usize = 64;
 
+/// What is under a connection to the database on a machine's disks.
+type DiskStore<'a> = FileStore<LentDisk<'a, Memory>>;
+
 /// A connection to the database on the machine's disks, which are lent for it.
-fn connected(
-    alloc: Global,
-    machine: &Machine,
-) -> Result<Connection<FileStore<LentDisk<'_, Memory>>>, StoreFault> {
+fn connected(alloc: Global, machine: &Machine) -> Result<Connection<DiskStore<'_>>, StoreFault> {
     let Some(files) = machine.files() else {
         return Err(StoreFault::Refused);
     };
@@ -58,18 +59,31 @@ struct DiskPlace<'a> {
     machine: &'a Machine,
 }
 
-impl<'a> StorePlace<Connection<FileStore<LentDisk<'a, Memory>>>> for DiskPlace<'a> {
+impl<'a> StorePlace<Connection<DiskStore<'a>>, DiskStore<'a>> for DiskPlace<'a> {
+    // Contracts do not see the disks, which are in cells.
     ghost asked = { λ s. None };
+
+    ghost finds = { λ s. unknown };
+
+    ghost over = { λ s conn. unknown };
+
+    ghost after = { λ s left. unknown };
+
+    ghost is_open = { λ conn. Unit {0} };
 
     fn open(
         &mut self,
         alloc: Global,
         _telling: Telling,
-    ) -> Result<Connection<FileStore<LentDisk<'a, Memory>>>, StoreFault> {
+    ) -> Result<Connection<DiskStore<'a>>, StoreFault> {
         connected(alloc, self.machine)
     }
 
-    fn close(&self, conn: Connection<FileStore<LentDisk<'a, Memory>>>) {
+    fn leave(&mut self, left: DiskStore<'a>) {
+        drop(left);
+    }
+
+    fn close(&self, conn: Connection<DiskStore<'a>>) {
         drop(conn.close());
     }
 
@@ -77,7 +91,7 @@ impl<'a> StorePlace<Connection<FileStore<LentDisk<'a, Memory>>>> for DiskPlace<'
 }
 
 /// Whether the task goes well over the launcher's store.
-fn kept<S: Alter + Drop, P: StorePlace<Connection<S>> + Drop>(
+fn kept<S: Alter + Drop, P: StorePlace<Connection<S>, S> + Drop>(
     alloc: Global,
     store: LastingSettings<S, P>,
     task: Task,
@@ -97,7 +111,7 @@ fn kept<S: Alter + Drop, P: StorePlace<Connection<S>> + Drop>(
 }
 
 /// The same, over a connection to its database.
-fn kept_on<S: Alter + Drop, P: StorePlace<Connection<S>> + Drop>(
+fn kept_on<S: Alter + Drop, P: StorePlace<Connection<S>, S> + Drop>(
     alloc: Global,
     place: P,
     conn: Connection<S>,
@@ -143,7 +157,7 @@ fn is_run<S: Alter + Drop>(conn: Connection<S>, sql: &str) -> bool {
     is_so
 }
 
-fn done_on<S: Alter + Drop, P: StorePlace<Connection<S>> + Drop>(
+fn done_on<S: Alter + Drop, P: StorePlace<Connection<S>, S> + Drop>(
     alloc: Global,
     place: P,
     conn: Connection<S>,
