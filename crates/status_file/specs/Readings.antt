@@ -40,6 +40,10 @@ JournalAt object (journals.Closed reason) =
 abbrev pub LaterCount : List ℕ → Option Data → Option ℕ → Type 0
 LaterCount key object count = Lacks (value_at key object) count (CountIf key object count)
 
+-- a flag or null, under a key that may be absent
+abbrev pub LaterFlag : List ℕ → Option Data → Option Bool → Type 0
+LaterFlag key object flag = Lacks (value_at key object) flag (FlagIf key object flag)
+
 -- the launcher of an object
 pub record LauncherAt (object : Option Data) (launcher : LauncherStatus) : Type 0 where
   pub version : text_at (codes "version") object ≡ Some launcher.version.now
@@ -51,6 +55,7 @@ pub record LauncherAt (object : Option Data) (launcher : LauncherStatus) : Type 
   pub store : TextIf (codes "store") object launcher.store
   pub renewed_each : LaterCount (codes "renewed_each") object launcher.renewed_each
   pub failed_calls : LaterCount (codes "failed_calls") object launcher.failed_calls
+  pub is_shutting_down : LaterFlag (codes "shutting_down") object launcher.is_shutting_down
   pub jobs : count_at (codes "jobs") object ≡ Some launcher.jobs
 
 -- ---- what the table says of a job

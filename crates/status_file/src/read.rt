@@ -4,7 +4,7 @@ ghost use Rattle.std.specs.Prelude.{◌≡◌, Some, None, IfErr, IfOk, IfSome, 
 ghost use Rattle.json_kinds.specs.Json.{json_in};
 ghost use Rattle.serde_json.specs.View.{view};
 ghost use Rattle.status_file.specs.Reads.{IsReading, NullOr, object_of, value_at};
-ghost use Rattle.status_file.specs.Readings.{ChildAt, ConditionsAt, DemandAt, DisabledAt, EndAt, FactsAt, HasRun, JobAt, JournalAt, KeysAt, LaterCount, LaterReading, LaterText, LauncherAt, NoteAt, OrderAt, PaceAt, PathsAt, ReadingIf, ReasonsAt, RefusedAt, WantsAt};
+ghost use Rattle.status_file.specs.Readings.{ChildAt, ConditionsAt, DemandAt, DisabledAt, EndAt, FactsAt, HasRun, JobAt, JournalAt, KeysAt, LaterCount, LaterFlag, LaterReading, LaterText, LauncherAt, NoteAt, OrderAt, PaceAt, PathsAt, ReadingIf, ReasonsAt, RefusedAt, WantsAt};
 ghost use Rattle.status_file.specs.Tokens.{order_text};
 ghost use Rattle.status_file.specs.declared.read.StatusFault.TheVariants.{NotJson};
 
@@ -70,6 +70,7 @@ impl StatusLine {
             store: fields.text_if("store"),
             renewed_each: later_count(&mut fields, "renewed_each"),
             failed_calls: later_count(&mut fields, "failed_calls"),
+            is_shutting_down: later_flag(&mut fields, "shutting_down"),
             jobs: fields.count("jobs"),
         };
         match fields.fault {
@@ -243,6 +244,19 @@ fn later_count(fields: &mut Fields<'_>, key: &'static str) -> Option<u64>
 {
     if fields.has(key) {
         fields.count_if(key)
+    } else {
+        None
+    }
+}
+
+// Such a flag, or null.
+fn later_flag(fields: &mut Fields<'_>, key: &'static str) -> Option<bool>
+    ensures object { fields.new.object ≡ fields.old.object }
+    ensures kept { fields.new.fault ≡ None → fields.old.fault ≡ None }
+    ensures value { fields.new.fault ≡ None → LaterFlag key.now (object_of fields.old) result }
+{
+    if fields.has(key) {
+        fields.flag_if(key)
     } else {
         None
     }
