@@ -62,6 +62,7 @@ def what_a_status_file_holds(stage):
     check(first["jobs"] == 0, f"its count of jobs: {first}")
     check(first["journal"] == "open" and first["journal_reason"] is None and first["store"] is None, f"its journal and store: {first}")
     check(first["failed_calls"] == 0, f"its failed calls: {first}")
+    check(first["shutting_down"] is False, f"it is shutting down: {first}")
     header = json.loads(first["header"])
     check(header["overrides"] == {} and header["zone"] == "UTC0", f"its header: {header}")
     check(abs(first["at"]["wall"] - time.time()) < BOUND, f"its moment: {first['at']}")
@@ -122,6 +123,7 @@ def what_a_status_file_holds(stage):
     job = job_where(path, "runs", lambda job: job["last_end"])
     check(job["last_end"].get("signal") == 15, f"its end: {job['last_end']}")
     launcher.shut_down()
+    check(told(path)[0]["shutting_down"] is True, f"it does not say that it is shutting down: {told(path)[0]}")
     check(sorted(os.listdir(stage.at("standing"))) == ["status.jsonl"], f"after the end there is {os.listdir(stage.at('standing'))}")
 
 
@@ -646,7 +648,7 @@ def calls_that_failed(stage):
     job_where(path, "folder", lambda job: job["refused"])
     check(failed_calls(stage, path) == told(path)[0]["failed_calls"] == 2, f"a folder that is not there: {told(path)[0]}")
     before = stage.at("standing/before.jsonl")
-    make(before, text_at(path).replace('"failed_calls":2,', ""))
+    make(before, text_at(path).replace('"failed_calls":2,"shutting_down":false,', ""))
     check("failed_calls" not in told(before)[0] and failed_calls(stage, before) is None, f"of version 0.3.0: {told(before)[0]}")
     launcher.shut_down()
 

@@ -152,6 +152,7 @@ impl Keeper {
             store,
             renewed_each: Some(RENEWED / SECOND),
             failed_calls: Some(self.failed_calls),
+            is_shutting_down: Some(table.is_shutting_down()),
             jobs,
         };
         add_launcher(&mut self.text, self.alloc, &launcher);

@@ -2,3 +2,8 @@ pub mod FactsLemmas
 pub mod FrontLemmas
 pub mod LinesLemmas
 pub mod JobsLemmas
+pub mod EntriesLemmas
+pub mod SortedLemmas
+pub mod ValueTokensLemmas
+pub mod ValueReadingsLemmas
+pub mod SameJobLemmas

@@ -7,3 +7,5 @@ pub mod Lines
 pub mod Jobs
 pub mod Reads
 pub mod Readings
+pub mod Values
+pub mod RoundTrip

@@ -1,10 +1,12 @@
 -- What the reader says of the launcher and of a job, by the JSON value that was read: each field is that of its key.
-use Rattle.std.specs.Prelude.{◌≡◌, ℕ, List, [], Bool, Option, Some, None, codes, is_some, unwrap_or, ⊤}
+use Rattle.std.specs.Prelude.{◌≡◌, ℕ, List, [], Bool, Option, Some, None, codes, is_some, option_and_then, unwrap_or, ⊤}
 use Rattle.std.specs.Borrow.{Bor}
+use Rattle.std.specs.List.{AllZip}
 use Rattle.history_model.specs.declared.Act.{Act}
 use Rattle.history_model.specs.declared.Act.TheVariants.{Spawn, Term, Kill, Close, Gone}
 use Rattle.history_model.specs.declared.Ended.{Ended}
 use Rattle.history_model.specs.declared.Ended.TheVariants.{Code, Signal}
+use Rattle.history_model.specs.declared.Entry.{Entry}
 use Rattle.history_model.specs.declared.Reading.{Reading}
 use Rattle.history_model.specs.declared.reasons.DemandKind.{DemandKind}
 use Rattle.history_model.specs.declared.reasons.Reasons.{Reasons}
@@ -14,7 +16,9 @@ use Rattle.job_core.specs.declared.job.moments.Moments.{Moments}
 use Rattle.run_log.specs.declared.facts.RefusedStart.{RefusedStart}
 use Rattle.run_log.specs.declared.facts.RunEnd.{RunEnd}
 use Rattle.serde_json.specs.Data.{Data, null}
-use Rattle.status_file.specs.Reads.{CountIf, FlagIf, IsReading, Lacks, NullOr, TextIf, count_at, flag_at, text_at, value_at}
+use Rattle.serde_json.specs.Find.{as_number, as_u64, at}
+use Rattle.serde_json.specs.View.{items_of}
+use Rattle.status_file.specs.Reads.{CountIf, FlagIf, IsReading, Lacks, NullOr, TextIf, count_at, flag_at, items_at, text_at, value_at}
 use Rattle.status_file.specs.Tokens.{demand_text, disabled_text, order_text}
 use Rattle.status_file.specs.declared.facts.JobFacts.{JobFacts}
 use Rattle.status_file.specs.declared.status.DisabledBy.{DisabledBy}
@@ -40,6 +44,10 @@ JournalAt object (journals.Closed reason) =
 abbrev pub LaterCount : List ℕ → Option Data → Option ℕ → Type 0
 LaterCount key object count = Lacks (value_at key object) count (CountIf key object count)
 
+-- a flag or null, under a key that may be absent
+abbrev pub LaterFlag : List ℕ → Option Data → Option Bool → Type 0
+LaterFlag key object flag = Lacks (value_at key object) flag (FlagIf key object flag)
+
 -- the launcher of an object
 pub record LauncherAt (object : Option Data) (launcher : LauncherStatus) : Type 0 where
   pub version : text_at (codes "version") object ≡ Some launcher.version.now
@@ -51,6 +59,7 @@ pub record LauncherAt (object : Option Data) (launcher : LauncherStatus) : Type 
   pub store : TextIf (codes "store") object launcher.store
   pub renewed_each : LaterCount (codes "renewed_each") object launcher.renewed_each
   pub failed_calls : LaterCount (codes "failed_calls") object launcher.failed_calls
+  pub is_shutting_down : LaterFlag (codes "shutting_down") object launcher.is_shutting_down
   pub jobs : count_at (codes "jobs") object ≡ Some launcher.jobs
 
 -- ---- what the table says of a job
@@ -210,3 +219,24 @@ pub record JobAt (object : Option Data) (job : JobStatus) : Type 0 where
   pub note : NoteAt object job.note
   pub keys : KeysAt (value_at (codes "keys") object) job.keys
   pub disabled : DisabledAt object job.disabled
+
+-- ---- its calendar
+
+-- a number of an entry, or null
+abbrev pub PartAt : Option Data → Option ℕ → Type 0
+PartAt value None = value ≡ Some null
+PartAt value (Some part) = option_and_then as_u64 (option_and_then as_number value) ≡ Some part
+
+-- an entry: its minute, hour, day, weekday and month, and no more
+pub record EntryAt (value : Data) (entry : Entry) : Type 0 where
+  pub minute : PartAt (at 0 value) entry.minute
+  pub hour : PartAt (at 1 value) entry.hour
+  pub day : PartAt (at 2 value) entry.day
+  pub weekday : PartAt (at 3 value) entry.weekday
+  pub month : PartAt (at 4 value) entry.month
+  pub no_more : at 5 value ≡ None
+
+-- the entries of the calendar: one for each item of the list, in order
+abbrev pub CalendarAt : Option Data → List Entry → Type 0
+CalendarAt object entries =
+    (values : List Data) × (items_at (codes "calendar") object ≡ Some (items_of values)) × AllZip EntryAt values entries

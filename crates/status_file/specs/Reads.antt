@@ -3,8 +3,8 @@ use Rattle.std.specs.Prelude.{◌≡◌, ℕ, List, Bool, Option, Some, None, op
 use Rattle.std.specs.Borrow.{Bor}
 use Rattle.std.specs.Option.{option_map}
 use Rattle.history_model.specs.declared.Reading.{Reading}
-use Rattle.serde_json.specs.Data.{Data, null}
-use Rattle.serde_json.specs.Find.{get, as_bool, as_number, as_str, as_u64}
+use Rattle.serde_json.specs.Data.{Data, Items, null}
+use Rattle.serde_json.specs.Find.{get, as_array, as_bool, as_number, as_str, as_u64}
 use Rattle.serde_json.specs.View.{view}
 use Rattle.status_file.specs.declared.fields.Fields.{Fields}
 
@@ -25,6 +25,10 @@ flag_at key object = option_and_then as_bool (value_at key object)
 
 abbrev pub text_at : List ℕ → Option Data → Option (List ℕ)
 text_at key object = option_and_then as_str (value_at key object)
+
+-- the items of the list under a key
+abbrev pub items_at : List ℕ → Option Data → Option Items
+items_at key object = option_and_then as_array (value_at key object)
 
 -- the number under a key, or null if there is none
 abbrev pub CountIf : List ℕ → Option Data → Option ℕ → Type 0

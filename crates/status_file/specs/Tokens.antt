@@ -121,12 +121,13 @@ journal_tokens journals.None = key (codes "journal") ∷ string (codes "none") �
 journal_tokens journals.Open = key (codes "journal") ∷ string (codes "open") ∷ key (codes "journal_reason") ∷ null ∷ []
 journal_tokens (journals.Closed reason) = key (codes "journal") ∷ string (codes "closed") ∷ key (codes "journal_reason") ∷ string reason.now ∷ []
 
--- what the store refused last, and its counts
+-- what the store refused last, its counts, and whether it is shutting down
 abbrev pub tallies_tokens : LauncherStatus → List Token
 tallies_tokens l =
     key (codes "store") ∷ text_token l.store
     ∷ key (codes "renewed_each") ∷ count_token l.renewed_each
     ∷ key (codes "failed_calls") ∷ count_token l.failed_calls
+    ∷ key (codes "shutting_down") ∷ flag_token l.is_shutting_down
     ∷ key (codes "jobs") ∷ number (decimal l.jobs)
     ∷ end_object ∷ end_object ∷ []
 

@@ -3,8 +3,8 @@
 ghost use Rattle.std.specs.Prelude.{◌≡◌, Some, None, true, IfSome, IsSome, is_some};
 ghost use Rattle.std.specs.Option.{option_map};
 ghost use Rattle.serde_json.specs.Data.{null};
-ghost use Rattle.serde_json.specs.View.{view};
-ghost use Rattle.status_file.specs.Reads.{CountIf, FlagIf, IsReading, TextIf, count_at, flag_at, object_of, text_at, value_at};
+ghost use Rattle.serde_json.specs.View.{items_view, view};
+ghost use Rattle.status_file.specs.Reads.{CountIf, FlagIf, IsReading, TextIf, count_at, flag_at, items_at, object_of, text_at, value_at};
 
 use crate::read::StatusFault;
 use history_model::Reading;
@@ -257,7 +257,11 @@ impl<'a> Fields<'a> {
     }
 
     /// The members of the list under the key; None after a fault.
-    pub(crate) fn list(&mut self, key: &'static str) -> Option<&'a [Value]> {
+    pub(crate) fn list(&mut self, key: &'static str) -> Option<&'a [Value]>
+        ensures object { self.new.object ≡ self.old.object }
+        ensures kept { self.new.fault ≡ None → self.old.fault ≡ None }
+        ensures value { IfSome result (λ values. items_at key.now (object_of self.old) ≡ Some (items_view values.now)) }
+    {
         let list = match self.found(key) {
             Some(value) => value.as_array(),
             None => None,

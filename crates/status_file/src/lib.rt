@@ -10,6 +10,7 @@ mod facts;
 mod fields;
 mod front;
 mod jobs;
+pub mod laws;
 mod line;
 mod names;
 mod read;

@@ -122,7 +122,9 @@ impl StatusText {
     }
 
     /// Nothing is written, as at first. The room stays.
-    pub fn clear(&mut self) {
+    pub fn clear(&mut self)
+        ensures { self.new.bytes.items ≡ [] }
+    {
         self.bytes.clear();
         self.is_refused = false;
     }

@@ -1,10 +1,13 @@
 //! The lines of a file, read.
 
-ghost use Rattle.std.specs.Prelude.{◌≡◌, Some, None, IfErr, IfOk, IfSome, codes};
+ghost use Rattle.std.specs.Prelude.{◌≡◌, ◌∷◌, ◌++◌, [], map, Some, None, IfErr, IfOk, IfSome, OnOk, codes};
+ghost use Rattle.std.specs.List.{AllZip};
+ghost use Rattle.history_model.specs.declared.Entry.{Entry};
 ghost use Rattle.json_kinds.specs.Json.{json_in};
+ghost use Rattle.serde_json.specs.Find.{at};
 ghost use Rattle.serde_json.specs.View.{view};
 ghost use Rattle.status_file.specs.Reads.{IsReading, NullOr, object_of, value_at};
-ghost use Rattle.status_file.specs.Readings.{ChildAt, ConditionsAt, DemandAt, DisabledAt, EndAt, FactsAt, HasRun, JobAt, JournalAt, KeysAt, LaterCount, LaterReading, LaterText, LauncherAt, NoteAt, OrderAt, PaceAt, PathsAt, ReadingIf, ReasonsAt, RefusedAt, WantsAt};
+ghost use Rattle.status_file.specs.Readings.{CalendarAt, ChildAt, ConditionsAt, DemandAt, DisabledAt, EndAt, EntryAt, FactsAt, HasRun, JobAt, JournalAt, KeysAt, LaterCount, LaterFlag, LaterReading, LaterText, LauncherAt, NoteAt, OrderAt, PaceAt, PartAt, PathsAt, ReadingIf, ReasonsAt, RefusedAt, WantsAt};
 ghost use Rattle.status_file.specs.Tokens.{order_text};
 ghost use Rattle.status_file.specs.declared.read.StatusFault.TheVariants.{NotJson};
 
@@ -70,6 +73,7 @@ impl StatusLine {
             store: fields.text_if("store"),
             renewed_each: later_count(&mut fields, "renewed_each"),
             failed_calls: later_count(&mut fields, "failed_calls"),
+            is_shutting_down: later_flag(&mut fields, "shutting_down"),
             jobs: fields.count("jobs"),
         };
         match fields.fault {
@@ -99,7 +103,10 @@ impl StatusLine {
     }
 
     /// The entries of the calendar of a job. Missing and Wrong, with the key; NoMemory.
-    pub fn calendar(&self, alloc: Global) -> Result<Vec<Entry>, StatusFault> {
+    pub fn calendar(&self, alloc: Global) -> Result<Vec<Entry>, StatusFault>
+        ensures { IfOk result (λ entries.
+            CalendarAt (value_at (codes "job") (Some (view self.now.value))) entries.items) }
+    {
         let mut line = Fields::of(&self.value);
         let mut fields = line.inside("job");
         let list = fields.list("calendar");
@@ -111,22 +118,26 @@ impl StatusLine {
     }
 }
 
-fn entries_in(alloc: Global, list: &[Value]) -> Result<Vec<Entry>, StatusFault> {
+fn entries_in(alloc: Global, list: &[Value]) -> Result<Vec<Entry>, StatusFault>
+    ensures { IfOk result (λ entries. AllZip EntryAt (map view list.now) entries.items) }
+{
     let mut entries = Vec::new(alloc);
     for item in list {
-        let is_added = match entry_in(item) {
-            Some(entry) => entries.push(entry).is_ok(),
-            None => {
-                drop(entries);
-                return Err(StatusFault::Wrong("calendar"));
-            }
-        };
-        if !is_added {
-            drop(entries);
-            return Err(StatusFault::NoMemory);
-        }
+        add_entry(&mut entries, item)?;
     }
     Ok(entries)
+}
+
+fn add_entry(entries: &mut Vec<Entry>, item: &Value) -> Result<(), StatusFault>
+    ensures { OnOk result ((entry : Entry) × (entries.new.items ≡ entries.old.items ++ entry ∷ []) × EntryAt (view item.now) entry) }
+{
+    let Some(entry) = entry_in(item) else {
+        return Err(StatusFault::Wrong("calendar"));
+    };
+    match entries.push(entry) {
+        Ok(()) => Ok(()),
+        Err(_) => Err(StatusFault::NoMemory),
+    }
 }
 
 fn journal_in<'a>(fields: &mut Fields<'a>) -> JournalStatus<'a>
@@ -149,21 +160,25 @@ fn journal_in<'a>(fields: &mut Fields<'a>) -> JournalStatus<'a>
 }
 
 // Five numbers, each or null.
-fn entry_in(item: &Value) -> Option<Entry> {
-    let parts = item.as_array()?.as_slice();
-    if parts.len() != 5 {
+fn entry_in(item: &Value) -> Option<Entry>
+    ensures { IfSome result (λ entry. EntryAt (view item.now) entry) }
+{
+    if item.get(5).is_some() {
         return None;
     }
     Some(Entry {
-        minute: part_in(&parts[0])?,
-        hour: part_in(&parts[1])?,
-        day: part_in(&parts[2])?,
-        weekday: part_in(&parts[3])?,
-        month: part_in(&parts[4])?,
+        minute: part_in(item, 0)?,
+        hour: part_in(item, 1)?,
+        day: part_in(item, 2)?,
+        weekday: part_in(item, 3)?,
+        month: part_in(item, 4)?,
     })
 }
 
-fn part_in(part: &Value) -> Option<Option<u8>> {
+fn part_in(item: &Value, place: usize) -> Option<Option<u8>>
+    ensures { IfSome result (λ part. PartAt (at place (view item.now)) part) }
+{
+    let part = item.get(place)?;
     if part.is_null() {
         return Some(None);
     }
@@ -243,6 +258,19 @@ fn later_count(fields: &mut Fields<'_>, key: &'static str) -> Option<u64>
 {
     if fields.has(key) {
         fields.count_if(key)
+    } else {
+        None
+    }
+}
+
+// Such a flag, or null.
+fn later_flag(fields: &mut Fields<'_>, key: &'static str) -> Option<bool>
+    ensures object { fields.new.object ≡ fields.old.object }
+    ensures kept { fields.new.fault ≡ None → fields.old.fault ≡ None }
+    ensures value { fields.new.fault ≡ None → LaterFlag key.now (object_of fields.old) result }
+{
+    if fields.has(key) {
+        fields.flag_if(key)
     } else {
         None
     }

@@ -41,6 +41,9 @@ pub struct LauncherStatus<'a> {
     /// How many calls for its jobs the system refused since the launcher began: starts, signals, questions about exits, binds and path checks, and
     /// clock readings. None also if a launcher of version 0.3.0 wrote the file.
     pub failed_calls: Option<u64>,
+    /// Whether a shutdown was accepted: then the launcher starts no job, and it ends once no job is loaded. None also if a launcher of version 0.3.0
+    /// wrote the file.
+    pub is_shutting_down: Option<bool>,
     /// How many jobs are loaded, and so how many lines follow this one.
     pub jobs: u64,
 }

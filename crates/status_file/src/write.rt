@@ -86,6 +86,8 @@ fn put_tallies(line: &mut LineWriter, launcher: LauncherStatus<'_>)
         count_piece(launcher.renewed_each),
         Key("failed_calls"),
         count_piece(launcher.failed_calls),
+        Key("shutting_down"),
+        flag_piece(launcher.is_shutting_down),
         Key("jobs"),
         Count(launcher.jobs),
         Close,
