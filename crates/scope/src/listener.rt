@@ -21,12 +21,41 @@ use run_times::{Page, utc};
 use std::alloc::{AllocError, Global};
 use std::mem;
 
+/// What is made of each line.
+#[derive(Clone, Copy)]
+enum Kept {
+    /// Nothing: the journal's end is asked for.
+    End,
+    /// The marks of a chart.
+    Marks,
+    /// The lines of a log.
+    Lines,
+}
+
+fn kept_for(task: &ScopeTask) -> Kept {
+    match task {
+        ScopeTask::Log(_) => Kept::Lines,
+        ScopeTask::Picture(_) => Kept::Marks,
+        ScopeTask::Check(_)
+        | ScopeTask::Next(_)
+        | ScopeTask::Status
+        | ScopeTask::Metrics
+        | ScopeTask::Why(_)
+        | ScopeTask::Runs(_)
+        | ScopeTask::Cron(_)
+        | ScopeTask::Plist(_)
+        | ScopeTask::Show
+        | ScopeTask::Drift => Kept::End,
+    }
+}
+
 /// Receives each line of a journal, and applies it to the journal's table. For a picture it keeps the marks of a chart, and for a log it
 /// shows the lines. Other tasks need only the journal's end.
 #[derive(Drop)]
 pub(crate) struct JournalListener<'a> {
     alloc: Global,
     pub(crate) of: &'a ScopeCommand,
+    kept: Kept,
     /// The journal, if its header was read.
     pub(crate) journal: Option<OpenJournal>,
     pub(crate) received: ReceivedMarks<'a>,
@@ -46,6 +75,7 @@ impl JournalListener<'_> {
         JournalListener {
             alloc,
             of,
+            kept: kept_for(&of.task),
             journal: None,
             received: ReceivedMarks::new(alloc, of.words.as_slice()),
             named: NamedLabels::new(alloc, of.words.as_slice()),
@@ -66,8 +96,8 @@ impl JournalListener<'_> {
 
     // The line of a log for the end of the journal that comes before this header, if that was not one in order.
     fn tell_end(&self, shown: &mut String) -> Result<(), JournalFault> {
-        match (&self.journal, self.of.task) {
-            (Some(journal), ScopeTask::Log) if self.tells(journal.table.reading()) => {
+        match (&self.journal, self.kept) {
+            (Some(journal), Kept::Lines) if self.tells(journal.table.reading()) => {
                 let zone = zone_shown(self.of, &self.utc, &journal.zone);
                 let mut page = Page::new(self.alloc, zone, journal.table.reading());
                 let life = if journal.has_ended() {
@@ -87,8 +117,8 @@ impl JournalListener<'_> {
 
     // The line of a log for a clock that was set, if the last line shows it; `before` is the clock reading before that line.
     fn tell_clock(&self, before: Reading, shown: &mut String) -> Result<(), JournalFault> {
-        match (&self.journal, self.of.task) {
-            (Some(journal), ScopeTask::Log) if self.tells(journal.table.reading()) => {
+        match (&self.journal, self.kept) {
+            (Some(journal), Kept::Lines) if self.tells(journal.table.reading()) => {
                 let now = journal.table.reading();
                 let zone = zone_shown(self.of, &self.utc, &journal.zone);
                 let mut page = Page::new(self.alloc, zone, now);
@@ -128,8 +158,8 @@ impl JournalListener<'_> {
         since: u64,
         shown: &mut String,
     ) -> Result<(), JournalFault> {
-        match (&self.journal, self.of.task) {
-            (Some(journal), ScopeTask::Log) if is_first && since > 0 => {
+        match (&self.journal, self.kept) {
+            (Some(journal), Kept::Lines) if is_first && since > 0 => {
                 let now = journal.table.reading();
                 if since >= now.wall {
                     return Ok(());
@@ -182,8 +212,8 @@ impl Receives for JournalListener<'_> {
         is_header: bool,
         shown: &mut String,
     ) -> Result<bool, JournalFault> {
-        let ended = match (&self.journal, self.of.task) {
-            (Some(journal), ScopeTask::Picture) if is_header => self
+        let ended = match (&self.journal, self.kept) {
+            (Some(journal), Kept::Marks) if is_header => self
                 .received
                 .end(&journal.past, journal.table.reading().wall),
             _ => Ok(()),
@@ -212,12 +242,12 @@ impl Receives for JournalListener<'_> {
         if self.named.see(news_of(&self.journal)).is_err() {
             return Err(JournalFault::NoMemory);
         }
-        let received = match (self.of.task, &self.journal) {
-            (ScopeTask::Picture, Some(journal)) => {
+        let received = match (self.kept, &self.journal) {
+            (Kept::Marks, Some(journal)) => {
                 let at = journal.table.reading().wall;
                 self.received.receive(at, journal.past.news.as_slice())
             }
-            (ScopeTask::Log, Some(journal)) => {
+            (Kept::Lines, Some(journal)) => {
                 let zone = zone_shown(self.of, &self.utc, &journal.zone);
                 let is_told = is_within(self.told, journal.table.reading().wall);
                 if is_told && (is_header || !journal.past.news.is_empty()) {
