@@ -1047,6 +1047,7 @@ def since_when_labels_are_disabled(stage):
 BOTH = "Its journal and its status file were read.\n"
 JOURNAL_ALONE = "Its journal alone was read: why starts were refused, what runs left running, and what the boot left out are not known.\n"
 FILE_ALONE = "Its status file alone was read: refused loads, who disabled a label, and unsupported conditions are not known.\n"
+LONG_JOURNAL = "Its status file alone was read, since its journal has more than 32 MiB: refused loads, who disabled a label, and unsupported conditions are not known.\n"
 
 
 def what_both_sources_say(stage):
@@ -1093,6 +1094,16 @@ def what_both_sources_say(stage):
           f"by the file alone: {status}, {text!r}, {error!r}")
     status, text, error = why("--status-file", path, "bad")
     check(status == 65 and "nothing here names bad" in error, f"a refused load by the file alone: {status}, {text!r}, {error!r}")
+    # A journal of more than 32 MiB is not read besides the file. What follows its lines in a copy is a hole.
+    long = make(stage.at("long"), text_at(journal))
+    os.truncate(long, 32 << 20)
+    status, text, error = why("--status-file", path, "off", JOBD_JOURNAL=long)
+    check(status == 0 and BOTH in text and facts["off"] in text, f"by a journal of 32 MiB: {status}, {text!r}, {error!r}")
+    os.truncate(long, (32 << 20) + 1)
+    status, text, error = why("--status-file", path, "off", JOBD_JOURNAL=long)
+    check(status == 0 and LONG_JOURNAL in text and "It is disabled since" in text and "jobctl disable" not in text,
+          f"by a longer journal: {status}, {text!r}, {error!r}")
+    os.unlink(long)
     # The file of another launcher says nothing of this one's jobs.
     text = why("--journal", journal, "refused", JOBD_STATUS_FILE=make(stage.at("other"), text_at(path).replace('\\"wall\\":', '\\"wall\\":1', 1)))[1]
     check(JOURNAL_ALONE in text and MISSING not in text, f"by another launcher's file: {text!r}")

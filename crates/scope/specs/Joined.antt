@@ -1,6 +1,6 @@
 -- What both sources of a launcher say of a label together: its status file has the present, and its journal the past.
 use Rattle.std.specs.Option.{option_map}
-use Rattle.std.specs.Prelude.{◌==◌, nat_lt, Bool, true, Option, Some, None, if◌then◌else◌}
+use Rattle.std.specs.Prelude.{◌==◌, ℕ, nat_lt, Bool, true, false, Option, Some, None, if◌then◌else◌}
 use Rattle.history_model.specs.declared.Reading.{Reading}
 use Rattle.run_log.specs.declared.facts.RefusedStart.{RefusedStart}
 use Rattle.status_file.specs.declared.status.DisabledBy.{DisabledBy as DisabledNow}
@@ -11,7 +11,15 @@ use Rattle.scope.specs.declared.joined.Disabled.{Disabled}
 use Rattle.scope.specs.declared.joined.Disabled.TheVariants.{Client, Since, Before, Unknown, Definition}
 use Rattle.scope.specs.declared.joined.LabelNow.{LabelNow}
 use Rattle.scope.specs.declared.joined.LabelPast.{LabelPast}
+use Rattle.scope.specs.declared.kept_journals.TheConstants.{MOST_BYTES}
 use Rattle.scope.specs.declared.known_runs.KnownRuns.{KnownRuns}
+
+-- ---- whether a journal is read besides a status file
+
+-- its length, if that is known, is more than 32 MiB
+abbrev pub is_long : Option ℕ → Bool
+is_long None = false
+is_long (Some length) = nat_lt MOST_BYTES length
 
 -- ---- by what a label is disabled
 

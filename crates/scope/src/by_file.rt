@@ -5,7 +5,7 @@ ghost use Rattle.scope.specs.Findings.{AreFound};
 
 use crate::as_root::read_for;
 use crate::asked::{NextAsked, WhyAsked};
-use crate::beside::{journal_beside, settings_of};
+use crate::beside::{BesideJournal, journal_beside, settings_of};
 use crate::clock::now;
 use crate::counted::counts_of;
 use crate::errors::put_errors;
@@ -240,11 +240,11 @@ fn tell_why(
     second: u64,
 ) -> io::Result<(Findings, Findings)> {
     let kept = if asked.is_failing {
-        None
+        BesideJournal::Unread
     } else {
         journal_beside(host, alloc, of, standing)?
     };
-    let told = put_why(host, alloc, asked, path, standing, second, kept.as_ref());
+    let told = put_why(host, alloc, asked, path, standing, second, &kept);
     drop(kept);
     told
 }
@@ -256,10 +256,11 @@ fn put_why(
     path: &str,
     standing: &StatusRead,
     second: u64,
-    journal: Option<&OpenJournal>,
+    beside: &BesideJournal,
 ) -> io::Result<(Findings, Findings)> {
     let labels = asked.labels;
-    let count = put_jobs(host, alloc, asked, standing, second, journal)?;
+    let journal = beside.journal();
+    let count = put_jobs(host, alloc, asked, standing, second, beside)?;
     let is_nowhere = tell_unknown(host, alloc, path, standing, labels, journal)?;
     if !asked.is_json {
         put_failed(host, alloc, asked, path, standing, second)?;
@@ -281,7 +282,7 @@ fn put_jobs(
     asked: WhyAsked<'_>,
     standing: &StatusRead,
     second: u64,
-    journal: Option<&OpenJournal>,
+    beside: &BesideJournal,
 ) -> io::Result<u64> {
     let labels = asked.labels;
     if asked.is_failing && !asked.is_json {
@@ -291,10 +292,17 @@ fn put_jobs(
     }
     let left = left_running(host, alloc, standing, labels)?;
     let made = if asked.is_json {
-        standing_objects(alloc, standing, asked, second, left.as_slice(), journal)
+        standing_objects(
+            alloc,
+            standing,
+            asked,
+            second,
+            left.as_slice(),
+            beside.journal(),
+        )
     } else {
         let left = left.as_slice();
-        match standing_text(alloc, standing, labels, asked.is_utc, second, left, journal) {
+        match standing_text(alloc, standing, labels, asked.is_utc, second, left, beside) {
             Ok(text) => Ok((text, 0)),
             Err(error) => Err(error),
         }

@@ -259,15 +259,29 @@ fn start_joined<'a>(start: RefusedStart<'a>, other: Option<RefusedStart<'a>>) ->
     }
 }
 
+/// Which sources of a launcher were read.
+#[derive(Clone, Copy)]
+pub(crate) enum SourcesRead {
+    /// Its journal and its status file.
+    Both,
+    JournalAlone,
+    FileAlone,
+    /// Its status file alone, since its journal has too many bytes.
+    FileOfLongJournal,
+}
+
 /// Which sources were read, as a line of the head, and what is not known without the other one.
-pub(crate) fn sources_said(has_journal: bool, has_file: bool) -> &'static str {
-    match (has_journal, has_file) {
-        (true, true) => "Its journal and its status file were read.\n",
-        (true, false) => {
+pub(crate) fn sources_said(sources: SourcesRead) -> &'static str {
+    match sources {
+        SourcesRead::Both => "Its journal and its status file were read.\n",
+        SourcesRead::JournalAlone => {
             "Its journal alone was read: why starts were refused, what runs left running, and what the boot left out are not known.\n"
         }
-        (false, _) => {
+        SourcesRead::FileAlone => {
             "Its status file alone was read: refused loads, who disabled a label, and unsupported conditions are not known.\n"
+        }
+        SourcesRead::FileOfLongJournal => {
+            "Its status file alone was read, since its journal has more than 32 MiB: refused loads, who disabled a label, and unsupported conditions are not known.\n"
         }
     }
 }

@@ -5,6 +5,7 @@ ghost use Rattle.calendar_due.specs.ZoneRules.{minute_at};
 ghost use Rattle.scope.specs.Told.{IsCalendarNext, facts_then};
 
 use crate::age::ENDING;
+use crate::beside::BesideJournal;
 use crate::errors::FailedRun;
 use crate::joined::{JoinedJournal, LabelNow, disabled_joined, line_with, sources_said};
 use crate::journal::labels::KnownLabels;
@@ -43,12 +44,10 @@ pub(crate) fn standing_text(
     is_utc: bool,
     second: u64,
     left: &[RunProcess],
-    journal: Option<&OpenJournal>,
+    beside: &BesideJournal,
 ) -> Result<String, AllocError> {
     let zone = standing.zone(alloc, false)?;
-    let text = text_in(
-        alloc, standing, labels, is_utc, second, &zone, left, journal,
-    );
+    let text = text_in(alloc, standing, labels, is_utc, second, &zone, left, beside);
     drop(zone);
     text
 }
@@ -62,12 +61,12 @@ fn text_in(
     second: u64,
     zone: &Zone,
     left: &[RunProcess],
-    journal: Option<&OpenJournal>,
+    beside: &BesideJournal,
 ) -> Result<String, AllocError> {
     let shown = standing.zone(alloc, is_utc)?;
     let last = reading_of(standing);
     let mut page = Page::new(alloc, &shown, told_as_of(standing, last, second));
-    add_all(&mut page, zone, standing, labels, second, left, journal);
+    add_all(&mut page, zone, standing, labels, second, left, beside);
     let text = page.into_text();
     drop(shown);
     text
@@ -81,13 +80,14 @@ fn add_all(
     labels: &[history_model::Text],
     second: u64,
     left: &[RunProcess],
-    journal: Option<&OpenJournal>,
+    beside: &BesideJournal,
 ) {
+    let journal = beside.journal();
     add_head(page, standing, second);
     if is_ending(standing, journal) {
         page.writer.put(ENDING);
     }
-    page.writer.put(sources_said(journal.is_some(), true));
+    page.writer.put(sources_said(beside.sources()));
     if standing.is_empty() {
         page.writer.put("\nNo job is loaded.\n");
     }
