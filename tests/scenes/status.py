@@ -1047,6 +1047,7 @@ def since_when_labels_are_disabled(stage):
 BOTH = "Its journal and its status file were read.\n"
 JOURNAL_ALONE = "Its journal alone was read: why starts were refused, what runs left running, and what the boot left out are not known.\n"
 FILE_ALONE = "Its status file alone was read: refused loads, who disabled a label, and unsupported conditions are not known.\n"
+UNREAD_FILE = "read without its launcher's status file: why starts were refused is not known"
 LONG_JOURNAL = "Its status file alone was read, since its journal has more than 32 MiB: refused loads, who disabled a label, and unsupported conditions are not known.\n"
 
 
@@ -1087,6 +1088,16 @@ def what_both_sources_say(stage):
         check(found["off"]["is_disabled"] and "disabled_since" in found["off"], f"objects by {words} {env}: {found}")
         status, text, error = why("--failing", *words, **env)
         check(status == 2 and f"refused: its last start was refused, at " in text and f": {MISSING}\n" in text, f"failing by {words} {env}: {status}, {text!r}")
+    # `log` and `runs` have the reason of the last refused start alone, and say if no status file was read.
+    seen = subprocess.run([*stage.given.jobscope, "log", "refused"], env={**kept, **socket}, capture_output=True, timeout=patience(), text=True, stdin=subprocess.DEVNULL)
+    check(seen.stdout.count(f"refused: run 1 was refused: {MISSING}; it waits until ") == 1 and not seen.stderr, f"the log: {seen}")
+    seen = subprocess.run([*stage.given.jobscope, "runs", "refused"], env={**kept, **socket}, capture_output=True, timeout=patience(), text=True, stdin=subprocess.DEVNULL)
+    check([it.split("\t")[-1] for it in seen.stdout.splitlines()] == ["reason", MISSING] and not seen.stderr, f"the runs: {seen}")
+    seen = subprocess.run([*stage.given.jobscope, "runs", "--json", "--journal", journal, "refused"], env={**kept, **file}, capture_output=True, timeout=patience(), text=True)
+    check(json.loads(seen.stdout)["reason"] == MISSING and not seen.stderr, f"the runs as an object: {seen}")
+    for word in ("log", "runs"):
+        seen = subprocess.run([*stage.given.jobscope, word, "--journal", journal, "refused"], env=kept, capture_output=True, timeout=patience(), text=True)
+        check(MISSING not in seen.stdout and seen.stderr == f"jobscope: {journal}: {UNREAD_FILE}\n", f"{word} by the journal alone: {seen}")
     status, text, error = why("--journal", journal, "refused")
     check(status == 0 and JOURNAL_ALONE in text and "was refused, at " in text and MISSING not in text, f"by the journal alone: {status}, {text!r}, {error!r}")
     status, text, error = why("--status-file", path, "off", "refused")

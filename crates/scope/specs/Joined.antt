@@ -1,6 +1,7 @@
 -- What both sources of a launcher say of a label together: its status file has the present, and its journal the past.
+use Rattle.std.specs.Borrow.{Bor}
 use Rattle.std.specs.Option.{option_map}
-use Rattle.std.specs.Prelude.{◌==◌, ℕ, nat_lt, Bool, true, false, Option, Some, None, if◌then◌else◌}
+use Rattle.std.specs.Prelude.{◌==◌, ◌&&◌, ℕ, List, nat_lt, Bool, true, false, Option, Some, None, if◌then◌else◌}
 use Rattle.history_model.specs.declared.Reading.{Reading}
 use Rattle.run_log.specs.declared.facts.RefusedStart.{RefusedStart}
 use Rattle.status_file.specs.declared.status.DisabledBy.{DisabledBy as DisabledNow}
@@ -89,6 +90,12 @@ start_joined start (Some other) = if other.run == start.run then record start { 
 abbrev pub refused_in : Option LabelNow → Option RefusedStart
 refused_in None = None
 refused_in (Some file) = file.refused
+
+-- The reason of a start that was refused by a journal, with this number and at this clock reading. The status file has it if its last refused start
+-- has both: numbers begin again with each load, and a journal has earlier refused starts too.
+abbrev pub reason_joined : ℕ → Reading → Option RefusedStart → Option (Bor (List ℕ))
+reason_joined run at None = None
+reason_joined run at (Some other) = if other.run == run && other.at.up == at.up then other.reason else None
 
 -- the runs of a journal, with that reason
 abbrev pub runs_joined : KnownRuns → Option LabelNow → KnownRuns

@@ -53,6 +53,46 @@ impl BesideJournal {
     }
 }
 
+/// The status file that is read besides journals, and the first clock reading of its launcher: that of `JOBD_STATUS_FILE`, else that of the launcher that
+/// is meant. Of its jobs it has those of the labels, or all if none is named. None: it can't be read, or is not a launcher's.
+pub(crate) fn file_beside(
+    host: &HostRuntime,
+    alloc: Global,
+    labels: &[Text],
+) -> Result<Option<(StatusRead, Reading)>, AllocError> {
+    let Some(path) = status_path(host, alloc)? else {
+        return Ok(None);
+    };
+    let read = read_standing(host, alloc, path.as_str(), labels);
+    drop(path);
+    match read {
+        Ok(standing) => with_begun(alloc, standing),
+        Err(Diagnostic::NoMemory | Diagnostic::Line(_, StatusFault::NoMemory)) => Err(AllocError),
+        unread => {
+            drop(unread);
+            Ok(None)
+        }
+    }
+}
+
+// The file with its launcher's first clock reading, if it has one.
+fn with_begun(
+    alloc: Global,
+    standing: StatusRead,
+) -> Result<Option<(StatusRead, Reading)>, AllocError> {
+    match begun_of(alloc, &standing) {
+        Ok(Some(begun)) => Ok(Some((standing, begun))),
+        Ok(None) => {
+            drop(standing);
+            Ok(None)
+        }
+        Err(error) => {
+            drop(standing);
+            Err(error)
+        }
+    }
+}
+
 /// The status file of the journal's launcher: that of `JOBD_STATUS_FILE`, else that of the launcher that is meant. Of its jobs it has those of the labels,
 /// or all if none is named. None: it can't be read, or is another launcher's.
 pub(crate) fn standing_beside(
@@ -61,16 +101,10 @@ pub(crate) fn standing_beside(
     begun: Reading,
     labels: &[Text],
 ) -> Result<Option<StatusRead>, AllocError> {
-    let Some(path) = status_path(host, alloc)? else {
-        return Ok(None);
-    };
-    let read = read_standing(host, alloc, path.as_str(), labels);
-    drop(path);
-    match read {
-        Ok(standing) => of_launcher(alloc, standing, begun),
-        Err(Diagnostic::NoMemory | Diagnostic::Line(_, StatusFault::NoMemory)) => Err(AllocError),
-        unread => {
-            drop(unread);
+    match file_beside(host, alloc, labels)? {
+        Some((standing, first)) if first == begun => Ok(Some(standing)),
+        other => {
+            drop(other);
             Ok(None)
         }
     }
@@ -85,25 +119,6 @@ fn status_path(host: &HostRuntime, alloc: Global) -> Result<Option<String>, Allo
         Err(error) => {
             drop(error);
             Err(AllocError)
-        }
-    }
-}
-
-// The file, if its launcher has this first clock reading.
-fn of_launcher(
-    alloc: Global,
-    standing: StatusRead,
-    begun: Reading,
-) -> Result<Option<StatusRead>, AllocError> {
-    match begun_of(alloc, &standing) {
-        Ok(Some(first)) if first == begun => Ok(Some(standing)),
-        Ok(_) => {
-            drop(standing);
-            Ok(None)
-        }
-        Err(error) => {
-            drop(standing);
-            Err(error)
         }
     }
 }

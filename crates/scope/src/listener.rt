@@ -9,15 +9,16 @@ use crate::journal::lines::Receives;
 use crate::journal::news::News;
 use crate::journal::reader::{OpenJournal, open};
 use crate::named_labels::NamedLabels;
-use crate::texts::log::add_lines;
+use crate::texts::log::{add_lines, tells_refused};
 use crate::texts::log_ends::{add_clock, add_end};
 use crate::window::{ReportedSpan, Window};
 use calendar_due::Zone;
-use history_model::Reading;
+use history_model::{Reading, Text};
 use launchctl_words::{ScopeCommand, ScopeTask};
 use launcher_life::Life;
 use run_times::Filling::Now;
 use run_times::{Page, utc};
+use status_page::StatusRead;
 use std::alloc::{AllocError, Global};
 use std::mem;
 
@@ -63,6 +64,10 @@ pub(crate) struct JournalListener<'a> {
     pub(crate) named: NamedLabels<'a>,
     pub(crate) utc: Zone,
     pub(crate) window: Window,
+    /// For a log, the status file of a launcher, and that launcher's first clock reading.
+    pub(crate) beside: Option<(&'a StatusRead, Reading)>,
+    /// Whether a start that was refused was shown of a launcher whose status file was not read.
+    pub(crate) lacks_reason: bool,
     /// Whether a later journal is left out, since it begins after the time that is asked for.
     pub(crate) is_followed: bool,
     /// The seconds of the window, by the zone of the last header.
@@ -81,6 +86,8 @@ impl JournalListener<'_> {
             named: NamedLabels::new(alloc, of.words.as_slice()),
             utc: utc(),
             window,
+            beside: None,
+            lacks_reason: false,
             is_followed: false,
             told: ReportedSpan {
                 since: 0,
@@ -251,7 +258,11 @@ impl Receives for JournalListener<'_> {
                 let zone = zone_shown(self.of, &self.utc, &journal.zone);
                 let is_told = is_within(self.told, journal.table.reading().wall);
                 if is_told && (is_header || !journal.past.news.is_empty()) {
-                    add_shown(self.alloc, self.of, journal, zone, is_header, shown)
+                    let file = file_of(journal, self.beside);
+                    let labels = self.of.words.as_slice();
+                    let lacks = file.is_none() && tells_refused(journal, labels);
+                    self.lacks_reason = self.lacks_reason || lacks;
+                    add_shown(self.alloc, labels, journal, file, zone, is_header, shown)
                 } else {
                     Ok(())
                 }
@@ -282,11 +293,23 @@ fn is_within(told: ReportedSpan, second: u64) -> bool {
     told.since <= second && second <= told.until
 }
 
+// The status file, if it is that of the journal's launcher.
+fn file_of<'a>(
+    journal: &OpenJournal,
+    beside: Option<(&'a StatusRead, Reading)>,
+) -> Option<&'a StatusRead> {
+    match beside {
+        Some((standing, begun)) if begun == journal.begun => Some(standing),
+        _ => None,
+    }
+}
+
 // Adds the lines for what the journal's last line gave. After the header's line it adds that a launcher began.
 fn add_shown(
     alloc: Global,
-    of: &ScopeCommand,
+    labels: &[Text],
     journal: &OpenJournal,
+    file: Option<&StatusRead>,
     zone: &Zone,
     is_header: bool,
     shown: &mut String,
@@ -299,7 +322,7 @@ fn add_shown(
         ""
     };
     page.add(front, &[Now]);
-    add_lines(&mut page, journal, of.words.as_slice());
+    add_lines(&mut page, journal, labels, file);
     add_text(page, shown)
 }
 

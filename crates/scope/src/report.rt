@@ -9,7 +9,7 @@ use crate::age::{AsOf, clock_as_of, reading_as_of};
 use crate::as_root::read_for;
 use crate::asked::{NextAsked, WhyAsked};
 use crate::at::{begun_by, read_up_to};
-use crate::beside::standing_beside;
+use crate::beside::{file_beside, standing_beside};
 use crate::charted::chart_of;
 use crate::clock::now;
 use crate::drift::drift_of;
@@ -35,7 +35,7 @@ use crate::texts::failing::{failed_runs, failing_text};
 use crate::texts::log::is_named;
 use crate::texts::log_ends::add_end;
 use crate::texts::next::{AskedStarts, next_lines};
-use crate::texts::runs::runs_table;
+use crate::texts::runs::{has_refused, runs_table};
 use crate::texts::show::show_text;
 use crate::texts::starts::{ComingLines, Telling, tells_clockless};
 use crate::texts::unknown::unknown_text;
@@ -45,7 +45,7 @@ use calendar_due::Zone;
 use definition_files::check::put_seen;
 use definition_files::tell_clockless;
 use exit_status::DIFFERS;
-use history_model::{Ended, Text};
+use history_model::{Ended, Reading, Text};
 use launchctl_words::{PictureWords, ScopeCommand, ScopeTask};
 use launcher_life::{JournalAsked, LauncherSeen, Life, journal_life};
 use run_times::picture::{Beside, Chart, blocks_text, picture_piece};
@@ -82,8 +82,13 @@ pub(crate) fn report<W: Wait>(
         return Ok(Statuses::of(WELL, UNREADABLE));
     }
     let paths = journal_paths(host, of)?;
+    let beside = log_beside(host, alloc, of);
     let mut lines = JournalLines::new(alloc);
     let mut listener = JournalListener::new(alloc, of, window);
+    listener.beside = match &beside {
+        Ok(Some((standing, begun))) => Some((standing, *begun)),
+        Ok(None) | Err(_) => None,
+    };
     let found = report_on(
         host,
         waits,
@@ -94,12 +99,39 @@ pub(crate) fn report<W: Wait>(
     );
     drop(listener);
     drop(lines);
+    drop(beside);
     drop(paths);
     match found {
         Ok((before, last)) => Ok(Statuses::of(before, last)),
         Err(error) => Err(error),
     }
 }
+
+// The status file that a log takes reasons from. Without memory for it the log has none.
+fn log_beside(
+    host: &HostRuntime,
+    alloc: Global,
+    of: &ScopeCommand,
+) -> Result<Option<(StatusRead, Reading)>, AllocError> {
+    match &of.task {
+        ScopeTask::Log(_) => file_beside(host, alloc, of.words.as_slice()),
+        ScopeTask::Check(_)
+        | ScopeTask::Next(_)
+        | ScopeTask::Status
+        | ScopeTask::Metrics
+        | ScopeTask::Why(_)
+        | ScopeTask::Runs(_)
+        | ScopeTask::Picture(_)
+        | ScopeTask::Cron(_)
+        | ScopeTask::Plist(_)
+        | ScopeTask::Show
+        | ScopeTask::Drift => Ok(None),
+    }
+}
+
+/// What is said if a start was refused, and no status file says why.
+const NO_REASONS: &str =
+    "read without its launcher's status file: why starts were refused is not known";
 
 // Of a journal that comes on standard input. Without one no journal was found, which was reported.
 fn report_input(
@@ -411,6 +443,7 @@ fn write_report(
             )?;
             return Ok(WELL);
         }
+        ScopeTask::Log(_) if listener.lacks_reason => tell_of(host, name, &NO_REASONS),
         ScopeTask::Log(_) => {}
         ScopeTask::Runs(_) => put_runs(host, alloc, name, journal, zone, of, as_of)?,
         ScopeTask::Picture(picture) => {
@@ -568,12 +601,32 @@ fn put_runs(
     }
     let now = reading_as_of(as_of, journal.table.reading());
     let labels = of.words.as_slice();
+    let standing = reasons_beside(host, alloc, journal, labels)?;
+    if standing.is_none() && has_refused(&journal.past, labels) {
+        tell_of(host, name, &NO_REASONS);
+    }
+    let file = standing.as_ref();
     let made = if of.is_json {
-        runs_objects(alloc, &journal.past, zone, now, labels)
+        runs_objects(alloc, &journal.past, file, zone, now, labels)
     } else {
-        runs_table(alloc, &journal.past, now, labels)
+        runs_table(alloc, &journal.past, file, now, labels)
     };
+    drop(standing);
     put_made(host, made)
+}
+
+// The status file that says why starts were refused, if one was.
+fn reasons_beside(
+    host: &HostRuntime,
+    alloc: Global,
+    journal: &OpenJournal,
+    labels: &[Text],
+) -> Result<Option<StatusRead>, AllocError> {
+    if has_refused(&journal.past, labels) {
+        standing_beside(host, alloc, journal.begun, labels)
+    } else {
+        Ok(None)
+    }
 }
 
 // The coming starts, after the second as of which the journal's end is seen.
@@ -800,7 +853,11 @@ fn paint_page(
     labels: &[Text],
     as_of: AsOf,
 ) -> io::Result<()> {
-    let table = runs_table(alloc, &journal.past, journal.table.reading(), labels)?;
+    let standing = reasons_beside(host, alloc, journal, labels)?;
+    let last = journal.table.reading();
+    let made = runs_table(alloc, &journal.past, standing.as_ref(), last, labels);
+    drop(standing);
+    let table = made?;
     let joined = JoinedJournal::new(journal, None, &[]);
     let why = why_text(alloc, joined, zone, labels, as_of)?;
     let coming = if as_of.foretells() {
