@@ -1121,7 +1121,32 @@ def what_both_sources_say(stage):
     launcher.shut_down()
 
 
+ENDING = "It is shutting down: it starts no job.\n"
+
+
+def a_shutdown_by_the_file_alone(stage):
+    """While a launcher shuts down, `status`, `why` and `next` say so by its status file. They did not before, and they do not once it has exited."""
+    launcher, path = serve(stage)
+    deaf = f"trap '' TERM; : > {stage.at('deaf')}; while :; do sleep 0.05; done"
+    launcher.load(shell_job("deaf", deaf, RunAtLoad=True, ExitTimeOut=3600))
+    wait_for(lambda: os.path.exists(stage.at("deaf")), "the job does not run")
+    pid = job_where(path, "deaf", lambda job: job["state"] == "running")["pid"]
+
+    def said():
+        """How often each of the three says it."""
+        return [asked(stage, path, word)[1].count(ENDING) for word in ("status", "why", "next")]
+
+    check(said() == [0, 0, 0], f"before the shutdown: {said()}")
+    check(launcher.ask({"req": "shutdown"})["code"] == 0, "the shutdown is refused")
+    wait_for(lambda: told(path)[0]["shutting_down"], "the file does not say that it shuts down")
+    check(said() == [1, 1, 1], f"while it shuts down: {said()}")
+    end_process(pid)
+    check(launcher.ends() == 0, f"it ended otherwise: {launcher.said()!r}")
+    check(said() == [0, 0, 0], f"once it has exited: {said()}")
+
+
 SCENES = [
+    a_shutdown_by_the_file_alone,
     calls_that_failed,
     what_both_sources_say,
     counts_over_restarts,

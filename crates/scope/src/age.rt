@@ -5,10 +5,7 @@ use history_model::{Reading, SECOND};
 use launcher_life::{LauncherSeen, Life, foretells, may_live};
 use run_times::Filling::{Moment, Number, Time};
 use run_times::Page;
-use status_page::{gone_on, within_limits};
-
-/// The line for a launcher that was asked for a shutdown, and may be running.
-pub(crate) const ENDING: &str = "It is shutting down: it starts no job.\n";
+use status_page::{ENDING, gone_on, within_limits};
 
 /// The time as of which a journal is reported.
 #[derive(Clone, Copy)]

@@ -4,7 +4,6 @@ ghost use Rattle.std.specs.Prelude.{◌≡◌};
 ghost use Rattle.calendar_due.specs.ZoneRules.{minute_at};
 ghost use Rattle.scope.specs.Told.{IsCalendarNext, facts_then};
 
-use crate::age::ENDING;
 use crate::beside::BesideJournal;
 use crate::errors::FailedRun;
 use crate::joined::{JoinedJournal, LabelNow, disabled_joined, line_with, sources_said};
@@ -26,8 +25,8 @@ use run_times::Filling::{Number, Text, Time};
 use run_times::Page;
 use status_file::{DisabledBy, JobNote, JobStatus, StatusLine};
 use status_page::{
-    Down, Failing, Fault, StatusRead, add_failing, add_head, add_left_out, gone_on, is_asked,
-    passed_minute, reading_of, told_as_of, within_limits,
+    Down, ENDING, Failing, Fault, StatusRead, add_failing, add_head, add_left_out, gone_on,
+    is_asked, passed_minute, reading_of, told_as_of, within_limits,
 };
 use std::alloc::{AllocError, Global};
 
@@ -84,7 +83,7 @@ fn add_all(
 ) {
     let journal = beside.journal();
     add_head(page, standing, second);
-    if is_ending(standing, journal) {
+    if !standing.is_ending() && is_ending(standing, journal) {
         page.writer.put(ENDING);
     }
     page.writer.put(sources_said(beside.sources()));
@@ -108,7 +107,7 @@ fn add_all(
     let _count = add_left_out(page, standing, labels);
 }
 
-// Whether the launcher was asked for a shutdown, which the journal alone says, and may be running.
+// Whether the launcher accepted a shutdown by the journal, and may be running. The file says it up to a second later.
 fn is_ending(standing: &StatusRead, journal: Option<&OpenJournal>) -> bool {
     match journal {
         Some(journal) => standing.may_live() && journal.table.is_shutting_down(),
