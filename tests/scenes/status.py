@@ -1047,6 +1047,8 @@ def since_when_labels_are_disabled(stage):
 BOTH = "Its journal and its status file were read.\n"
 JOURNAL_ALONE = "Its journal alone was read: why starts were refused, what runs left running, and what the boot left out are not known.\n"
 FILE_ALONE = "Its status file alone was read: refused loads, who disabled a label, and unsupported conditions are not known.\n"
+UNREAD_FILE = "read without its launcher's status file: why starts were refused is not known"
+LONG_JOURNAL = "Its status file alone was read, since its journal has more than 32 MiB: refused loads, who disabled a label, and unsupported conditions are not known.\n"
 
 
 def what_both_sources_say(stage):
@@ -1086,6 +1088,16 @@ def what_both_sources_say(stage):
         check(found["off"]["is_disabled"] and "disabled_since" in found["off"], f"objects by {words} {env}: {found}")
         status, text, error = why("--failing", *words, **env)
         check(status == 2 and f"refused: its last start was refused, at " in text and f": {MISSING}\n" in text, f"failing by {words} {env}: {status}, {text!r}")
+    # `log` and `runs` have the reason of the last refused start alone, and say if no status file was read.
+    seen = subprocess.run([*stage.given.jobscope, "log", "refused"], env={**kept, **socket}, capture_output=True, timeout=patience(), text=True, stdin=subprocess.DEVNULL)
+    check(seen.stdout.count(f"refused: run 1 was refused: {MISSING}; it waits until ") == 1 and not seen.stderr, f"the log: {seen}")
+    seen = subprocess.run([*stage.given.jobscope, "runs", "refused"], env={**kept, **socket}, capture_output=True, timeout=patience(), text=True, stdin=subprocess.DEVNULL)
+    check([it.split("\t")[-1] for it in seen.stdout.splitlines()] == ["reason", MISSING] and not seen.stderr, f"the runs: {seen}")
+    seen = subprocess.run([*stage.given.jobscope, "runs", "--json", "--journal", journal, "refused"], env={**kept, **file}, capture_output=True, timeout=patience(), text=True)
+    check(json.loads(seen.stdout)["reason"] == MISSING and not seen.stderr, f"the runs as an object: {seen}")
+    for word in ("log", "runs"):
+        seen = subprocess.run([*stage.given.jobscope, word, "--journal", journal, "refused"], env=kept, capture_output=True, timeout=patience(), text=True)
+        check(MISSING not in seen.stdout and seen.stderr == f"jobscope: {journal}: {UNREAD_FILE}\n", f"{word} by the journal alone: {seen}")
     status, text, error = why("--journal", journal, "refused")
     check(status == 0 and JOURNAL_ALONE in text and "was refused, at " in text and MISSING not in text, f"by the journal alone: {status}, {text!r}, {error!r}")
     status, text, error = why("--status-file", path, "off", "refused")
@@ -1093,13 +1105,48 @@ def what_both_sources_say(stage):
           f"by the file alone: {status}, {text!r}, {error!r}")
     status, text, error = why("--status-file", path, "bad")
     check(status == 65 and "nothing here names bad" in error, f"a refused load by the file alone: {status}, {text!r}, {error!r}")
+    # A journal of more than 32 MiB is not read besides the file. What follows its lines in a copy is a hole.
+    long = make(stage.at("long"), text_at(journal))
+    os.truncate(long, 32 << 20)
+    status, text, error = why("--status-file", path, "off", JOBD_JOURNAL=long)
+    check(status == 0 and BOTH in text and facts["off"] in text, f"by a journal of 32 MiB: {status}, {text!r}, {error!r}")
+    os.truncate(long, (32 << 20) + 1)
+    status, text, error = why("--status-file", path, "off", JOBD_JOURNAL=long)
+    check(status == 0 and LONG_JOURNAL in text and "It is disabled since" in text and "jobctl disable" not in text,
+          f"by a longer journal: {status}, {text!r}, {error!r}")
+    os.unlink(long)
     # The file of another launcher says nothing of this one's jobs.
     text = why("--journal", journal, "refused", JOBD_STATUS_FILE=make(stage.at("other"), text_at(path).replace('\\"wall\\":', '\\"wall\\":1', 1)))[1]
     check(JOURNAL_ALONE in text and MISSING not in text, f"by another launcher's file: {text!r}")
     launcher.shut_down()
 
 
+ENDING = "It is shutting down: it starts no job.\n"
+
+
+def a_shutdown_by_the_file_alone(stage):
+    """While a launcher shuts down, `status`, `why` and `next` say so by its status file. They did not before, and they do not once it has exited."""
+    launcher, path = serve(stage)
+    deaf = f"trap '' TERM; : > {stage.at('deaf')}; while :; do sleep 0.05; done"
+    launcher.load(shell_job("deaf", deaf, RunAtLoad=True, ExitTimeOut=3600))
+    wait_for(lambda: os.path.exists(stage.at("deaf")), "the job does not run")
+    pid = job_where(path, "deaf", lambda job: job["state"] == "running")["pid"]
+
+    def said():
+        """How often each of the three says it."""
+        return [asked(stage, path, word)[1].count(ENDING) for word in ("status", "why", "next")]
+
+    check(said() == [0, 0, 0], f"before the shutdown: {said()}")
+    check(launcher.ask({"req": "shutdown"})["code"] == 0, "the shutdown is refused")
+    wait_for(lambda: told(path)[0]["shutting_down"], "the file does not say that it shuts down")
+    check(said() == [1, 1, 1], f"while it shuts down: {said()}")
+    end_process(pid)
+    check(launcher.ends() == 0, f"it ended otherwise: {launcher.said()!r}")
+    check(said() == [0, 0, 0], f"once it has exited: {said()}")
+
+
 SCENES = [
+    a_shutdown_by_the_file_alone,
     calls_that_failed,
     what_both_sources_say,
     counts_over_restarts,

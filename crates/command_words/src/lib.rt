@@ -2,6 +2,7 @@
 #![tactic(auto)]
 
 mod arguments;
+mod clashes;
 mod command;
 mod control_words;
 mod forms;
@@ -20,4 +21,7 @@ pub use jobctl::{control_command, explain};
 pub use jobd::{daemon_command, explain_daemon};
 pub use jobscope::{explain_scope, read_scope_words};
 pub use parse::Explanation;
-pub use scope_command::{FolderWords, Meaning, MomentWords, ScopeCommand, ScopeTask};
+pub use scope_command::{
+    CheckWords, CronWords, ListWords, LogWords, Meaning, NextWords, PictureWords, ScopeCommand,
+    ScopeTask, SpanWords, WhyWords,
+};

@@ -5,8 +5,9 @@ mod foreign;
 mod reading;
 
 pub use command_words::{
-    Command, DaemonCommand, Explanation, Meaning, MomentWords, Paths, ScopeCommand, ScopeTask,
-    WordFault, Words, ZoneWords, explain_daemon, read_scope_words,
+    CheckWords, Command, CronWords, DaemonCommand, Explanation, ListWords, LogWords, Meaning,
+    NextWords, Paths, PictureWords, ScopeCommand, ScopeTask, SpanWords, WhyWords, WordFault, Words,
+    ZoneWords, explain_daemon, read_scope_words,
 };
 pub use foreign::{explain, explain_scope};
 pub use reading::{read_daemon_words, read_words, read_words_beside};

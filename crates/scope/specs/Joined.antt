@@ -1,6 +1,7 @@
 -- What both sources of a launcher say of a label together: its status file has the present, and its journal the past.
+use Rattle.std.specs.Borrow.{Bor}
 use Rattle.std.specs.Option.{option_map}
-use Rattle.std.specs.Prelude.{◌==◌, nat_lt, Bool, true, Option, Some, None, if◌then◌else◌}
+use Rattle.std.specs.Prelude.{◌==◌, ◌&&◌, ℕ, List, nat_lt, Bool, true, false, Option, Some, None, if◌then◌else◌}
 use Rattle.history_model.specs.declared.Reading.{Reading}
 use Rattle.run_log.specs.declared.facts.RefusedStart.{RefusedStart}
 use Rattle.status_file.specs.declared.status.DisabledBy.{DisabledBy as DisabledNow}
@@ -11,7 +12,15 @@ use Rattle.scope.specs.declared.joined.Disabled.{Disabled}
 use Rattle.scope.specs.declared.joined.Disabled.TheVariants.{Client, Since, Before, Unknown, Definition}
 use Rattle.scope.specs.declared.joined.LabelNow.{LabelNow}
 use Rattle.scope.specs.declared.joined.LabelPast.{LabelPast}
+use Rattle.scope.specs.declared.kept_journals.TheConstants.{MOST_BYTES}
 use Rattle.scope.specs.declared.known_runs.KnownRuns.{KnownRuns}
+
+-- ---- whether a journal is read besides a status file
+
+-- its length, if that is known, is more than 32 MiB
+abbrev pub is_long : Option ℕ → Bool
+is_long None = false
+is_long (Some length) = nat_lt MOST_BYTES length
 
 -- ---- by what a label is disabled
 
@@ -81,6 +90,12 @@ start_joined start (Some other) = if other.run == start.run then record start { 
 abbrev pub refused_in : Option LabelNow → Option RefusedStart
 refused_in None = None
 refused_in (Some file) = file.refused
+
+-- The reason of a start that was refused by a journal, with this number and at this clock reading. The status file has it if its last refused start
+-- has both: numbers begin again with each load, and a journal has earlier refused starts too.
+abbrev pub reason_joined : ℕ → Reading → Option RefusedStart → Option (Bor (List ℕ))
+reason_joined run at None = None
+reason_joined run at (Some other) = if other.run == run && other.at.up == at.up then other.reason else None
 
 -- the runs of a journal, with that reason
 abbrev pub runs_joined : KnownRuns → Option LabelNow → KnownRuns

@@ -1,14 +1,11 @@
 //! The time as of which a journal is reported, how long ago that was, and whether its launcher was running then.
 
-use crate::joined::sources_said;
+use crate::joined::{SourcesRead, sources_said};
 use history_model::{Reading, SECOND};
 use launcher_life::{LauncherSeen, Life, foretells, may_live};
 use run_times::Filling::{Moment, Number, Time};
 use run_times::Page;
-use status_page::{gone_on, within_limits};
-
-/// The line for a launcher that was asked for a shutdown, and may be running.
-pub(crate) const ENDING: &str = "It is shutting down: it starts no job.\n";
+use status_page::{ENDING, gone_on, within_limits};
 
 /// The time as of which a journal is reported.
 #[derive(Clone, Copy)]
@@ -68,7 +65,11 @@ pub(crate) fn clock_as_of(as_of: AsOf, last: Reading) -> Reading {
 /// Adds which sources were read, if the report is of now.
 pub(crate) fn add_sources(page: &mut Page<'_>, as_of: AsOf, has_file: bool) {
     match as_of {
-        AsOf::Seen(_, _, _) => page.writer.put(sources_said(true, has_file)),
+        AsOf::Seen(_, _, _) => page.writer.put(sources_said(if has_file {
+            SourcesRead::Both
+        } else {
+            SourcesRead::JournalAlone
+        })),
         AsOf::End(_) | AsOf::Moment { .. } => {}
     }
 }

@@ -1,13 +1,17 @@
 //! The other source of a launcher: the journal besides its status file, and the status file besides its journal. Both are of one launcher if its first
 //! clock reading is the same in both.
 
+ghost use Rattle.std.specs.Prelude.{◌≡◌};
+ghost use Rattle.scope.specs.Joined.{is_long};
+
+use crate::joined::SourcesRead;
 use crate::journal::fault::JournalFault;
 use crate::journal::labels::KnownLabels;
 use crate::journal::lines::JournalLines;
 use crate::journal::reader::OpenJournal;
 use crate::journal::source::read_journal;
 use crate::kept_journals::{
-    MOST_KEPT, before_path, begin_at, begun_of, journal_of, kept_journals, length_at,
+    MOST_BYTES, MOST_KEPT, before_path, begin_at, begun_of, journal_of, kept_journals, length_at,
 };
 use crate::launcher::launcher_files;
 use crate::listener::JournalListener;
@@ -19,8 +23,75 @@ use status_page::{Diagnostic, StatusRead, is_asked, named_path, read_standing};
 use std::alloc::{AllocError, Global};
 use std::mem;
 
-/// How many bytes of journals are read for it, together.
-const MOST_BYTES: u64 = 33_554_432;
+/// The journal of a status file's launcher.
+#[derive(Drop)]
+pub(crate) enum BesideJournal {
+    /// It was read to its end.
+    Read(OpenJournal),
+    /// It has more bytes than are read.
+    Long,
+    /// There is none, it can't be read, or it is another launcher's.
+    Unread,
+}
+
+impl BesideJournal {
+    /// The journal, if it was read.
+    pub(crate) fn journal(&self) -> Option<&OpenJournal> {
+        match self {
+            BesideJournal::Read(journal) => Some(journal),
+            BesideJournal::Long | BesideJournal::Unread => None,
+        }
+    }
+
+    /// Which sources were read, the status file among them.
+    pub(crate) fn sources(&self) -> SourcesRead {
+        match self {
+            BesideJournal::Read(_) => SourcesRead::Both,
+            BesideJournal::Long => SourcesRead::FileOfLongJournal,
+            BesideJournal::Unread => SourcesRead::FileAlone,
+        }
+    }
+}
+
+/// The status file that is read besides journals, and the first clock reading of its launcher: that of `JOBD_STATUS_FILE`, else that of the launcher that
+/// is meant. Of its jobs it has those of the labels, or all if none is named. None: it can't be read, or is not a launcher's.
+pub(crate) fn file_beside(
+    host: &HostRuntime,
+    alloc: Global,
+    labels: &[Text],
+) -> Result<Option<(StatusRead, Reading)>, AllocError> {
+    let Some(path) = status_path(host, alloc)? else {
+        return Ok(None);
+    };
+    let read = read_standing(host, alloc, path.as_str(), labels);
+    drop(path);
+    match read {
+        Ok(standing) => with_begun(alloc, standing),
+        Err(Diagnostic::NoMemory | Diagnostic::Line(_, StatusFault::NoMemory)) => Err(AllocError),
+        unread => {
+            drop(unread);
+            Ok(None)
+        }
+    }
+}
+
+// The file with its launcher's first clock reading, if it has one.
+fn with_begun(
+    alloc: Global,
+    standing: StatusRead,
+) -> Result<Option<(StatusRead, Reading)>, AllocError> {
+    match begun_of(alloc, &standing) {
+        Ok(Some(begun)) => Ok(Some((standing, begun))),
+        Ok(None) => {
+            drop(standing);
+            Ok(None)
+        }
+        Err(error) => {
+            drop(standing);
+            Err(error)
+        }
+    }
+}
 
 /// The status file of the journal's launcher: that of `JOBD_STATUS_FILE`, else that of the launcher that is meant. Of its jobs it has those of the labels,
 /// or all if none is named. None: it can't be read, or is another launcher's.
@@ -30,16 +101,10 @@ pub(crate) fn standing_beside(
     begun: Reading,
     labels: &[Text],
 ) -> Result<Option<StatusRead>, AllocError> {
-    let Some(path) = status_path(host, alloc)? else {
-        return Ok(None);
-    };
-    let read = read_standing(host, alloc, path.as_str(), labels);
-    drop(path);
-    match read {
-        Ok(standing) => of_launcher(alloc, standing, begun),
-        Err(Diagnostic::NoMemory | Diagnostic::Line(_, StatusFault::NoMemory)) => Err(AllocError),
-        unread => {
-            drop(unread);
+    match file_beside(host, alloc, labels)? {
+        Some((standing, first)) if first == begun => Ok(Some(standing)),
+        other => {
+            drop(other);
             Ok(None)
         }
     }
@@ -58,36 +123,21 @@ fn status_path(host: &HostRuntime, alloc: Global) -> Result<Option<String>, Allo
     }
 }
 
-// The file, if its launcher has this first clock reading.
-fn of_launcher(
-    alloc: Global,
-    standing: StatusRead,
-    begun: Reading,
-) -> Result<Option<StatusRead>, AllocError> {
-    match begun_of(alloc, &standing) {
-        Ok(Some(first)) if first == begun => Ok(Some(standing)),
-        Ok(_) => {
-            drop(standing);
-            Ok(None)
-        }
-        Err(error) => {
-            drop(standing);
-            Err(error)
-        }
-    }
-}
-
-/// The journal of the file's launcher, read to its end. If the file leaves open since when a label is disabled that is asked for, those before it are
-/// read too, as far as they have not too many bytes. None: it can't be read, or is another launcher's.
+/// The journal of the file's launcher, read to its end, if it has not too many bytes. A part of it would say what was, and not what is. If the file lacks
+/// the time of a label's setting, the journals before it are read too, as far as all have not too many bytes.
 pub(crate) fn journal_beside(
     host: &HostRuntime,
     alloc: Global,
     of: &ScopeCommand,
     standing: &StatusRead,
-) -> Result<Option<OpenJournal>, AllocError> {
+) -> Result<BesideJournal, AllocError> {
     let Some((path, begun)) = journal_of(host, alloc, standing)? else {
-        return Ok(None);
+        return Ok(BesideJournal::Unread);
     };
+    if is_long(length_at(host, path.as_str())) {
+        drop(path);
+        return Ok(BesideJournal::Long);
+    }
     let mut listener = JournalListener::new(alloc, of, WHOLE);
     let with_before = leaves_open(standing, of.words.as_slice());
     let read = read_all(host, alloc, path.as_str(), with_before, &mut listener);
@@ -104,13 +154,23 @@ pub(crate) fn journal_beside(
 }
 
 // The journal, if it has this first clock reading: the last one that was read may be an earlier one.
-fn begun_at(journal: Option<OpenJournal>, begun: Reading) -> Option<OpenJournal> {
-    let journal = journal?;
-    if journal.begun == begun {
-        Some(journal)
-    } else {
-        drop(journal);
-        None
+fn begun_at(journal: Option<OpenJournal>, begun: Reading) -> BesideJournal {
+    match journal {
+        Some(journal) if journal.begun == begun => BesideJournal::Read(journal),
+        journal => {
+            drop(journal);
+            BesideJournal::Unread
+        }
+    }
+}
+
+// Whether a journal of this length has more bytes than are read.
+fn is_long(length: Option<u64>) -> bool
+    ensures { result ≡ is_long length }
+{
+    match length {
+        Some(length) => length > MOST_BYTES,
+        None => false,
     }
 }
 
@@ -125,12 +185,12 @@ pub(crate) fn settings_of(
         return Ok(KnownLabels::new(alloc));
     }
     match journal_beside(host, alloc, of, standing)? {
-        Some(mut journal) => {
+        BesideJournal::Read(mut journal) => {
             let labels = mem::replace(&mut journal.past.labels, KnownLabels::new(alloc));
             drop(journal);
             Ok(labels)
         }
-        None => Ok(KnownLabels::new(alloc)),
+        BesideJournal::Long | BesideJournal::Unread => Ok(KnownLabels::new(alloc)),
     }
 }
 

@@ -4,7 +4,8 @@ ghost use Rattle.std.specs.Prelude.{IfOk};
 ghost use Rattle.scope.specs.Findings.{AreFound};
 
 use crate::as_root::read_for;
-use crate::beside::{journal_beside, settings_of};
+use crate::asked::{NextAsked, WhyAsked};
+use crate::beside::{BesideJournal, journal_beside, settings_of};
 use crate::clock::now;
 use crate::counted::counts_of;
 use crate::errors::put_errors;
@@ -16,7 +17,7 @@ use crate::left::left_running;
 use crate::objects::status::status_objects;
 use crate::objects::why::standing_objects;
 use crate::report::{put_now, tell_unforetold};
-use crate::sources::{NamedSources, Source, found_source, named_source};
+use crate::sources::{Answers, NamedSources, Source, answers_of, found_source, named_source};
 use crate::subcommands::Statuses;
 use crate::table_width::table_columns;
 use crate::texts::standing::{failed_in, failing_in, standing_text};
@@ -47,7 +48,7 @@ pub(crate) fn file_asked(host: &HostRuntime, of: &ScopeCommand) -> io::Result<Op
         variable_file: variable.is_some(),
         variable_journal: has_variable(host)?,
     };
-    match named_source(of.task, named) {
+    match named_source(&of.task, named) {
         Some(Source::VariableFile) => Ok(variable),
         Some(Source::NamedFile) => {
             drop(variable);
@@ -66,7 +67,8 @@ pub(crate) fn file_asked(host: &HostRuntime, of: &ScopeCommand) -> io::Result<Op
 
 // Whether the arguments name a journal, or ask for what a status file does not hold.
 fn names_journal(of: &ScopeCommand) -> bool {
-    !of.journals.as_slice().is_empty() || of.moments.at.is_some() || of.is_all
+    let is_journals = matches!(answers_of(&of.task), Answers::Journals);
+    !of.journals.as_slice().is_empty() || is_journals
 }
 
 // The status file of the launcher, if that is what is read. A user who may read it may not be one who may read its journal.
@@ -77,7 +79,7 @@ fn launchers_file(host: &HostRuntime, of: &ScopeCommand) -> io::Result<Option<St
     let has_file = is_known && has_file(host, &files);
     let is_noted = files.is_packages && host.stdin().is_terminal();
     let path = files.into_status_file();
-    match found_source(of.task, opens, has_file) {
+    match found_source(&of.task, opens, has_file) {
         Some(Source::LauncherFile) => {
             if is_noted {
                 tell_found(host, of, &path);
@@ -94,9 +96,8 @@ fn launchers_file(host: &HostRuntime, of: &ScopeCommand) -> io::Result<Option<St
 // Whether a launcher that may be running writes nothing more to its journal, by its status file. That is looked at for the two tasks that either source
 // answers.
 fn is_closed(host: &HostRuntime, of: &ScopeCommand, files: &LauncherFiles) -> bool {
-    let path = match (of.task, &files.status_file) {
-        (ScopeTask::Why | ScopeTask::Next, Some(path)) => path,
-        _ => return false,
+    let (Answers::Either, Some(path)) = (answers_of(&of.task), &files.status_file) else {
+        return false;
     };
     match read_standing(host, host.alloc(), path.as_str(), of.words.as_slice()) {
         Ok(standing) => {
@@ -138,35 +139,8 @@ fn has_file(host: &HostRuntime, files: &LauncherFiles) -> bool {
 
 // In a terminal `why` and `next` print a note that the package's file is read.
 fn tell_found(host: &HostRuntime, of: &ScopeCommand, path: &Option<String>) {
-    match (of.task, path) {
-        (ScopeTask::Why | ScopeTask::Next, Some(path)) => {
-            tell_of(host, path.as_str(), &NONE_NAMED);
-        }
-        _ => {}
-    }
-}
-
-/// The error, if the arguments name a status file and also a journal, or what the file does not hold.
-pub(crate) fn clash_of(of: &ScopeCommand) -> Option<&'static str> {
-    if of.status_file.is_none() {
-        return None;
-    }
-    let is_why = match of.task {
-        ScopeTask::Why => true,
-        _ => false,
-    };
-    if !of.journals.as_slice().is_empty() {
-        Some(if is_why {
-            "jobscope: why: --status-file and --journal can't be given together\n"
-        } else {
-            "jobscope: next: --status-file and --journal can't be given together\n"
-        })
-    } else if of.moments.at.is_some() {
-        Some("jobscope: why: --status-file and --at can't be given together\n")
-    } else if of.is_all {
-        Some("jobscope: next: --status-file and --all can't be given together\n")
-    } else {
-        None
+    if let (Answers::Either, Some(path)) = (answers_of(&of.task), path) {
+        tell_of(host, path.as_str(), &NONE_NAMED);
     }
 }
 
@@ -212,10 +186,13 @@ fn tell(
     second: u64,
 ) -> io::Result<(Findings, Findings)> {
     let labels = of.words.as_slice();
-    match of.task {
-        ScopeTask::Why => return tell_why(host, alloc, of, path, standing, second),
-        ScopeTask::Next => {
-            put_next(host, alloc, of, path, standing, second)?;
+    match &of.task {
+        ScopeTask::Why(why) => {
+            let asked = WhyAsked::of(of, why);
+            return tell_why(host, alloc, of, asked, path, standing, second);
+        }
+        ScopeTask::Next(next) => {
+            put_next(host, alloc, NextAsked::of(of, next), path, standing, second)?;
         }
         ScopeTask::Metrics => {
             let counts = counts_of(host, alloc, standing)?;
@@ -223,13 +200,13 @@ fn tell(
             drop(counts);
             put_made(host, text)?;
         }
-        _ if of.is_json => {
+        ScopeTask::Status if of.is_json => {
             let settings = settings_of(host, alloc, of, standing)?;
             let text = status_objects(host, alloc, standing, of, second, &settings);
             drop(settings);
             put_made(host, text)?;
         }
-        _ => {
+        ScopeTask::Status => {
             let look = Look {
                 second,
                 columns: table_columns(host, alloc, standing, labels),
@@ -238,6 +215,15 @@ fn tell(
             };
             put_made(host, table_text(host, alloc, standing, labels, look))?;
         }
+        // No status file is named for these.
+        ScopeTask::Check(_)
+        | ScopeTask::Log(_)
+        | ScopeTask::Runs(_)
+        | ScopeTask::Picture(_)
+        | ScopeTask::Cron(_)
+        | ScopeTask::Plist(_)
+        | ScopeTask::Show
+        | ScopeTask::Drift => {}
     }
     let is_nowhere = tell_unknown(host, alloc, path, standing, labels, None)?;
     Ok((WELL, Findings { is_nowhere, ..WELL }))
@@ -248,16 +234,17 @@ fn tell_why(
     host: &HostRuntime,
     alloc: Global,
     of: &ScopeCommand,
+    asked: WhyAsked<'_>,
     path: &str,
     standing: &StatusRead,
     second: u64,
 ) -> io::Result<(Findings, Findings)> {
-    let kept = if of.is_failing {
-        None
+    let kept = if asked.is_failing {
+        BesideJournal::Unread
     } else {
         journal_beside(host, alloc, of, standing)?
     };
-    let told = put_why(host, alloc, of, path, standing, second, kept.as_ref());
+    let told = put_why(host, alloc, asked, path, standing, second, &kept);
     drop(kept);
     told
 }
@@ -265,22 +252,23 @@ fn tell_why(
 fn put_why(
     host: &HostRuntime,
     alloc: Global,
-    of: &ScopeCommand,
+    asked: WhyAsked<'_>,
     path: &str,
     standing: &StatusRead,
     second: u64,
-    journal: Option<&OpenJournal>,
+    beside: &BesideJournal,
 ) -> io::Result<(Findings, Findings)> {
-    let labels = of.words.as_slice();
-    let count = put_jobs(host, alloc, of, standing, second, journal)?;
+    let labels = asked.labels;
+    let journal = beside.journal();
+    let count = put_jobs(host, alloc, asked, standing, second, beside)?;
     let is_nowhere = tell_unknown(host, alloc, path, standing, labels, journal)?;
-    if !of.is_json {
-        put_failed(host, alloc, of, path, standing, second)?;
+    if !asked.is_json {
+        put_failed(host, alloc, asked, path, standing, second)?;
         if let Some(journal) = journal {
             put_now(host, alloc, journal, labels)?;
         }
     }
-    let differs = of.is_failing && count > 0;
+    let differs = asked.is_failing && count > 0;
     Ok((
         Findings { differs, ..WELL },
         Findings { is_nowhere, ..WELL },
@@ -291,23 +279,30 @@ fn put_why(
 fn put_jobs(
     host: &HostRuntime,
     alloc: Global,
-    of: &ScopeCommand,
+    asked: WhyAsked<'_>,
     standing: &StatusRead,
     second: u64,
-    journal: Option<&OpenJournal>,
+    beside: &BesideJournal,
 ) -> io::Result<u64> {
-    let labels = of.words.as_slice();
-    if of.is_failing && !of.is_json {
-        let (text, count) = failing_in(alloc, standing, labels, of.is_utc, second)?;
+    let labels = asked.labels;
+    if asked.is_failing && !asked.is_json {
+        let (text, count) = failing_in(alloc, standing, labels, asked.is_utc, second)?;
         put_made(host, Ok(text))?;
         return Ok(count);
     }
     let left = left_running(host, alloc, standing, labels)?;
-    let made = if of.is_json {
-        standing_objects(alloc, standing, of, second, left.as_slice(), journal)
+    let made = if asked.is_json {
+        standing_objects(
+            alloc,
+            standing,
+            asked,
+            second,
+            left.as_slice(),
+            beside.journal(),
+        )
     } else {
         let left = left.as_slice();
-        match standing_text(alloc, standing, labels, of.is_utc, second, left, journal) {
+        match standing_text(alloc, standing, labels, asked.is_utc, second, left, beside) {
             Ok(text) => Ok((text, 0)),
             Err(error) => Err(error),
         }
@@ -329,13 +324,13 @@ fn lent(counts: &Option<RunCounts>) -> Option<&RunCounts> {
 fn put_failed(
     host: &HostRuntime,
     alloc: Global,
-    of: &ScopeCommand,
+    asked: WhyAsked<'_>,
     path: &str,
     standing: &StatusRead,
     second: u64,
 ) -> io::Result<()> {
-    let failed = failed_in(alloc, standing, of.words.as_slice(), second)?;
-    if !of.is_failing && !failed.is_empty() {
+    let failed = failed_in(alloc, standing, asked.labels, second)?;
+    if !asked.is_failing && !failed.is_empty() {
         put(host, "\n")?;
     }
     let whom = read_for(host, Some(path));
@@ -346,18 +341,18 @@ fn put_failed(
 fn put_next(
     host: &HostRuntime,
     alloc: Global,
-    of: &ScopeCommand,
+    asked: NextAsked,
     path: &str,
     standing: &StatusRead,
     second: u64,
 ) -> io::Result<()> {
-    tell_unforetold(host, path, of, standing.foretells());
+    tell_unforetold(host, path, asked.is_json, standing.foretells());
     let ComingLines {
         text,
         jobs,
         clockless,
-    } = standing_lines(alloc, standing, of, second)?;
-    if tells_clockless(of.is_all, clockless, jobs) {
+    } = standing_lines(alloc, standing, asked, second)?;
+    if tells_clockless(asked.is_all, clockless, jobs) {
         tell_clockless(host, path, clockless, jobs);
     }
     put_made(host, Ok(text))

@@ -8,7 +8,7 @@ use crate::journal::fault::JournalFault;
 use crate::journal::lines::{JournalLines, Receives};
 use crate::journal::source::read_journal;
 use crate::kept_journals::{
-    MOST_KEPT, before_path, begin_at, journal_of, kept_journals, length_at,
+    MOST_BYTES, MOST_KEPT, before_path, begin_at, journal_of, kept_journals, length_at,
 };
 use calendar_due::Zone;
 use ctl_protocol::{LineRoom, ReadFault, read_event, read_header};
@@ -17,9 +17,6 @@ use run_times::{time_text, utc};
 use status_file::JournalStatus;
 use status_page::{RunCount, RunCounts, StatusRead};
 use std::alloc::{AllocError, Global};
-
-/// How many bytes the journals may have that are read, together: `metrics` is asked for each few seconds.
-const MOST_BYTES: u64 = 33_554_432;
 
 /// How lines begin that count nothing. Most lines of a journal are such lines, and are not read.
 const UNCOUNTED: [&[u8]; 4] = [

@@ -3,12 +3,11 @@
 ghost use Rattle.std.specs.Prelude.{IfOk};
 ghost use Rattle.scope.specs.Findings.{AreFound, EndsAs};
 
-use crate::by_file::{clash_of, file_asked, tell_by_file};
+use crate::by_file::{file_asked, tell_by_file};
 use crate::clock::now;
 use crate::ended::{check_ended, cron_ended, next_ended, plist_ended};
-use crate::journal::source::has_input_among;
 use crate::report::report;
-use crate::subcommands::{Part, Statuses, Subcommands};
+use crate::subcommands::{PartWords, Statuses, Subcommands};
 use crate::zone::{Named, zone_of};
 use ctl_protocol::LINE_LIMIT;
 use definition_files::cron::{HostLines, lines_of, surroundings_of};
@@ -17,7 +16,8 @@ use exit_status::{BAD_CLOCK, BAD_FILE, USAGE};
 use files_and_process::path_files::files_at;
 use history_model::{MAX_WALL, Text};
 use launchctl_words::{
-    Meaning, ScopeCommand, ScopeTask, WordFault, ZoneWords, explain_scope, read_scope_words,
+    CronWords, ListWords, Meaning, ScopeCommand, WordFault, ZoneWords, explain_scope,
+    read_scope_words,
 };
 use run_times::telling::put;
 use std::alloc::Global;
@@ -27,8 +27,14 @@ use std::sync::Wait;
 /// How many starts are shown if the arguments do not say it.
 const COUNT: u64 = 10;
 
-/// The text if standard input is one of several journals.
-const INPUT_AMONG: &str = "jobscope: --journal - and another --journal can't be given together\n";
+/// What is made of definitions.
+#[derive(Clone, Copy)]
+enum DefinitionReport {
+    /// What is wrong with them; with `is_strict` a warning fails too.
+    Check { is_strict: bool },
+    /// Coming starts, and how many of them.
+    Starts { count: u64 },
+}
 
 /// The subcommands of this process. Both `host` and `waits` are the runtime of `main`: only what takes it as `waits` may wait. Nothing is said of
 /// what the system gives them. What reads journals or a status file ends with the statuses of what it found.
@@ -51,10 +57,7 @@ impl<W: Wait> Subcommands for HostSubcommands<'_, W> {
     ghost Ends = { λ _ part _ ended. EndsAs part ended };
 
     fn meaning(&self, words: &[String]) -> Result<Meaning, WordFault> {
-        match read_scope_words(self.alloc, words) {
-            Ok(Meaning::Command(command)) => unless_clash(self.alloc, command),
-            other => other,
-        }
+        read_scope_words(self.alloc, words)
     }
 
     fn explain(&self, words: &[String]) -> io::Result<u8> {
@@ -69,13 +72,33 @@ impl<W: Wait> Subcommands for HostSubcommands<'_, W> {
         tell_by_file(self.host, self.alloc, command, path)
     }
 
-    fn part(&self, part: Part, command: &ScopeCommand) -> io::Result<Statuses> {
+    fn part(&self, part: PartWords<'_>, command: &ScopeCommand) -> io::Result<Statuses> {
         let (host, alloc) = (self.host, self.alloc);
         match part {
-            Part::Definitions => alone(by_zone(host, alloc, command)),
-            Part::Crontab => alone(by_lines(host, alloc, command)),
-            Part::Lists => alone(of_lists(host, alloc, command)),
-            Part::Journals => report(host, self.waits, alloc, command),
+            PartWords::Check(check) => {
+                let report = DefinitionReport::Check {
+                    is_strict: check.is_strict,
+                };
+                alone(by_zone(host, alloc, command, &check.zone, report))
+            }
+            PartWords::Next(next) => {
+                let count = next.count.unwrap_or(COUNT);
+                let report = DefinitionReport::Starts { count };
+                alone(by_zone(host, alloc, command, &next.zone, report))
+            }
+            PartWords::Crontab(cron) => alone(by_lines(
+                host,
+                alloc,
+                cron,
+                command.words.as_slice(),
+            )),
+            PartWords::Lists(lists) => alone(of_lists(
+                host,
+                alloc,
+                lists,
+                command.words.as_slice(),
+            )),
+            PartWords::Journals => report(host, self.waits, alloc, command),
         }
     }
 }
@@ -88,68 +111,26 @@ fn alone(ended: io::Result<u8>) -> io::Result<Statuses> {
     }
 }
 
-// The command, or the text that says which of its options exclude each other.
-fn unless_clash(alloc: Global, command: ScopeCommand) -> Result<Meaning, WordFault> {
-    let clash = match (clash_of(&command), clash_of_next(&command)) {
-        (Some(text), _) | (None, Some(text)) => Some(text),
-        (None, None) if has_input_among(&command) => Some(INPUT_AMONG),
-        (None, None) => None,
-    };
-    let Some(text) = clash else {
-        return Ok(Meaning::Command(command));
-    };
-    drop(command);
-    match String::from_str(alloc, text) {
-        Ok(text) => Ok(Meaning::Wrong(text)),
-        Err(_) => Err(WordFault::NoMemory),
-    }
-}
-
-// The error in the arguments of `next`, if there is one: an option for definitions without a definition, or one for loaded jobs with a definition.
-fn clash_of_next(of: &ScopeCommand) -> Option<&'static str> {
-    match of.task {
-        ScopeTask::Next => {}
-        _ => return None,
-    }
-    let names_zone = match of.zone {
-        ZoneWords::Default => false,
-        _ => true,
-    };
-    let is_of_loaded = of.is_all || of.status_file.is_some() || !of.journals.as_slice().is_empty();
-    match (of.words.as_slice().is_empty(), names_zone, is_of_loaded) {
-        (true, true, _) => Some("jobscope: next: --zone and --zone-file need a PATH\n"),
-        (false, _, true) => Some(
-            "jobscope: next: --journal, --status-file and --all can't be given with a PATH\n",
-        ),
-        _ => None,
-    }
-}
-
 // Makes the definitions from the lines in the arguments; the single argument `-` means the lines of standard input.
-fn by_lines(host: &HostRuntime, alloc: Global, of: &ScopeCommand) -> io::Result<u8> {
-    match of.words.as_slice() {
+fn by_lines(host: &HostRuntime, alloc: Global, cron: &CronWords, lines: &[Text]) -> io::Result<u8> {
+    match lines {
         [only] if only.as_str() == "-" => match lines_of(host, alloc)? {
             Some(lines) => {
-                let made = of_lines(host, alloc, of, lines.as_slice());
+                let made = of_lines(host, alloc, cron, lines.as_slice());
                 drop(lines);
                 made
             }
             None => Ok(BAD_FILE),
         },
-        lines => of_lines(host, alloc, of, lines),
+        lines => of_lines(host, alloc, cron, lines),
     }
 }
 
-fn of_lines(
-    host: &HostRuntime,
-    alloc: Global,
-    of: &ScopeCommand,
-    lines: &[Text],
-) -> io::Result<u8> {
-    let around = surroundings_of(host, alloc, of.has_user, named(&of.folders.logs))?;
+fn of_lines(host: &HostRuntime, alloc: Global, cron: &CronWords, lines: &[Text]) -> io::Result<u8> {
+    let around = surroundings_of(host, alloc, cron.has_user, named(&cron.logs))?;
     let mut keeper = HostLines {
         host,
-        into: named(&of.folders.into),
+        into: named(&cron.into),
     };
     let ended = cron_ended(host, alloc, &mut keeper, lines, &around);
     drop(around);
@@ -163,17 +144,27 @@ fn named(folder: &Option<Text>) -> Option<&str> {
     }
 }
 
-// The property lists that the arguments name, as JSON.
-fn of_lists(host: &HostRuntime, alloc: Global, of: &ScopeCommand) -> io::Result<u8> {
+// The property lists at the paths, as JSON.
+fn of_lists(
+    host: &HostRuntime,
+    alloc: Global,
+    lists: &ListWords,
+    paths: &[Text],
+) -> io::Result<u8> {
     let mut source = HostFiles { host };
-    let paths = of.words.as_slice();
-    let into = named(&of.folders.into);
+    let into = named(&lists.into);
     plist_ended(host, alloc, &mut source, paths, LINE_LIMIT, into)
 }
 
 // Reports on definitions in the zone of the arguments, as of their second, or of now.
-fn by_zone(host: &HostRuntime, alloc: Global, of: &ScopeCommand) -> io::Result<u8> {
-    let Some(named) = zone_of(host, alloc, &of.zone, of.is_utc)? else {
+fn by_zone(
+    host: &HostRuntime,
+    alloc: Global,
+    of: &ScopeCommand,
+    zone: &ZoneWords,
+    report: DefinitionReport,
+) -> io::Result<u8> {
+    let Some(named) = zone_of(host, alloc, zone, of.is_utc)? else {
         return Ok(BAD_FILE);
     };
     let second = match of.from {
@@ -181,7 +172,7 @@ fn by_zone(host: &HostRuntime, alloc: Global, of: &ScopeCommand) -> io::Result<u
         None => now(host),
     };
     let ended = match second {
-        Some(second) => ended_by(host, alloc, of, &named, second),
+        Some(second) => ended_by(host, alloc, of, &named, second, report),
         None => Ok(BAD_CLOCK),
     };
     drop(named);
@@ -194,6 +185,7 @@ fn ended_by(
     of: &ScopeCommand,
     named: &Named,
     from: u64,
+    report: DefinitionReport,
 ) -> io::Result<u8> {
     let asked = DefinitionQuery {
         longest: LINE_LIMIT,
@@ -205,10 +197,11 @@ fn ended_by(
     let files = files_at(host, of.words.as_slice())?;
     let mut source = HostFiles { host };
     let listed = files.as_slice();
-    let ended = match of.task {
-        ScopeTask::Check => check_ended(host, alloc, &mut source, listed, &asked, of.is_strict),
-        _ => {
-            let count = of.count.unwrap_or(COUNT);
+    let ended = match report {
+        DefinitionReport::Check { is_strict } => {
+            check_ended(host, alloc, &mut source, listed, &asked, is_strict)
+        }
+        DefinitionReport::Starts { count } => {
             next_ended(host, alloc, &mut source, listed, &asked, count)
         }
     };

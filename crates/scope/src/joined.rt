@@ -1,7 +1,7 @@
 //! What the sources of a launcher say of a label together: its status file has the present, and its journal the past.
 
 ghost use Rattle.std.specs.Prelude.{◌≡◌};
-ghost use Rattle.scope.specs.Joined.{disabled_joined, disabled_now, is_later, or_definition, refused_in, runs_joined, setting_in, setting_told, since_else, since_setting, since_told, start_joined};
+ghost use Rattle.scope.specs.Joined.{disabled_joined, disabled_now, is_later, or_definition, reason_joined, refused_in, runs_joined, setting_in, setting_told, since_else, since_setting, since_told, start_joined};
 
 use crate::journal::job::JobRequest;
 use crate::journal::labels::DisabledBy;
@@ -259,15 +259,54 @@ fn start_joined<'a>(start: RefusedStart<'a>, other: Option<RefusedStart<'a>>) ->
     }
 }
 
+/// What the system said of the start with this number that was refused at this clock reading by a journal, if the status file has the same start. It
+/// keeps the last refused start of a job alone.
+pub(crate) fn reason_joined<'a>(
+    run: u64,
+    at: Reading,
+    other: Option<RefusedStart<'a>>,
+) -> Option<&'a str>
+    ensures { result ≡ reason_joined run at other.entry }
+{
+    match other {
+        Some(other) if other.run == run && other.at.up == at.up => other.reason,
+        _ => None,
+    }
+}
+
+/// The reason of the status file of a start of the label that was refused by a journal.
+pub(crate) fn reason_beside<'a>(
+    standing: Option<&'a StatusRead>,
+    label: &str,
+    run: u64,
+    at: Reading,
+) -> Option<&'a str> {
+    reason_joined(run, at, refused_in(label_now(standing, label)))
+}
+
+/// Which sources of a launcher were read.
+#[derive(Clone, Copy)]
+pub(crate) enum SourcesRead {
+    /// Its journal and its status file.
+    Both,
+    JournalAlone,
+    FileAlone,
+    /// Its status file alone, since its journal has too many bytes.
+    FileOfLongJournal,
+}
+
 /// Which sources were read, as a line of the head, and what is not known without the other one.
-pub(crate) fn sources_said(has_journal: bool, has_file: bool) -> &'static str {
-    match (has_journal, has_file) {
-        (true, true) => "Its journal and its status file were read.\n",
-        (true, false) => {
+pub(crate) fn sources_said(sources: SourcesRead) -> &'static str {
+    match sources {
+        SourcesRead::Both => "Its journal and its status file were read.\n",
+        SourcesRead::JournalAlone => {
             "Its journal alone was read: why starts were refused, what runs left running, and what the boot left out are not known.\n"
         }
-        (false, _) => {
+        SourcesRead::FileAlone => {
             "Its status file alone was read: refused loads, who disabled a label, and unsupported conditions are not known.\n"
+        }
+        SourcesRead::FileOfLongJournal => {
+            "Its status file alone was read, since its journal has more than 32 MiB: refused loads, who disabled a label, and unsupported conditions are not known.\n"
         }
     }
 }

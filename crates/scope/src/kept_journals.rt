@@ -15,6 +15,9 @@ const KEPT: u64 = 7;
 
 pub(crate) const MOST_KEPT: u64 = 99;
 
+/// How many bytes of journals are read besides a status file, together.
+pub(crate) const MOST_BYTES: u64 = 33_554_432;
+
 /// The path of the journal of the file's launcher, and that launcher's first clock reading. None: it is not that of `JOBD_JOURNAL`, nor, if that is
 /// not set, that of the launcher of `JOBD_SOCKET`, else the package's.
 pub(crate) fn journal_of(

@@ -1,7 +1,7 @@
 //! The launcher that is read if neither the arguments nor the variables of its files name one: that of `JOBD_SOCKET`, else the package's. Its places
 //! file says where its journal and its status file are.
 
-use launchctl_words::ScopeTask;
+use crate::sources::Answers;
 use launcher_places::{
     BEHIND_SOCKET, Places, PlacesFault, check_own_file, owner_of, places_beside,
 };
@@ -223,43 +223,43 @@ pub(crate) fn is_there(host: &HostRuntime, path: &str) -> bool {
 }
 
 /// Reports that the launcher has no file that answers the task, and which places were looked for, or why its files are not known.
-pub(crate) fn tell_no_file(host: &HostRuntime, files: &LauncherFiles, task: ScopeTask) {
+pub(crate) fn tell_no_file(host: &HostRuntime, files: &LauncherFiles, answers: Answers) {
     let about = files.about.as_str();
     if let Some(fault) = &files.fault {
         tell_of(host, about, fault);
     } else if files.is_packages {
-        tell_of(host, SOCKET, &not_found(task));
+        tell_of(host, SOCKET, &not_found(answers));
     } else {
-        tell_of(host, about, &not_written(task));
+        tell_of(host, about, &not_written(answers));
     }
 }
 
 /// Reports the same, of the launcher that is meant.
-pub(crate) fn tell_no_launcher(host: &HostRuntime, task: ScopeTask) -> io::Result<()> {
+pub(crate) fn tell_no_launcher(host: &HostRuntime, answers: Answers) -> io::Result<()> {
     let files = launcher_files(host, host.alloc())?;
-    tell_no_file(host, &files, task);
+    tell_no_file(host, &files, answers);
     drop(files);
     Ok(())
 }
 
-fn not_found(task: ScopeTask) -> &'static str {
-    match task {
-        ScopeTask::Status | ScopeTask::Metrics => {
+fn not_found(answers: Answers) -> &'static str {
+    match answers {
+        Answers::StatusFile => {
             "not set, and /run/jobd/jobd.sock.places and /run/jobd/status.jsonl are not there: set it, or give --status-file PATH"
         }
-        ScopeTask::Why | ScopeTask::Next => {
+        Answers::Either => {
             "not set, and /run/jobd/jobd.sock.places, /var/lib/jobd/journal.jsonl and /run/jobd/status.jsonl are not there: set it, or give --status-file PATH or --journal PATH (- is standard input)"
         }
-        _ => {
+        Answers::Journals => {
             "not set, and /run/jobd/jobd.sock.places and /var/lib/jobd/journal.jsonl are not there: set it, or give --journal PATH (- is standard input)"
         }
     }
 }
 
-fn not_written(task: ScopeTask) -> &'static str {
-    match task {
-        ScopeTask::Status | ScopeTask::Metrics => "its launcher writes no status file",
-        ScopeTask::Why | ScopeTask::Next => "its launcher writes no journal and no status file",
-        _ => "its launcher writes no journal",
+fn not_written(answers: Answers) -> &'static str {
+    match answers {
+        Answers::StatusFile => "its launcher writes no status file",
+        Answers::Either => "its launcher writes no journal and no status file",
+        Answers::Journals => "its launcher writes no journal",
     }
 }

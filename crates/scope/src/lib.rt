@@ -3,6 +3,7 @@
 
 mod age;
 mod as_root;
+mod asked;
 mod at;
 mod beside;
 mod by_file;
@@ -43,4 +44,4 @@ pub use journal::reader::{OpenJournal, open};
 pub use journal::source::read_source;
 pub use journal::telling::{JobCause, causes};
 pub use program::jobscope;
-pub use subcommands::{Part, Statuses, Subcommands};
+pub use subcommands::{Part, PartWords, Statuses, Subcommands};

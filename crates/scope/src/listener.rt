@@ -9,17 +9,46 @@ use crate::journal::lines::Receives;
 use crate::journal::news::News;
 use crate::journal::reader::{OpenJournal, open};
 use crate::named_labels::NamedLabels;
-use crate::texts::log::add_lines;
+use crate::texts::log::{add_lines, tells_refused};
 use crate::texts::log_ends::{add_clock, add_end};
 use crate::window::{ReportedSpan, Window};
 use calendar_due::Zone;
-use history_model::Reading;
+use history_model::{Reading, Text};
 use launchctl_words::{ScopeCommand, ScopeTask};
 use launcher_life::Life;
 use run_times::Filling::Now;
 use run_times::{Page, utc};
+use status_page::StatusRead;
 use std::alloc::{AllocError, Global};
 use std::mem;
+
+/// What is made of each line.
+#[derive(Clone, Copy)]
+enum Kept {
+    /// Nothing: the journal's end is asked for.
+    End,
+    /// The marks of a chart.
+    Marks,
+    /// The lines of a log.
+    Lines,
+}
+
+fn kept_for(task: &ScopeTask) -> Kept {
+    match task {
+        ScopeTask::Log(_) => Kept::Lines,
+        ScopeTask::Picture(_) => Kept::Marks,
+        ScopeTask::Check(_)
+        | ScopeTask::Next(_)
+        | ScopeTask::Status
+        | ScopeTask::Metrics
+        | ScopeTask::Why(_)
+        | ScopeTask::Runs(_)
+        | ScopeTask::Cron(_)
+        | ScopeTask::Plist(_)
+        | ScopeTask::Show
+        | ScopeTask::Drift => Kept::End,
+    }
+}
 
 /// Receives each line of a journal, and applies it to the journal's table. For a picture it keeps the marks of a chart, and for a log it
 /// shows the lines. Other tasks need only the journal's end.
@@ -27,6 +56,7 @@ use std::mem;
 pub(crate) struct JournalListener<'a> {
     alloc: Global,
     pub(crate) of: &'a ScopeCommand,
+    kept: Kept,
     /// The journal, if its header was read.
     pub(crate) journal: Option<OpenJournal>,
     pub(crate) received: ReceivedMarks<'a>,
@@ -34,6 +64,10 @@ pub(crate) struct JournalListener<'a> {
     pub(crate) named: NamedLabels<'a>,
     pub(crate) utc: Zone,
     pub(crate) window: Window,
+    /// For a log, the status file of a launcher, and that launcher's first clock reading.
+    pub(crate) beside: Option<(&'a StatusRead, Reading)>,
+    /// Whether a start that was refused was shown of a launcher whose status file was not read.
+    pub(crate) lacks_reason: bool,
     /// Whether a later journal is left out, since it begins after the time that is asked for.
     pub(crate) is_followed: bool,
     /// The seconds of the window, by the zone of the last header.
@@ -46,11 +80,14 @@ impl JournalListener<'_> {
         JournalListener {
             alloc,
             of,
+            kept: kept_for(&of.task),
             journal: None,
             received: ReceivedMarks::new(alloc, of.words.as_slice()),
             named: NamedLabels::new(alloc, of.words.as_slice()),
             utc: utc(),
             window,
+            beside: None,
+            lacks_reason: false,
             is_followed: false,
             told: ReportedSpan {
                 since: 0,
@@ -66,8 +103,8 @@ impl JournalListener<'_> {
 
     // The line of a log for the end of the journal that comes before this header, if that was not one in order.
     fn tell_end(&self, shown: &mut String) -> Result<(), JournalFault> {
-        match (&self.journal, self.of.task) {
-            (Some(journal), ScopeTask::Log) if self.tells(journal.table.reading()) => {
+        match (&self.journal, self.kept) {
+            (Some(journal), Kept::Lines) if self.tells(journal.table.reading()) => {
                 let zone = zone_shown(self.of, &self.utc, &journal.zone);
                 let mut page = Page::new(self.alloc, zone, journal.table.reading());
                 let life = if journal.has_ended() {
@@ -87,8 +124,8 @@ impl JournalListener<'_> {
 
     // The line of a log for a clock that was set, if the last line shows it; `before` is the clock reading before that line.
     fn tell_clock(&self, before: Reading, shown: &mut String) -> Result<(), JournalFault> {
-        match (&self.journal, self.of.task) {
-            (Some(journal), ScopeTask::Log) if self.tells(journal.table.reading()) => {
+        match (&self.journal, self.kept) {
+            (Some(journal), Kept::Lines) if self.tells(journal.table.reading()) => {
                 let now = journal.table.reading();
                 let zone = zone_shown(self.of, &self.utc, &journal.zone);
                 let mut page = Page::new(self.alloc, zone, now);
@@ -128,8 +165,8 @@ impl JournalListener<'_> {
         since: u64,
         shown: &mut String,
     ) -> Result<(), JournalFault> {
-        match (&self.journal, self.of.task) {
-            (Some(journal), ScopeTask::Log) if is_first && since > 0 => {
+        match (&self.journal, self.kept) {
+            (Some(journal), Kept::Lines) if is_first && since > 0 => {
                 let now = journal.table.reading();
                 if since >= now.wall {
                     return Ok(());
@@ -182,8 +219,8 @@ impl Receives for JournalListener<'_> {
         is_header: bool,
         shown: &mut String,
     ) -> Result<bool, JournalFault> {
-        let ended = match (&self.journal, self.of.task) {
-            (Some(journal), ScopeTask::Picture) if is_header => self
+        let ended = match (&self.journal, self.kept) {
+            (Some(journal), Kept::Marks) if is_header => self
                 .received
                 .end(&journal.past, journal.table.reading().wall),
             _ => Ok(()),
@@ -212,16 +249,20 @@ impl Receives for JournalListener<'_> {
         if self.named.see(news_of(&self.journal)).is_err() {
             return Err(JournalFault::NoMemory);
         }
-        let received = match (self.of.task, &self.journal) {
-            (ScopeTask::Picture, Some(journal)) => {
+        let received = match (self.kept, &self.journal) {
+            (Kept::Marks, Some(journal)) => {
                 let at = journal.table.reading().wall;
                 self.received.receive(at, journal.past.news.as_slice())
             }
-            (ScopeTask::Log, Some(journal)) => {
+            (Kept::Lines, Some(journal)) => {
                 let zone = zone_shown(self.of, &self.utc, &journal.zone);
                 let is_told = is_within(self.told, journal.table.reading().wall);
                 if is_told && (is_header || !journal.past.news.is_empty()) {
-                    add_shown(self.alloc, self.of, journal, zone, is_header, shown)
+                    let file = file_of(journal, self.beside);
+                    let labels = self.of.words.as_slice();
+                    let lacks = file.is_none() && tells_refused(journal, labels);
+                    self.lacks_reason = self.lacks_reason || lacks;
+                    add_shown(self.alloc, labels, journal, file, zone, is_header, shown)
                 } else {
                     Ok(())
                 }
@@ -252,11 +293,23 @@ fn is_within(told: ReportedSpan, second: u64) -> bool {
     told.since <= second && second <= told.until
 }
 
+// The status file, if it is that of the journal's launcher.
+fn file_of<'a>(
+    journal: &OpenJournal,
+    beside: Option<(&'a StatusRead, Reading)>,
+) -> Option<&'a StatusRead> {
+    match beside {
+        Some((standing, begun)) if begun == journal.begun => Some(standing),
+        _ => None,
+    }
+}
+
 // Adds the lines for what the journal's last line gave. After the header's line it adds that a launcher began.
 fn add_shown(
     alloc: Global,
-    of: &ScopeCommand,
+    labels: &[Text],
     journal: &OpenJournal,
+    file: Option<&StatusRead>,
     zone: &Zone,
     is_header: bool,
     shown: &mut String,
@@ -269,7 +322,7 @@ fn add_shown(
         ""
     };
     page.add(front, &[Now]);
-    add_lines(&mut page, journal, of.words.as_slice());
+    add_lines(&mut page, journal, labels, file);
     add_text(page, shown)
 }
 

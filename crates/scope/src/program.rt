@@ -3,8 +3,7 @@
 ghost use Rattle.std.specs.Prelude.{◌≡◌};
 ghost use Rattle.scope.specs.ExitStatus.{IsExit, Runs, RunsBySource, greatest_status};
 
-use crate::subcommands::Part::Journals;
-use crate::subcommands::{Statuses, Subcommands, part_of};
+use crate::subcommands::{PartWords, Statuses, Subcommands, part_of};
 use exit_status::USAGE;
 use launchctl_words::{Meaning, ScopeCommand, WordFault};
 use run_times::telling::{tell_end, want_memory};
@@ -49,7 +48,7 @@ fn run<P: Subcommands>(parts: &P, command: &ScopeCommand) -> io::Result<u8>
     ensures { Runs (P.Names parts.now) (P.Tells parts.now) (P.Ends parts.now) command.now result }
 {
     let has_words = !command.words.as_slice().is_empty();
-    let ended = match part_of(command.task, has_words) {
+    let ended = match part_of(&command.task, has_words) {
         Some(part) => parts.part(part, command),
         None => by_source(parts, command),
     };
@@ -66,7 +65,7 @@ fn by_source<P: Subcommands>(parts: &P, command: &ScopeCommand) -> io::Result<St
             drop(path);
             told
         }
-        Ok(None) => parts.part(Journals, command),
+        Ok(None) => parts.part(PartWords::Journals, command),
         Err(error) => Err(error),
     }
 }

@@ -7,9 +7,10 @@ ghost use Rattle.scope.specs.Findings.{AreFound};
 
 use crate::age::{AsOf, clock_as_of, reading_as_of};
 use crate::as_root::read_for;
+use crate::asked::{NextAsked, WhyAsked};
 use crate::at::{begun_by, read_up_to};
-use crate::beside::standing_beside;
-use crate::charted::{ReceivedMarks, chart_of};
+use crate::beside::{file_beside, standing_beside};
+use crate::charted::chart_of;
 use crate::clock::now;
 use crate::drift::drift_of;
 use crate::errors::{add_errors, put_errors};
@@ -28,12 +29,13 @@ use crate::objects::job::around_journal;
 use crate::objects::runs::runs_objects;
 use crate::objects::why::why_objects;
 use crate::page::coming_of;
+use crate::sources::{Answers, answers_of};
 use crate::subcommands::Statuses;
 use crate::texts::failing::{failed_runs, failing_text};
 use crate::texts::log::is_named;
 use crate::texts::log_ends::add_end;
 use crate::texts::next::{AskedStarts, next_lines};
-use crate::texts::runs::runs_table;
+use crate::texts::runs::{has_refused, runs_table};
 use crate::texts::show::show_text;
 use crate::texts::starts::{ComingLines, Telling, tells_clockless};
 use crate::texts::unknown::unknown_text;
@@ -43,8 +45,8 @@ use calendar_due::Zone;
 use definition_files::check::put_seen;
 use definition_files::tell_clockless;
 use exit_status::DIFFERS;
-use history_model::{Ended, Text};
-use launchctl_words::{ScopeCommand, ScopeTask};
+use history_model::{Ended, Reading, Text};
+use launchctl_words::{PictureWords, ScopeCommand, ScopeTask};
 use launcher_life::{JournalAsked, LauncherSeen, Life, journal_life};
 use run_times::picture::{Beside, Chart, blocks_text, picture_piece};
 use run_times::telling::{put, put_made, put_outcome, tell_of};
@@ -75,13 +77,18 @@ pub(crate) fn report<W: Wait>(
         Ok(window) => window,
         Err(found) => return Ok(Statuses::of(WELL, found)),
     };
-    if is_of_status_file(of.task) {
-        tell_no_launcher(host, of.task)?;
+    if let Answers::StatusFile = answers_of(&of.task) {
+        tell_no_launcher(host, Answers::StatusFile)?;
         return Ok(Statuses::of(WELL, UNREADABLE));
     }
     let paths = journal_paths(host, of)?;
+    let beside = log_beside(host, alloc, of);
     let mut lines = JournalLines::new(alloc);
     let mut listener = JournalListener::new(alloc, of, window);
+    listener.beside = match &beside {
+        Ok(Some((standing, begun))) => Some((standing, *begun)),
+        Ok(None) | Err(_) => None,
+    };
     let found = report_on(
         host,
         waits,
@@ -92,12 +99,39 @@ pub(crate) fn report<W: Wait>(
     );
     drop(listener);
     drop(lines);
+    drop(beside);
     drop(paths);
     match found {
         Ok((before, last)) => Ok(Statuses::of(before, last)),
         Err(error) => Err(error),
     }
 }
+
+// The status file that a log takes reasons from. Without memory for it the log has none.
+fn log_beside(
+    host: &HostRuntime,
+    alloc: Global,
+    of: &ScopeCommand,
+) -> Result<Option<(StatusRead, Reading)>, AllocError> {
+    match &of.task {
+        ScopeTask::Log(_) => file_beside(host, alloc, of.words.as_slice()),
+        ScopeTask::Check(_)
+        | ScopeTask::Next(_)
+        | ScopeTask::Status
+        | ScopeTask::Metrics
+        | ScopeTask::Why(_)
+        | ScopeTask::Runs(_)
+        | ScopeTask::Picture(_)
+        | ScopeTask::Cron(_)
+        | ScopeTask::Plist(_)
+        | ScopeTask::Show
+        | ScopeTask::Drift => Ok(None),
+    }
+}
+
+/// What is said if a start was refused, and no status file says why.
+const NO_REASONS: &str =
+    "read without its launcher's status file: why starts were refused is not known";
 
 // Of a journal that comes on standard input. Without one no journal was found, which was reported.
 fn report_input(
@@ -112,14 +146,6 @@ fn report_input(
     match report_by(host, alloc, None, lines, listener) {
         Ok(found) => Ok((WELL, found)),
         Err(error) => Err(error),
-    }
-}
-
-// Whether the task is answered by a status file alone: it comes here if there is none.
-fn is_of_status_file(task: ScopeTask) -> bool {
-    match task {
-        ScopeTask::Status | ScopeTask::Metrics => true,
-        _ => false,
     }
 }
 
@@ -141,7 +167,7 @@ fn report_on<W: Wait>(
     };
     let before = read_before(host, alloc, before, listener)?;
     let path = last.as_str();
-    let told = if listener.of.follows {
+    let told = if follows(&listener.of.task) {
         follow(host, waits, alloc, path, lines, listener)
     } else {
         report_by(host, alloc, Some(path), lines, listener)
@@ -160,7 +186,7 @@ fn up_to_moment<'a>(
     listener: &mut JournalListener<'_>,
 ) -> &'a [Text] {
     let of = listener.of;
-    let Some((moment, now)) = listener.window.end(of.task) else {
+    let Some((moment, now)) = listener.window.end(&of.task) else {
         return paths;
     };
     match begun_by(host, alloc, paths, of, moment, now) {
@@ -183,7 +209,7 @@ fn read_before(
     for path in paths {
         let path = path.as_str();
         let mut lines = JournalLines::new(alloc);
-        let is_quiet = is_quiet(listener.of.task);
+        let is_quiet = is_quiet(&listener.of.task);
         let told = match read_journal(host, Some(path), is_quiet, &mut lines, listener) {
             Ok(()) => Ok(damaged_if(tell_bad(host, path, &lines))),
             Err(fault) => tell_fault(host, path, fault),
@@ -210,10 +236,25 @@ fn differing_if(differs: bool) -> Findings {
 }
 
 // Nothing is shown while a journal is read.
-fn is_quiet(task: ScopeTask) -> bool {
+fn is_quiet(task: &ScopeTask) -> bool {
+    !matches!(task, ScopeTask::Log(_))
+}
+
+// Whether the journal is read on as it grows.
+fn follows(task: &ScopeTask) -> bool {
     match task {
-        ScopeTask::Log => false,
-        _ => true,
+        ScopeTask::Log(log) => log.follows,
+        ScopeTask::Check(_)
+        | ScopeTask::Next(_)
+        | ScopeTask::Status
+        | ScopeTask::Metrics
+        | ScopeTask::Why(_)
+        | ScopeTask::Runs(_)
+        | ScopeTask::Picture(_)
+        | ScopeTask::Cron(_)
+        | ScopeTask::Plist(_)
+        | ScopeTask::Show
+        | ScopeTask::Drift => false,
     }
 }
 
@@ -225,7 +266,7 @@ fn report_by(
     listener: &mut JournalListener<'_>,
 ) -> io::Result<Findings> {
     let name = path.unwrap_or(INPUT);
-    let is_quiet = is_quiet(listener.of.task);
+    let is_quiet = is_quiet(&listener.of.task);
     let (read, as_of) = match read_as_of(host, alloc, path, is_quiet, lines, listener) {
         Ok(as_of) => (damaged_if(tell_bad(host, name, lines)), as_of),
         // What came before that line is reported.
@@ -235,7 +276,7 @@ fn report_by(
         }
         Err(fault) => return tell_fault(host, name, fault),
     };
-    if let (Some(path), ScopeTask::Log) = (path, listener.of.task) {
+    if let (Some(path), ScopeTask::Log(_)) = (path, &listener.of.task) {
         put_end(host, alloc, path, listener)?;
     }
     match write_report(host, alloc, name, listener, as_of) {
@@ -254,17 +295,26 @@ fn read_as_of(
     listener: &mut JournalListener<'_>,
 ) -> Result<AsOf, JournalFault> {
     let of = listener.of;
-    if let Some((moment, now)) = listener.window.end(of.task) {
+    if let Some((moment, now)) = listener.window.end(&of.task) {
         let as_of = read_up_to(host, alloc, path, moment, now, lines, listener)?;
         return Ok(with_gap(host, alloc, path, listener, as_of));
     }
-    match (read_journal(host, path, is_quiet, lines, listener), of.task) {
-        (Ok(()), ScopeTask::Why | ScopeTask::Next) => seen_now(host, alloc, path, listener),
-        (Ok(()), ScopeTask::Picture) if of.is_page => {
+    read_journal(host, path, is_quiet, lines, listener)?;
+    match &of.task {
+        ScopeTask::Why(_) | ScopeTask::Next(_) => seen_now(host, alloc, path, listener),
+        ScopeTask::Picture(picture) if picture.is_page => {
             Ok(AsOf::End(seen_at(host, alloc, path, listener)))
         }
-        (Ok(()), _) => Ok(AsOf::End(None)),
-        (Err(fault), _) => Err(fault),
+        ScopeTask::Picture(_)
+        | ScopeTask::Log(_)
+        | ScopeTask::Runs(_)
+        | ScopeTask::Show
+        | ScopeTask::Drift
+        | ScopeTask::Check(_)
+        | ScopeTask::Cron(_)
+        | ScopeTask::Plist(_)
+        | ScopeTask::Status
+        | ScopeTask::Metrics => Ok(AsOf::End(None)),
     }
 }
 
@@ -375,22 +425,39 @@ fn write_report(
     let of = listener.of;
     let zone = zone_shown(of, &listener.utc, &journal.zone);
     let labels = of.words.as_slice();
-    let written = match of.task {
-        ScopeTask::Why => return put_joined(host, alloc, name, journal, zone, of, as_of),
-        ScopeTask::Runs => put_runs(host, alloc, name, journal, zone, of, as_of),
-        ScopeTask::Picture => paint(host, alloc, journal, zone, &listener.received, of, as_of),
-        ScopeTask::Show => put_made(host, show_text(alloc, journal, zone, labels, of.is_json)),
-        ScopeTask::Next => put_next(host, alloc, name, journal, zone, of, as_of),
+    match &of.task {
+        ScopeTask::Why(why) => {
+            let asked = WhyAsked::of(of, why);
+            return put_joined(host, alloc, name, journal, zone, asked, as_of);
+        }
         ScopeTask::Drift => return put_drift(host, alloc, journal, zone, of),
-        _ => Ok(()),
-    };
-    match (written, of.task) {
-        (Ok(()), ScopeTask::Log | ScopeTask::Runs | ScopeTask::Picture | ScopeTask::Show) => Ok(
-            nowhere_if(tell_absent(host, alloc, name, listener, journal)?),
-        ),
-        (Ok(()), _) => Ok(WELL),
-        (Err(error), _) => Err(error),
+        ScopeTask::Next(next) => {
+            put_next(
+                host,
+                alloc,
+                name,
+                journal,
+                zone,
+                NextAsked::of(of, next),
+                as_of,
+            )?;
+            return Ok(WELL);
+        }
+        ScopeTask::Log(_) if listener.lacks_reason => tell_of(host, name, &NO_REASONS),
+        ScopeTask::Log(_) => {}
+        ScopeTask::Runs(_) => put_runs(host, alloc, name, journal, zone, of, as_of)?,
+        ScopeTask::Picture(picture) => {
+            paint(host, alloc, journal, zone, listener, picture, as_of)?;
+        }
+        ScopeTask::Show => put_made(host, show_text(alloc, journal, zone, labels, of.is_json))?,
+        // No journal is read for these.
+        ScopeTask::Check(_)
+        | ScopeTask::Cron(_)
+        | ScopeTask::Plist(_)
+        | ScopeTask::Status
+        | ScopeTask::Metrics => return Ok(WELL),
     }
+    Ok(nowhere_if(tell_absent(host, alloc, name, listener, journal)?))
 }
 
 // Why each job runs or not, by the journal and, if the report is of now, by the status file of its launcher.
@@ -400,23 +467,21 @@ fn put_joined(
     name: &str,
     journal: &OpenJournal,
     zone: &Zone,
-    of: &ScopeCommand,
+    asked: WhyAsked<'_>,
     as_of: AsOf,
 ) -> io::Result<Findings> {
     let standing = match as_of {
-        AsOf::Seen(_, _, _) => standing_beside(host, alloc, journal.begun, of.words.as_slice())?,
+        AsOf::Seen(_, _, _) => standing_beside(host, alloc, journal.begun, asked.labels)?,
         AsOf::End(_) | AsOf::Moment { .. } => None,
     };
     let left = match &standing {
-        Some(standing) if !of.is_failing => {
-            left_running(host, alloc, standing, of.words.as_slice())
-        }
+        Some(standing) if !asked.is_failing => { left_running(host, alloc, standing, asked.labels) }
         _ => Ok(Vec::new(alloc)),
     };
     let found = match &left {
         Ok(left) => {
             let joined = JoinedJournal::new(journal, standing.as_ref(), left.as_slice());
-            put_why(host, alloc, name, joined, zone, of, as_of)
+            put_why(host, alloc, name, joined, zone, asked, as_of)
         }
         Err(_) => Err(io::Error::from(io::ErrorKind::OutOfMemory)),
     };
@@ -431,22 +496,22 @@ fn put_why(
     name: &str,
     joined: JoinedJournal<'_>,
     zone: &Zone,
-    of: &ScopeCommand,
+    asked: WhyAsked<'_>,
     as_of: AsOf,
 ) -> io::Result<Findings> {
-    if of.is_json {
-        return put_objects(host, alloc, name, joined, zone, of, as_of);
+    if asked.is_json {
+        return put_objects(host, alloc, name, joined, zone, asked, as_of);
     }
     let journal = joined.journal;
-    let labels = of.words.as_slice();
-    if of.is_failing {
+    let labels = asked.labels;
+    if asked.is_failing {
         let found = put_failing(host, alloc, name, joined, zone, labels, as_of)?;
-        put_failed(host, alloc, name, journal, of, as_of)?;
+        put_failed(host, alloc, name, journal, asked, as_of)?;
         return Ok(found);
     }
     put_made(host, why_text(alloc, joined, zone, labels, as_of))?;
     let is_nowhere = tell_unknown(host, alloc, name, joined, labels)?;
-    put_failed(host, alloc, name, journal, of, as_of)?;
+    put_failed(host, alloc, name, journal, asked, as_of)?;
     put_now(host, alloc, journal, labels)?;
     Ok(nowhere_if(is_nowhere))
 }
@@ -490,11 +555,11 @@ fn put_failed(
     alloc: Global,
     name: &str,
     journal: &OpenJournal,
-    of: &ScopeCommand,
+    asked: WhyAsked<'_>,
     as_of: AsOf,
 ) -> io::Result<()> {
-    let failed = failed_runs(alloc, journal, of.words.as_slice(), as_of)?;
-    if !of.is_failing && !failed.is_empty() {
+    let failed = failed_runs(alloc, journal, asked.labels, as_of)?;
+    if !asked.is_failing && !failed.is_empty() {
         put(host, "\n")?;
     }
     let is_seen = match as_of {
@@ -513,13 +578,13 @@ fn put_objects(
     name: &str,
     joined: JoinedJournal<'_>,
     zone: &Zone,
-    of: &ScopeCommand,
+    asked: WhyAsked<'_>,
     as_of: AsOf,
 ) -> io::Result<Findings> {
-    let (text, count) = why_objects(alloc, joined, zone, of, as_of)?;
+    let (text, count) = why_objects(alloc, joined, zone, asked, as_of)?;
     put_made(host, Ok(text))?;
-    let is_nowhere = tell_unknown(host, alloc, name, joined, of.words.as_slice())?;
-    Ok(nowhere_if(is_nowhere).and(differing_if(of.is_failing && count > 0)))
+    let is_nowhere = tell_unknown(host, alloc, name, joined, asked.labels)?;
+    Ok(nowhere_if(is_nowhere).and(differing_if(asked.is_failing && count > 0)))
 }
 
 fn put_runs(
@@ -536,12 +601,32 @@ fn put_runs(
     }
     let now = reading_as_of(as_of, journal.table.reading());
     let labels = of.words.as_slice();
+    let standing = reasons_beside(host, alloc, journal, labels)?;
+    if standing.is_none() && has_refused(&journal.past, labels) {
+        tell_of(host, name, &NO_REASONS);
+    }
+    let file = standing.as_ref();
     let made = if of.is_json {
-        runs_objects(alloc, &journal.past, zone, now, labels)
+        runs_objects(alloc, &journal.past, file, zone, now, labels)
     } else {
-        runs_table(alloc, &journal.past, now, labels)
+        runs_table(alloc, &journal.past, file, now, labels)
     };
+    drop(standing);
     put_made(host, made)
+}
+
+// The status file that says why starts were refused, if one was.
+fn reasons_beside(
+    host: &HostRuntime,
+    alloc: Global,
+    journal: &OpenJournal,
+    labels: &[Text],
+) -> Result<Option<StatusRead>, AllocError> {
+    if has_refused(&journal.past, labels) {
+        standing_beside(host, alloc, journal.begun, labels)
+    } else {
+        Ok(None)
+    }
 }
 
 // The coming starts, after the second as of which the journal's end is seen.
@@ -551,37 +636,37 @@ fn put_next(
     name: &str,
     journal: &OpenJournal,
     zone: &Zone,
-    of: &ScopeCommand,
+    next: NextAsked,
     as_of: AsOf,
 ) -> io::Result<()> {
     let last = journal.table.reading();
-    let count = if of.is_all { COUNT } else { u64::MAX };
+    let count = if next.is_all { COUNT } else { u64::MAX };
     let asked = AskedStarts {
         zone,
         as_of,
-        is_all: of.is_all,
+        is_all: next.is_all,
         telling: Telling {
             now: clock_as_of(as_of, last).wall,
-            count: of.count.unwrap_or(count),
-            is_json: of.is_json,
+            count: next.count.unwrap_or(count),
+            is_json: next.is_json,
             around: around_journal(as_of, last),
         },
     };
-    tell_unforetold(host, name, of, as_of.foretells());
+    tell_unforetold(host, name, next.is_json, as_of.foretells());
     let ComingLines {
         text,
         jobs,
         clockless,
     } = next_lines(alloc, journal, asked)?;
-    if tells_clockless(of.is_all, clockless, jobs) {
+    if tells_clockless(next.is_all, clockless, jobs) {
         tell_clockless(host, name, clockless, jobs);
     }
     put_made(host, Ok(text))
 }
 
 /// Says in the place of objects that no start is foretold. A text has a head that says it.
-pub(crate) fn tell_unforetold(host: &HostRuntime, name: &str, of: &ScopeCommand, foretells: bool) {
-    if of.is_json && !foretells {
+pub(crate) fn tell_unforetold(host: &HostRuntime, name: &str, is_json: bool, foretells: bool) {
+    if is_json && !foretells {
         tell_of(
             host,
             name,
@@ -708,18 +793,29 @@ fn tell_unloaded(
     journal: &OpenJournal,
     label: &str,
 ) -> Result<bool, AllocError> {
-    match listener.of.task {
+    match &listener.of.task {
         ScopeTask::Show if journal.facts(label).is_none() => {
             let told = format!(in alloc; "{label} is not loaded")?;
             tell_of(host, name, &told);
             drop(told);
             Ok(true)
         }
-        ScopeTask::Picture if journal.past.jobs.get(label).is_none() => {
+        ScopeTask::Picture(_) if journal.past.jobs.get(label).is_none() => {
             tell_of(host, label, &"the journal has no load of it");
             Ok(false)
         }
-        _ => Ok(false),
+        ScopeTask::Show
+        | ScopeTask::Picture(_)
+        | ScopeTask::Log(_)
+        | ScopeTask::Runs(_)
+        | ScopeTask::Drift
+        | ScopeTask::Why(_)
+        | ScopeTask::Next(_)
+        | ScopeTask::Status
+        | ScopeTask::Metrics
+        | ScopeTask::Check(_)
+        | ScopeTask::Cron(_)
+        | ScopeTask::Plist(_) => Ok(false),
     }
 }
 
@@ -728,13 +824,13 @@ fn paint(
     alloc: Global,
     journal: &OpenJournal,
     zone: &Zone,
-    received: &ReceivedMarks<'_>,
-    of: &ScopeCommand,
+    listener: &JournalListener<'_>,
+    picture: &PictureWords,
     as_of: AsOf,
 ) -> io::Result<()> {
-    let labels = of.words.as_slice();
-    let chart = chart_of(alloc, &journal.past, received)?;
-    let painted = if of.is_page {
+    let labels = listener.of.words.as_slice();
+    let chart = chart_of(alloc, &journal.past, &listener.received)?;
+    let painted = if picture.is_page {
         paint_page(host, alloc, journal, zone, &chart, labels, as_of)
     } else if host.stdout().is_terminal() {
         put_made(
@@ -757,7 +853,11 @@ fn paint_page(
     labels: &[Text],
     as_of: AsOf,
 ) -> io::Result<()> {
-    let table = runs_table(alloc, &journal.past, journal.table.reading(), labels)?;
+    let standing = reasons_beside(host, alloc, journal, labels)?;
+    let last = journal.table.reading();
+    let made = runs_table(alloc, &journal.past, standing.as_ref(), last, labels);
+    drop(standing);
+    let table = made?;
     let joined = JoinedJournal::new(journal, None, &[]);
     let why = why_text(alloc, joined, zone, labels, as_of)?;
     let coming = if as_of.foretells() {

@@ -1,7 +1,7 @@
 //! What a command reads of a launcher: its status file, or journals.
 
 ghost use Rattle.std.specs.Prelude.{◌≡◌};
-ghost use Rattle.scope.specs.Sources.{found_source, named_source, next_source, source_found, status_source, why_source};
+ghost use Rattle.scope.specs.Sources.{answers_in, either_unless, found_source, named_source, next_source, source_found, status_source, why_source};
 
 use launchctl_words::ScopeTask;
 
@@ -15,6 +15,17 @@ pub(crate) enum Source {
     /// The status file of the launcher of `JOBD_SOCKET`, else of the package's.
     LauncherFile,
     /// The journals: of the arguments, else of `JOBD_JOURNAL`, else of that launcher.
+    Journals,
+}
+
+/// Which sources answer a task.
+#[derive(Clone, Copy)]
+pub(crate) enum Answers {
+    /// A status file alone.
+    StatusFile,
+    /// A status file as well as journals.
+    Either,
+    /// Journals alone.
     Journals,
 }
 
@@ -32,14 +43,21 @@ pub(crate) struct NamedSources {
 }
 
 /// What the task reads of the named ones. None: none that it can read is named.
-pub(crate) fn named_source(task: ScopeTask, named: NamedSources) -> Option<Source>
-    ensures { result ≡ named_source task named }
+pub(crate) fn named_source(task: &ScopeTask, named: NamedSources) -> Option<Source>
+    ensures { result ≡ named_source task.now named }
 {
     match task {
         ScopeTask::Status | ScopeTask::Metrics => source_of_status(named),
-        ScopeTask::Why => source_of_why(named),
-        ScopeTask::Next => source_of_next(named),
-        _ => Some(Source::Journals),
+        ScopeTask::Why(_) => source_of_why(named),
+        ScopeTask::Next(_) => source_of_next(named),
+        ScopeTask::Check(_)
+        | ScopeTask::Log(_)
+        | ScopeTask::Runs(_)
+        | ScopeTask::Picture(_)
+        | ScopeTask::Cron(_)
+        | ScopeTask::Plist(_)
+        | ScopeTask::Show
+        | ScopeTask::Drift => Some(Source::Journals),
     }
 }
 
@@ -86,14 +104,21 @@ fn source_of_next(named: NamedSources) -> Option<Source>
 }
 
 /// What the task reads of the launcher, given whether its journal can be opened and goes on, and whether it has a status file. None: nothing.
-pub(crate) fn found_source(task: ScopeTask, opens: bool, has_file: bool) -> Option<Source>
-    ensures { result ≡ found_source task opens has_file }
+pub(crate) fn found_source(task: &ScopeTask, opens: bool, has_file: bool) -> Option<Source>
+    ensures { result ≡ found_source task.now opens has_file }
 {
     match task {
         ScopeTask::Status | ScopeTask::Metrics if has_file => Some(Source::LauncherFile),
         ScopeTask::Status | ScopeTask::Metrics => None,
-        ScopeTask::Why | ScopeTask::Next => Some(source_found(opens, has_file)),
-        _ => Some(Source::Journals),
+        ScopeTask::Why(_) | ScopeTask::Next(_) => Some(source_found(opens, has_file)),
+        ScopeTask::Check(_)
+        | ScopeTask::Log(_)
+        | ScopeTask::Runs(_)
+        | ScopeTask::Picture(_)
+        | ScopeTask::Cron(_)
+        | ScopeTask::Plist(_)
+        | ScopeTask::Show
+        | ScopeTask::Drift => Some(Source::Journals),
     }
 }
 
@@ -105,5 +130,34 @@ fn source_found(opens: bool, has_file: bool) -> Source
         Source::LauncherFile
     } else {
         Source::Journals
+    }
+}
+
+/// Which sources answer the task. `why` at a time, and all of the coming starts, are asked of no status file.
+pub(crate) fn answers_of(task: &ScopeTask) -> Answers
+    ensures { result ≡ answers_in task.now }
+{
+    match task {
+        ScopeTask::Status | ScopeTask::Metrics => Answers::StatusFile,
+        ScopeTask::Why(why) => either_unless(why.at.is_some()),
+        ScopeTask::Next(next) => either_unless(next.is_all),
+        ScopeTask::Check(_)
+        | ScopeTask::Log(_)
+        | ScopeTask::Runs(_)
+        | ScopeTask::Picture(_)
+        | ScopeTask::Cron(_)
+        | ScopeTask::Plist(_)
+        | ScopeTask::Show
+        | ScopeTask::Drift => Answers::Journals,
+    }
+}
+
+fn either_unless(is_of_journal: bool) -> Answers
+    ensures { result ≡ either_unless is_of_journal }
+{
+    if is_of_journal {
+        Answers::Journals
+    } else {
+        Answers::Either
     }
 }

@@ -1,5 +1,6 @@
 //! The subcommands of `jobscope` as parts of one run: what each ends with.
 
+ghost use Rattle.std.specs.Option.{option_map};
 ghost use Rattle.std.specs.Prelude.{◌≡◌, ℕ, List, Option, Result, String as OwnText};
 ghost use Rattle.std.specs.declared.alloc.Global.{Global as Shared};
 ghost use Rattle.std.specs.declared.io.Error.{Error as IoFault};
@@ -9,10 +10,12 @@ ghost use Rattle.command_words.specs.declared.scope_command.ScopeCommand.{ScopeC
 ghost use Rattle.scope.specs.declared.subcommands.Part.{Part as Kind};
 ghost use Rattle.scope.specs.declared.subcommands.Statuses.{Statuses as Both};
 ghost use Rattle.scope.specs.Findings.{findings_status};
-ghost use Rattle.scope.specs.Parts.{part_in};
+ghost use Rattle.scope.specs.Parts.{part_in, part_with};
 
 use crate::found::Findings;
-use launchctl_words::{Meaning, ScopeCommand, ScopeTask, WordFault};
+use launchctl_words::{
+    CheckWords, CronWords, ListWords, Meaning, NextWords, ScopeCommand, ScopeTask, WordFault,
+};
 use std::io;
 
 /// A part that reads no status file.
@@ -25,6 +28,17 @@ pub enum Part {
     /// `plist`.
     Lists,
     /// Whatever a journal is asked for.
+    Journals,
+}
+
+/// A part that reads no status file, with what the arguments say for it alone.
+#[derive(Clone, Copy)]
+pub enum PartWords<'a> {
+    Check(&'a CheckWords),
+    /// `next` with definitions.
+    Next(&'a NextWords),
+    Crontab(&'a CronWords),
+    Lists(&'a ListWords),
     Journals,
 }
 
@@ -95,19 +109,27 @@ pub trait Subcommands {
         ensures { Self.Tells self.now command.now path.now result };
 
     /// Does what the command asks, which reads no status file.
-    fn part(&self, part: Part, command: &ScopeCommand) -> io::Result<Statuses>
-        ensures { Self.Ends self.now part command.now result };
+    fn part(&self, part: PartWords<'_>, command: &ScopeCommand) -> io::Result<Statuses>
+        ensures { Self.Ends self.now (part_with part.entry) command.now result };
 }
 
 /// The part that does the task, with further arguments or without. None for a task that a status file or a journal may answer.
-pub(crate) fn part_of(task: ScopeTask, has_words: bool) -> Option<Part>
-    ensures { result ≡ part_in task has_words }
+pub(crate) fn part_of(task: &ScopeTask, has_words: bool) -> Option<PartWords<'_>>
+    ensures { option_map part_with result ≡ part_in task.now has_words }
 {
     match task {
-        ScopeTask::Next if has_words => Some(Part::Definitions),
-        ScopeTask::Check => Some(Part::Definitions),
-        ScopeTask::Cron => Some(Part::Crontab),
-        ScopeTask::Plist => Some(Part::Lists),
-        _ => None,
+        ScopeTask::Check(check) => Some(PartWords::Check(check)),
+        ScopeTask::Next(next) if has_words => Some(PartWords::Next(next)),
+        ScopeTask::Cron(cron) => Some(PartWords::Crontab(cron)),
+        ScopeTask::Plist(lists) => Some(PartWords::Lists(lists)),
+        ScopeTask::Next(_)
+        | ScopeTask::Status
+        | ScopeTask::Metrics
+        | ScopeTask::Why(_)
+        | ScopeTask::Log(_)
+        | ScopeTask::Runs(_)
+        | ScopeTask::Picture(_)
+        | ScopeTask::Show
+        | ScopeTask::Drift => None,
     }
 }

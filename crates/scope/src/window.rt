@@ -6,7 +6,7 @@ use crate::journal::fault::JournalFault;
 use crate::printed_times::read_printed;
 use calendar_due::Zone;
 use history_model::{MAX_WALL, Text};
-use launchctl_words::{ScopeCommand, ScopeTask};
+use launchctl_words::{ScopeCommand, ScopeTask, SpanWords};
 use moment_words::{Moment, WANTED, read_moment, second_of};
 
 /// The times of the arguments.
@@ -35,12 +35,55 @@ pub(crate) struct ReportedSpan {
     pub(crate) until: u64,
 }
 
+/// The times that the arguments name, as they write them.
+#[derive(Clone, Copy)]
+struct TimeWords<'a> {
+    at: Option<&'a Text>,
+    since: Option<&'a Text>,
+    until: Option<&'a Text>,
+}
+
+/// No time is named.
+const NO_TIMES: TimeWords<'static> = TimeWords {
+    at: None,
+    since: None,
+    until: None,
+};
+
+fn times_of(task: &ScopeTask) -> TimeWords<'_> {
+    match task {
+        ScopeTask::Why(why) => TimeWords {
+            at: why.at.as_ref(),
+            ..NO_TIMES
+        },
+        ScopeTask::Log(log) => times_in(&log.span),
+        ScopeTask::Runs(span) => times_in(span),
+        ScopeTask::Picture(picture) => times_in(&picture.span),
+        ScopeTask::Check(_)
+        | ScopeTask::Next(_)
+        | ScopeTask::Status
+        | ScopeTask::Metrics
+        | ScopeTask::Cron(_)
+        | ScopeTask::Plist(_)
+        | ScopeTask::Show
+        | ScopeTask::Drift => NO_TIMES,
+    }
+}
+
+fn times_in(span: &SpanWords) -> TimeWords<'_> {
+    TimeWords {
+        at: None,
+        since: span.since.as_ref(),
+        until: span.until.as_ref(),
+    }
+}
+
 /// The times that the arguments name. If one is not a time, or if the clock can't be read, it reports that and returns what that means.
 pub(crate) fn window_of(host: &HostRuntime, of: &ScopeCommand) -> Result<Window, Findings> {
-    let words = &of.moments;
-    let at = moment_of(host, "--at", &words.at)?;
-    let since = moment_of(host, "--since", &words.since)?;
-    let until = moment_of(host, "--until", &words.until)?;
+    let words = times_of(&of.task);
+    let at = moment_of(host, "--at", words.at)?;
+    let since = moment_of(host, "--since", words.since)?;
+    let until = moment_of(host, "--until", words.until)?;
     let second = match (of.from, since, until) {
         (Some(second), _, _) => Some(second),
         (None, None, None) => Some(0),
@@ -60,7 +103,7 @@ pub(crate) fn window_of(host: &HostRuntime, of: &ScopeCommand) -> Result<Window,
 fn moment_of(
     host: &HostRuntime,
     option: &str,
-    text: &Option<Text>,
+    text: Option<&Text>,
 ) -> Result<Option<Moment>, Findings> {
     let Some(text) = text else {
         return Ok(None);
@@ -81,14 +124,19 @@ fn moment_of(
 impl Window {
     /// The time after which a journal is not read for the task, if there is one, and the second that is now for it. None for that second: the
     /// second of the journal's last event.
-    pub(crate) fn end(&self, task: ScopeTask) -> Option<(Moment, Option<u64>)> {
-        match (self.at, self.until, task) {
-            (Some(moment), _, _) => Some((moment, None)),
-            (None, Some(moment), ScopeTask::Runs | ScopeTask::Picture) => Some((
-                moment,
-                Some(self.now),
-            )),
-            _ => None,
+    pub(crate) fn end(&self, task: &ScopeTask) -> Option<(Moment, Option<u64>)> {
+        match task {
+            ScopeTask::Why(_) => Some((self.at?, None)),
+            ScopeTask::Runs(_) | ScopeTask::Picture(_) => Some((self.until?, Some(self.now))),
+            ScopeTask::Check(_)
+            | ScopeTask::Next(_)
+            | ScopeTask::Status
+            | ScopeTask::Metrics
+            | ScopeTask::Log(_)
+            | ScopeTask::Cron(_)
+            | ScopeTask::Plist(_)
+            | ScopeTask::Show
+            | ScopeTask::Drift => None,
         }
     }
 

@@ -7,7 +7,11 @@ use run_times::Filling::{Moment, Number, Text, Time};
 use run_times::Page;
 use status_file::{JournalStatus, LauncherStatus};
 
-/// Adds the report on the launcher at a second: as of when the file is, how old it is, whether its process is running, and what it could not write.
+/// The line of the head of a launcher that shuts down.
+pub const ENDING: &str = "It is shutting down: it starts no job.\n";
+
+/// Adds the report on the launcher at a second: as of when the file is, how old it is, whether its process is running, and what it could not write. A
+/// line follows if it shuts down.
 pub fn add_head(page: &mut Page<'_>, standing: &StatusRead, second: u64) {
     let Some(launcher) = standing.launcher() else {
         return;
@@ -54,6 +58,8 @@ pub fn add_head(page: &mut Page<'_>, standing: &StatusRead, second: u64) {
     };
     page.add(form, &[Number(u64::from(process)), second]);
     add_faults(page, &launcher);
+    page.writer
+        .put(if standing.is_ending() { ENDING } else { "" });
 }
 
 fn add_faults(page: &mut Page<'_>, launcher: &LauncherStatus<'_>) {

@@ -30,7 +30,7 @@ pub use failing::{
     Failing, Fault, LastEnd, PastRuns, add_failing, fault_of, is_crash, is_failure,
     is_refused_last, is_start_refused, last_end_of,
 };
-pub use head::add_head;
+pub use head::{ENDING, add_head};
 pub use left_out::{add_left_out, is_told};
 pub use passed::{Down, passed_minute};
 pub use rows::{Next, ShownState, StatusRow, last_refused, row_of};

@@ -59,6 +59,14 @@ impl StatusRead {
         may_live(self.seen.life)
     }
 
+    /// Whether its launcher accepted a shutdown, and may be running. A launcher of version 0.3.0 does not say it.
+    pub fn is_ending(&self) -> bool {
+        match self.launcher() {
+            Some(launcher) => self.may_live() && launcher.is_shutting_down.unwrap_or(false),
+            None => false,
+        }
+    }
+
     /// Whether something may be foretold of its jobs: its launcher runs.
     pub fn foretells(&self) -> bool {
         foretells(self.seen.life)

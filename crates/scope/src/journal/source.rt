@@ -7,6 +7,7 @@ ghost use Rattle.scope.specs.Journals.{Reads, ReceivesPiece, ReceivesAll};
 use crate::journal::fault::JournalFault;
 use crate::journal::lines::{JournalLines, Receives};
 use crate::launcher::{is_there, launcher_files, tell_no_file};
+use crate::sources::answers_of;
 use history_model::Text;
 use launchctl_words::{Paths, ScopeCommand, ScopeTask};
 use run_times::telling::{put, tell_line, tell_of};
@@ -159,12 +160,6 @@ pub(crate) fn reads_input(of: &ScopeCommand) -> bool {
     }
 }
 
-/// Whether standard input is one of several journals.
-pub(crate) fn has_input_among(of: &ScopeCommand) -> bool {
-    let journals = of.journals.as_slice();
-    journals.len() > 1 && journals.iter().any(|path| path.as_str() == INPUT_WORD)
-}
-
 /// The paths of the journals, the oldest first: those of the arguments, else that of `JOBD_JOURNAL`, else that of the launcher. If there is none, it
 /// reports that and returns none; it returns none too if the journal comes on standard input.
 pub(crate) fn journal_paths(host: &HostRuntime, of: &ScopeCommand) -> io::Result<Paths> {
@@ -223,21 +218,12 @@ fn add_launchers(host: &HostRuntime, of: &ScopeCommand, paths: &mut Vec<Text>) -
             add_path(host, of, path.as_str(), paths)
         }
         _ => {
-            tell_no_file(host, &files, task_told(of));
+            tell_no_file(host, &files, answers_of(&of.task));
             Ok(())
         }
     };
     drop(files);
     Ok(added?)
-}
-
-// The task by which a missing file is reported: what only a journal has is asked of no status file.
-fn task_told(of: &ScopeCommand) -> ScopeTask {
-    if of.moments.at.is_some() || of.is_all {
-        ScopeTask::Log
-    } else {
-        of.task
-    }
 }
 
 // Whether one after the first of the paths is the same file as that one: of a journal that is named twice the last counts.
@@ -280,14 +266,7 @@ fn add_path(
     if path.is_empty() {
         return Ok(());
     }
-    let most = match of.task {
-        ScopeTask::Log if of.follows => 0,
-        ScopeTask::Log | ScopeTask::Runs | ScopeTask::Picture => MOST_KEPT,
-        ScopeTask::Why if of.moments.at.is_some() => MOST_KEPT,
-        // The one before says since when no launcher ran.
-        ScopeTask::Why => 1,
-        _ => 0,
-    };
+    let most = most_kept(&of.task);
     let alloc = host.alloc();
     let kept = count_kept(host, path, most)?;
     for newer in 0..kept {
@@ -295,6 +274,25 @@ fn add_path(
         paths.push(Text::new(format!(in alloc; "{path}.{number}")?))?;
     }
     Ok(paths.push(Text::copy_of(alloc, path)?)?)
+}
+
+// How many journals of launchers before are read at most.
+fn most_kept(task: &ScopeTask) -> u64 {
+    match task {
+        ScopeTask::Log(log) if log.follows => 0,
+        ScopeTask::Log(_) | ScopeTask::Runs(_) | ScopeTask::Picture(_) => MOST_KEPT,
+        ScopeTask::Why(why) if why.at.is_some() => MOST_KEPT,
+        // The one before says since when no launcher ran.
+        ScopeTask::Why(_) => 1,
+        ScopeTask::Check(_)
+        | ScopeTask::Next(_)
+        | ScopeTask::Status
+        | ScopeTask::Metrics
+        | ScopeTask::Cron(_)
+        | ScopeTask::Plist(_)
+        | ScopeTask::Show
+        | ScopeTask::Drift => 0,
+    }
 }
 
 // How many journals of launchers before are kept next to the path, without a gap, and no more than `most`.

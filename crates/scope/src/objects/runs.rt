@@ -2,19 +2,21 @@
 
 use crate::journal::job::KeptJob;
 use crate::journal::past::Past;
-use crate::objects::lines::number_of;
-use crate::texts::runs::{asked_jobs, lengths, median_of};
+use crate::objects::lines::{number_of, text_of};
+use crate::texts::runs::{asked_jobs, lengths, median_of, refusal_of};
 use calendar_due::Zone;
 use history_model::{Reading, Text};
 use json_lines::Value::Number;
 use json_lines::{Field, put_line};
 use run_times::Page;
+use status_page::StatusRead;
 use std::alloc::{AllocError, Global};
 
 /// An object for each row of `runs_table`, in order, with the same counts; spans are in milliseconds.
 pub(crate) fn runs_objects(
     alloc: Global,
     past: &Past,
+    standing: Option<&StatusRead>,
     zone: &Zone,
     now: Reading,
     labels: &[Text],
@@ -24,7 +26,8 @@ pub(crate) fn runs_objects(
     match asked_jobs(alloc, past, labels) {
         Ok(jobs) => {
             for (label, job) in &jobs {
-                put_job(&mut page, lengths.as_slice(), *label, *job);
+                let reason = refusal_of(*job, *label, standing);
+                put_job(&mut page, lengths.as_slice(), *label, *job, reason);
             }
             drop(jobs);
         }
@@ -34,7 +37,13 @@ pub(crate) fn runs_objects(
     page.into_text()
 }
 
-fn put_job(page: &mut Page<'_>, lengths: &[(u64, u64)], label: &str, job: &KeptJob) {
+fn put_job(
+    page: &mut Page<'_>,
+    lengths: &[(u64, u64)],
+    label: &str,
+    job: &KeptJob,
+    reason: Option<&str>,
+) {
     let totals = job.record.totals_at(job.def.is_some(), page.now);
     let has_ended = totals.shortest <= totals.longest;
     let (shortest, longest) = if has_ended {
@@ -59,6 +68,7 @@ fn put_job(page: &mut Page<'_>, lengths: &[(u64, u64)], label: &str, job: &KeptJ
         Field("loaded_ms", Number(totals.loaded)),
         Field("gap_ms", Number(totals.gap)),
         Field("failed", Number(totals.failed)),
+        Field("reason", text_of(reason)),
     ];
     put_line(page, "label", label, &fields);
 }

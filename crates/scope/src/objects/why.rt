@@ -1,6 +1,7 @@
 //! Why each job of a journal or of a status file is in its state, an object a job.
 
 use crate::age::{AsOf, clock_as_of, reading_as_of};
+use crate::asked::WhyAsked;
 use crate::joined::{
     JoinedJournal, LabelNow, disabled_joined, label_now, label_past, line_with, runs_joined,
 };
@@ -23,7 +24,6 @@ use calendar_due::Zone;
 use history_model::{Entry, Reading};
 use json_lines::Value;
 use json_lines::Value::{Absent, Json, Moment};
-use launchctl_words::ScopeCommand;
 use leftovers::RunProcess;
 use run_times::Page;
 use status_file::{JobFacts, JobStatus, StatusLine, state_name, state_of};
@@ -35,7 +35,7 @@ pub(crate) fn why_objects(
     alloc: Global,
     joined: JoinedJournal<'_>,
     zone: &Zone,
-    of: &ScopeCommand,
+    asked: WhyAsked<'_>,
     as_of: AsOf,
 ) -> Result<(String, u64), AllocError> {
     let journal = joined.journal;
@@ -43,18 +43,18 @@ pub(crate) fn why_objects(
     let mut page = Page::new(alloc, zone, reading_as_of(as_of, last));
     let around = around_journal(as_of, last);
     let clock = clock_as_of(as_of, last);
-    let asked = asked_labels(alloc, journal, of.words.as_slice())?;
+    let labels = asked_labels(alloc, journal, asked.labels)?;
     let mut count: u64 = 0;
-    for label in &asked {
-        let fails = put_known(&mut page, joined, *label, of.is_failing, around, clock);
+    for label in &labels {
+        let fails = put_known(&mut page, joined, *label, asked.is_failing, around, clock);
         count = count.saturating_add(u64::from(fails));
     }
-    drop(asked);
-    if !of.is_failing {
+    drop(labels);
+    if !asked.is_failing {
         put_left(&mut page, joined.processes, around);
     }
     if let Some(standing) = joined.standing {
-        let left_out = put_left_out(&mut page, standing, of.words.as_slice(), around);
+        let left_out = put_left_out(&mut page, standing, asked.labels, around);
         count = count.saturating_add(left_out);
     }
     match page.into_text() {
@@ -184,13 +184,13 @@ fn put_whole<'x>(
 pub(crate) fn standing_objects(
     alloc: Global,
     standing: &StatusRead,
-    of: &ScopeCommand,
+    asked: WhyAsked<'_>,
     second: u64,
     left: &[RunProcess],
     journal: Option<&OpenJournal>,
 ) -> Result<(String, u64), AllocError> {
     let zone = standing.zone(alloc, false)?;
-    let objects = objects_in(alloc, standing, of, second, &zone, left, journal);
+    let objects = objects_in(alloc, standing, asked, second, &zone, left, journal);
     drop(zone);
     objects
 }
@@ -199,13 +199,13 @@ pub(crate) fn standing_objects(
 fn objects_in(
     alloc: Global,
     standing: &StatusRead,
-    of: &ScopeCommand,
+    asked: WhyAsked<'_>,
     second: u64,
     zone: &Zone,
     left: &[RunProcess],
     journal: Option<&OpenJournal>,
 ) -> Result<(String, u64), AllocError> {
-    let shown = standing.zone(alloc, of.is_utc)?;
+    let shown = standing.zone(alloc, asked.is_utc)?;
     let last = reading_of(standing);
     let mut page = Page::new(alloc, &shown, told_as_of(standing, last, second));
     let around = around_file(standing.seen, last);
@@ -214,9 +214,9 @@ fn objects_in(
     let mut count: u64 = 0;
     for line in standing.jobs() {
         if let Ok(job) = line.job() {
-            if is_asked(of.words.as_slice(), job.label) {
+            if is_asked(asked.labels, job.label) {
                 let fault = line_fault(alloc, standing, line, &job, zone, now)?;
-                if fault.is_some() || !of.is_failing {
+                if fault.is_some() || !asked.is_failing {
                     let beside = beside_of(&job, last, fault, journal);
                     let of_file = ByFile { zone, last, clock };
                     put_status(&mut page, line, &job, beside, of_file, around);
@@ -225,14 +225,14 @@ fn objects_in(
             }
         }
     }
-    if let (Some(journal), false) = (journal, of.is_failing) {
+    if let (Some(journal), false) = (journal, asked.is_failing) {
         let joined = JoinedJournal::new(journal, Some(standing), left);
-        put_others(&mut page, joined, standing, of, around, clock)?;
+        put_others(&mut page, joined, standing, asked, around, clock)?;
     }
-    if !of.is_failing {
+    if !asked.is_failing {
         put_left(&mut page, left, around);
     }
-    let left_out = put_left_out(&mut page, standing, of.words.as_slice(), around);
+    let left_out = put_left_out(&mut page, standing, asked.labels, around);
     count = count.saturating_add(left_out);
     let text = page.into_text();
     drop(shown);
@@ -273,17 +273,17 @@ fn put_others(
     page: &mut Page<'_>,
     joined: JoinedJournal<'_>,
     standing: &StatusRead,
-    of: &ScopeCommand,
+    asked: WhyAsked<'_>,
     around: ReportContext,
     clock: Reading,
 ) -> Result<(), AllocError> {
-    let asked = asked_labels(page.alloc, joined.journal, of.words.as_slice())?;
-    for label in &asked {
+    let labels = asked_labels(page.alloc, joined.journal, asked.labels)?;
+    for label in &labels {
         if line_with(standing.jobs(), *label).is_none() {
             let _fails = put_known(page, joined, *label, false, around, clock);
         }
     }
-    drop(asked);
+    drop(labels);
     Ok(())
 }
 

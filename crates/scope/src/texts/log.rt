@@ -1,5 +1,6 @@
 //! The journal for people: a line for each event that matters.
 
+use crate::joined::reason_beside;
 use crate::journal::job::KeptJob;
 use crate::journal::news::{News, What};
 use crate::journal::reader::OpenJournal;
@@ -12,6 +13,7 @@ use history_model::{DemandKind, Reading, Refusal, Wants};
 use pace::Signal;
 use run_times::Filling::{Now, Number, Span, Text, Time};
 use run_times::{Filling, Page, coming_second};
+use status_page::StatusRead;
 
 /// What ends the line of the third end in turn that is odd.
 const BACKGROUND: &str =
@@ -28,11 +30,12 @@ pub(crate) fn is_named(labels: &[history_model::Text], label: &str) -> bool {
 }
 
 /// Adds what the last line of the journal gave, a line each, of the labels that are named, or of all if none is. What has no label is of
-/// each.
+/// each. Why a start was refused is that of the status file of the journal's launcher, if that was read.
 pub(crate) fn add_lines(
     page: &mut Page<'_>,
     journal: &OpenJournal,
     labels: &[history_model::Text],
+    standing: Option<&StatusRead>,
 ) {
     for news in &journal.past.news {
         let label = news.label.as_str();
@@ -42,10 +45,30 @@ pub(crate) fn add_lines(
                 _ => None,
             };
             let until = until_of(journal, news, page.now);
-            add_news(page, news, path, until);
+            let reason = reason_of(news, standing, page.now);
+            add_news(page, news, path, until, reason);
             add_missed(page, journal, news);
         }
     }
+}
+
+// Why a start was refused, if the line says that one was.
+fn reason_of<'a>(news: &News, standing: Option<&'a StatusRead>, now: Reading) -> Option<&'a str> {
+    match news.what {
+        What::NotBegun { run, .. } => reason_beside(standing, news.label.as_str(), run, now),
+        _ => None,
+    }
+}
+
+/// Whether the last line of the journal says that a start was refused of a label that is named.
+pub(crate) fn tells_refused(journal: &OpenJournal, labels: &[history_model::Text]) -> bool {
+    for news in &journal.past.news {
+        match news.what {
+            What::NotBegun { .. } if is_named(labels, news.label.as_str()) => return true,
+            _ => {}
+        }
+    }
+    false
 }
 
 // After a load it adds that a minute of the job's calendar passed while no launcher ran, if one did.
@@ -90,8 +113,15 @@ fn until_of(journal: &OpenJournal, news: &News, now: Reading) -> u64 {
     }
 }
 
-// For an order of a start, `path` is the one that keeps its job wanted. If the job waits for its throttle, this lasts until `until`.
-fn add_news(page: &mut Page<'_>, news: &News, path: Option<&str>, until: u64) {
+// For an order of a start, `path` is the one that keeps its job wanted. If the job waits for its throttle, this lasts until `until`. Of a start that
+// was refused `reason` says why.
+fn add_news(
+    page: &mut Page<'_>,
+    news: &News,
+    path: Option<&str>,
+    until: u64,
+    reason: Option<&str>,
+) {
     let label = news.label.as_str();
     let front = if label.is_empty() { "$  " } else { "$  $: " };
     page.add(front, &[Now, Text(label)]);
@@ -107,6 +137,7 @@ fn add_news(page: &mut Page<'_>, news: &News, path: Option<&str>, until: u64) {
         }
         What::LoadRefused(refusal) => add_refused(page, *refusal),
         What::Ended { run, .. } => add_ended(page, run),
+        What::NotBegun { run, .. } => add_not_begun(page, *run, reason),
         what => add_what(page, what),
     }
     add_wait(page, &news.what, until);
@@ -120,6 +151,13 @@ fn add_refused(page: &mut Page<'_>, refusal: Refusal) {
         "load refused: $$ $"
     };
     page.add(form, &[Text(words), Text(reason), Text(key)]);
+}
+
+fn add_not_begun(page: &mut Page<'_>, run: u64, reason: Option<&str>) {
+    match reason {
+        Some(reason) => page.add("run $ was refused: $", &[Number(run), Text(reason)]),
+        None => page.add("run $ was refused", &[Number(run)]),
+    }
 }
 
 // The news that one form with two holes can say.
@@ -148,7 +186,6 @@ fn add_what(page: &mut Page<'_>, what: &What) {
             Number(run),
             Number(number),
         ),
-        What::NotBegun { run, .. } => ("run $ was refused", Number(run), none),
         What::Lost { run } => (
             "run $: the system refused to wait for it, so its exit is not seen",
             Number(run),

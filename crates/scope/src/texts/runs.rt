@@ -1,23 +1,28 @@
 //! What the runs of each job came to, in columns with a tab between them.
 
+use crate::joined::reason_beside;
 use crate::journal::job::{KeptJob, Totals};
 use crate::journal::past::Past;
 use crate::journal::run::RunEnd;
+use crate::texts::log::is_named;
 use history_model::{Reading, Text};
 use run_times::{Piece, TextWriter};
+use status_page::StatusRead;
 use std::alloc::{AllocError, Global};
 
 const HEAD: &str =
-    "label\tstarts\trefused\tcode\tsignal\tcrashes\tshortest\tmedian\tlongest\tup\tgap\tnonzero\tfailed\n";
+    "label\tstarts\trefused\tcode\tsignal\tcrashes\tshortest\tmedian\tlongest\tup\tgap\tnonzero\tfailed\treason\n";
 
 /// A head, and a line for each job, or for each of the named ones that the journal has. Its first columns are starts, refused starts, exits
 /// with a code and by a signal, and crashes. Then come the shortest, median and longest run in seconds. The median is that of the completed
 /// runs that are kept; of an even number it is the lower of the two in the middle. Then come the share of the time that the job was up
-/// while it was loaded, and the longest time without a run in seconds. Then come the exits with a code above 0. The last column counts the
-/// runs that failed. `-` means that there is no value.
+/// while it was loaded, and the longest time without a run in seconds. Then come the exits with a code above 0, and the runs that failed. The last
+/// column is why the last start of a load was refused that was, by the status file of the journal's launcher, if that was read. `-` means that there is no
+/// value.
 pub(crate) fn runs_table(
     alloc: Global,
     past: &Past,
+    standing: Option<&StatusRead>,
     now: Reading,
     labels: &[Text],
 ) -> Result<String, AllocError> {
@@ -27,7 +32,8 @@ pub(crate) fn runs_table(
     match asked_jobs(alloc, past, labels) {
         Ok(jobs) => {
             for (label, job) in &jobs {
-                add_row(&mut writer, now, lengths.as_slice(), *label, *job);
+                let reason = refusal_of(*job, *label, standing);
+                add_row(&mut writer, now, lengths.as_slice(), *label, *job, reason);
             }
             drop(jobs);
         }
@@ -35,6 +41,26 @@ pub(crate) fn runs_table(
     }
     drop(lengths);
     writer.into_text()
+}
+
+/// Why the last refused start of the job's last load was refused, as far as the status file has it.
+pub(crate) fn refusal_of<'a>(
+    job: &KeptJob,
+    label: &str,
+    standing: Option<&'a StatusRead>,
+) -> Option<&'a str> {
+    let start = job.record.log.facts().refused?;
+    reason_beside(standing, label, start.run, start.at)
+}
+
+/// Whether a start of one of the jobs of the rows was refused.
+pub(crate) fn has_refused(past: &Past, labels: &[Text]) -> bool {
+    for (label, job) in &past.jobs {
+        if is_named(labels, label.as_str()) && job.record.log.facts().refused.is_some() {
+            return true;
+        }
+    }
+    false
 }
 
 /// The jobs of the rows: all, or those named, in the order of the arguments.
@@ -81,6 +107,7 @@ fn add_row(
     lengths: &[(u64, u64)],
     label: &str,
     job: &KeptJob,
+    reason: Option<&str>,
 ) {
     let totals = job.record.totals_at(job.def.is_some(), now);
     writer.put_plain(label);
@@ -93,6 +120,8 @@ fn add_row(
         Piece::Number(totals.nonzero),
         Piece::Text("\t"),
         Piece::Number(totals.failed),
+        Piece::Text("\t"),
+        Piece::Text(reason.unwrap_or("-")),
         Piece::Text("\n"),
     ]);
 }

@@ -4,7 +4,7 @@ ghost use Rattle.std.specs.Prelude.{◌≡◌};
 ghost use Rattle.calendar_due.specs.ZoneRules.{minute_at};
 ghost use Rattle.scope.specs.Told.{IsCalendarNext, facts_then};
 
-use crate::age::ENDING;
+use crate::beside::BesideJournal;
 use crate::errors::FailedRun;
 use crate::joined::{JoinedJournal, LabelNow, disabled_joined, line_with, sources_said};
 use crate::journal::labels::KnownLabels;
@@ -25,8 +25,8 @@ use run_times::Filling::{Number, Text, Time};
 use run_times::Page;
 use status_file::{DisabledBy, JobNote, JobStatus, StatusLine};
 use status_page::{
-    Down, Failing, Fault, StatusRead, add_failing, add_head, add_left_out, gone_on, is_asked,
-    passed_minute, reading_of, told_as_of, within_limits,
+    Down, ENDING, Failing, Fault, StatusRead, add_failing, add_head, add_left_out, gone_on,
+    is_asked, passed_minute, reading_of, told_as_of, within_limits,
 };
 use std::alloc::{AllocError, Global};
 
@@ -43,12 +43,10 @@ pub(crate) fn standing_text(
     is_utc: bool,
     second: u64,
     left: &[RunProcess],
-    journal: Option<&OpenJournal>,
+    beside: &BesideJournal,
 ) -> Result<String, AllocError> {
     let zone = standing.zone(alloc, false)?;
-    let text = text_in(
-        alloc, standing, labels, is_utc, second, &zone, left, journal,
-    );
+    let text = text_in(alloc, standing, labels, is_utc, second, &zone, left, beside);
     drop(zone);
     text
 }
@@ -62,12 +60,12 @@ fn text_in(
     second: u64,
     zone: &Zone,
     left: &[RunProcess],
-    journal: Option<&OpenJournal>,
+    beside: &BesideJournal,
 ) -> Result<String, AllocError> {
     let shown = standing.zone(alloc, is_utc)?;
     let last = reading_of(standing);
     let mut page = Page::new(alloc, &shown, told_as_of(standing, last, second));
-    add_all(&mut page, zone, standing, labels, second, left, journal);
+    add_all(&mut page, zone, standing, labels, second, left, beside);
     let text = page.into_text();
     drop(shown);
     text
@@ -81,13 +79,14 @@ fn add_all(
     labels: &[history_model::Text],
     second: u64,
     left: &[RunProcess],
-    journal: Option<&OpenJournal>,
+    beside: &BesideJournal,
 ) {
+    let journal = beside.journal();
     add_head(page, standing, second);
-    if is_ending(standing, journal) {
+    if !standing.is_ending() && is_ending(standing, journal) {
         page.writer.put(ENDING);
     }
-    page.writer.put(sources_said(journal.is_some(), true));
+    page.writer.put(sources_said(beside.sources()));
     if standing.is_empty() {
         page.writer.put("\nNo job is loaded.\n");
     }
@@ -108,7 +107,7 @@ fn add_all(
     let _count = add_left_out(page, standing, labels);
 }
 
-// Whether the launcher was asked for a shutdown, which the journal alone says, and may be running.
+// Whether the launcher accepted a shutdown by the journal, and may be running. The file says it up to a second later.
 fn is_ending(standing: &StatusRead, journal: Option<&OpenJournal>) -> bool {
     match journal {
         Some(journal) => standing.may_live() && journal.table.is_shutting_down(),

@@ -3,12 +3,12 @@
 ghost use Rattle.std.specs.Prelude.{◌≤◌};
 ghost use Rattle.history_model.specs.declared.TheConstants.{MAX_UP, MAX_WALL};
 
+use crate::asked::NextAsked;
 use crate::objects::job::around_file;
 use crate::texts::starts::{ComingLines, Start, Telling, put_starts};
 use calendar_due::Zone;
 use definition_files::calendar_after;
 use history_model::{Entry, Reading};
-use launchctl_words::ScopeCommand;
 use run_times::{Page, coming_second};
 use status_file::{JobStatus, StatusLine};
 use status_page::{
@@ -32,7 +32,7 @@ struct Moments {
 pub(crate) fn standing_lines(
     alloc: Global,
     standing: &StatusRead,
-    of: &ScopeCommand,
+    asked: NextAsked,
     second: u64,
 ) -> Result<ComingLines, AllocError> {
     let zone = standing.zone(alloc, false)?;
@@ -41,7 +41,7 @@ pub(crate) fn standing_lines(
     let moments = Moments { at, second, now };
     let lines = match starts_of(alloc, standing, &zone, moments) {
         Ok(mut starts) => {
-            let lines = lines_of(alloc, standing, of, &zone, moments, &mut starts);
+            let lines = lines_of(alloc, standing, asked, &zone, moments, &mut starts);
             drop(starts);
             lines
         }
@@ -71,7 +71,7 @@ fn starts_of<'a>(
 fn lines_of(
     alloc: Global,
     standing: &StatusRead,
-    of: &ScopeCommand,
+    asked: NextAsked,
     zone: &Zone,
     moments: Moments,
     starts: &mut Vec<Start<'_>>,
@@ -82,7 +82,7 @@ fn lines_of(
         0
     };
     let clockless = jobs.saturating_sub(starts.len() as u64);
-    match text_of(alloc, standing, of, zone, moments, starts) {
+    match text_of(alloc, standing, asked, zone, moments, starts) {
         Ok(text) => Ok(ComingLines {
             text,
             jobs,
@@ -96,21 +96,21 @@ fn lines_of(
 fn text_of(
     alloc: Global,
     standing: &StatusRead,
-    of: &ScopeCommand,
+    asked: NextAsked,
     zone: &Zone,
     moments: Moments,
     starts: &mut Vec<Start<'_>>,
 ) -> Result<String, AllocError> {
-    let shown = standing.zone(alloc, of.is_utc)?;
+    let shown = standing.zone(alloc, asked.is_utc)?;
     let last = told_as_of(standing, moments.at, moments.second);
     let mut page = Page::new(alloc, &shown, last);
-    if !of.is_json {
+    if !asked.is_json {
         add_head(&mut page, standing, moments.second);
     }
     let telling = Telling {
         now: moments.now,
-        count: of.count.unwrap_or(u64::MAX),
-        is_json: of.is_json,
+        count: asked.count.unwrap_or(u64::MAX),
+        is_json: asked.is_json,
         around: around_file(standing.seen, moments.at),
     };
     put_starts(&mut page, zone, telling, starts);
