@@ -198,6 +198,10 @@ impl JournalListener<'_> {
             },
             kept => {
                 let mut opened = open(self.alloc, line)?;
+                opened.past.has_news = match self.kept {
+                    Kept::Marks | Kept::Lines => true,
+                    Kept::End => false,
+                };
                 if let Some(before) = kept {
                     let last = before.table.reading();
                     let now = opened.table.reading();

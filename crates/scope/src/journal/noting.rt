@@ -184,7 +184,7 @@ impl Past {
             None => Ok(()),
         };
         match (what, kept) {
-            (Some(what), Ok(())) => self.add_news(alloc, label, what),
+            (Some(what), Ok(())) if self.has_news => self.add_news(alloc, label, what),
             (_, kept) => kept,
         }
     }
@@ -237,7 +237,11 @@ impl Past {
                 What::Gone
             }
         };
-        self.add_news(alloc, label, what)
+        if self.has_news {
+            self.add_news(alloc, label, what)
+        } else {
+            Ok(())
+        }
     }
 }
 

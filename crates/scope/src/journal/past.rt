@@ -31,6 +31,8 @@ pub(crate) struct Past {
     pub(crate) runs: VecDeque<JobRun>,
     /// How many more are over than are kept.
     pub(crate) dropped: u64,
+    /// Whether each line becomes news, as a log and a picture need it. Without it only loads and requests do, by which a label is known.
+    pub(crate) has_news: bool,
     /// What the last line gave, in order.
     pub(crate) news: Vec<News>,
     /// The second from which on it counts, and whether it does.
@@ -52,6 +54,7 @@ impl Past {
             labels: KnownLabels::new(alloc),
             runs: VecDeque::new(alloc),
             dropped: 0,
+            has_news: true,
             news: Vec::new(alloc),
             from: 0,
             counts: false,

@@ -11,7 +11,7 @@ use crate::journal::past::Past;
 use crate::journal::waiting::{Wait, wait_in};
 use calendar_due::Zone;
 use ctl_protocol::{Header, LineRoom, ReadFault, read_event, read_header};
-use history_model::{Event, Reading, Refusal};
+use history_model::{Event, Reading, Refusal, Wants};
 use job_table::{JobTable, Taken};
 use std::alloc::{AllocError, Global};
 use table_opening::{OpeningFault, table_of, zone_of};
@@ -132,7 +132,7 @@ fn apply(
         Err(Refusal::NoMemory) => return Err(AllocError),
         Err(refusal) => Err(refusal),
     };
-    let wait = wait_after(table, event);
+    let wait = wait_after(table, past, event);
     let now = table.reading();
     past.reach(last, now);
     match (past.note(alloc, event, made, wait, now), made) {
@@ -141,11 +141,22 @@ fn apply(
     }
 }
 
-// The wait of the job that the event was of, as the table has it.
-fn wait_after(table: &JobTable, event: &Event<'_>) -> Wait {
+// The wait of the job that the event was of, as the table has it. Only news tells it.
+fn wait_after(table: &JobTable, past: &Past, event: &Event<'_>) -> Wait {
     match event {
-        Event::OfJob { job, .. } => wait_in(table, job.as_str()),
+        Event::OfJob { job, .. } if past.has_news => wait_in(table, job.as_str()),
         _ => Wait::Leaves,
+    }
+}
+
+// What wants the job, as news tells it.
+fn wants_told(table: &JobTable, past: &Past, label: &str) -> Option<Wants> {
+    if !past.has_news {
+        return None;
+    }
+    match table.reasons(label) {
+        Some(reasons) => Some(reasons.wants),
+        None => None,
     }
 }
 
@@ -160,10 +171,7 @@ fn note_orders(
     for order in step.orders {
         let label = step.label(order.job);
         let demand = table.latest_demand(label);
-        let wants = match table.reasons(label) {
-            Some(reasons) => Some(reasons.wants),
-            None => None,
-        };
+        let wants = wants_told(table, past, label);
         past.note_order(alloc, label, order.act, demand, wants, at)?;
     }
     Ok(())
