@@ -8,8 +8,9 @@ The programs are build/jobd and build/jobctl where none are given. PARTS in the 
           what was loaded before are not in it. With BASELINE=PROGRAM that program, which reads the same lines from standard input, is
           counted too, and stands in place of the yardstick; with PLAIN=PROGRAM a third, as an earlier build's `jobd replay`
   split   where the instructions of a clock line with nothing due go: by parts, and the 16 dearest functions (callgrind)
-  dear    the time that one dear line, or 40,000 cheap ones, take: the difference of two streams, the least of five
-  live    the running launcher: settings, TERM, rest with 1,000 children, connections
+  dear    the time that one dear line, or 40,000 cheap ones, take, and `jobscope why` over a journal: the difference of two streams, the
+          least of five
+  live    the running launcher: settings, a start over many, TERM, rest with 1,000 children, connections
 The yardstick is a plain Rust program beside `serde_json`, over a heap of timers, with no proof, as it was counted in November 2026; for the
 live launcher it is what a C program needs, or tcpserver. `-` is what was not measured. NOTE=MACHINE in the environment has each
 figure added to history.csv, with that name. The status is 1 where a figure misses its aim.
@@ -69,6 +70,8 @@ DEAR = [
     ("a load with 18,000 unknown keys", "keys", 1, (0, 18_000), 20),
     ("a refused line with 87,000 objects", "objects", 0, (0, 87_000), 20),
 ]
+WHY = "`jobscope why` of one job by a journal of 1,000 jobs, 1,000 lines"
+WHY_AIM = 2.5
 # The tables of a store, in the order in which a launcher makes them.
 OVERRIDES = "CREATE TABLE overrides (label TEXT NOT NULL PRIMARY KEY, disabled INTEGER NOT NULL CHECK (disabled IN (0, 1))) STRICT"
 SETTINGS = "CREATE TABLE settings (label TEXT NOT NULL PRIMARY KEY, disabled INTEGER NOT NULL CHECK (disabled IN (0, 1)), " \
@@ -180,6 +183,20 @@ def dear(jobd, folder):
         figure = least(command, kind, jobs, many, folder) - least(command, kind, jobs, few, folder)
         print(f"| {what} | {text(figure)} | {verdict(what, figure, aim)} |", flush=True)
         note(what, figure, "ms")
+    jobscope = os.path.join(os.path.dirname(jobd), "jobscope")
+    if os.path.exists(jobscope):
+        what, figure = WHY, why_of_lines(jobscope, folder)
+        print(f"| {what} | {text(figure)} | {verdict(what, figure, WHY_AIM)} |", flush=True)
+        note(what, figure, "ms")
+
+
+def why_of_lines(jobscope, folder):
+    path, took, lines = os.path.join(folder, "stream"), [], []
+    for length in (4_000, 40_000):
+        lines.append(write_stream(path, "starts", 1000, length))
+        command = [jobscope, "why", "--journal", path, "work.0500"]
+        took.append(min(seconds(command, path, os.path.join(folder, "written")) for _ in range(5)) * 1000)
+    return (took[1] - took[0]) / (lines[1] - lines[0]) * 1000
 
 
 def fill(count):
@@ -222,6 +239,27 @@ def settings(jobd, jobctl):
     yield "a live setting with ten stored", few, "ms", None, "-"
     yield f"a live setting with {MOST_LABELS:,} stored", many, "ms", None, "-"
     yield f"a live setting with {MOST_LABELS:,} stored, to one with ten", many / few, "times", 1.5, "-"
+    yield f"a start over {MOST_LABELS:,} stored settings", starting(jobd, jobctl, MOST_LABELS), "ms", 400, "-"
+
+
+def starting(jobd, jobctl, count):
+    """The milliseconds from the start of a launcher over a store with so many settings to its ready line, the median of five."""
+    def once():
+        begun = []
+
+        def prepare(folder):
+            fill(count)(folder)
+            begun.append(live.now())
+
+        launcher = live.Launcher(jobd, jobctl, prepare)
+        try:
+            took = live.now() - begun[0]
+            launcher.stop()
+            return took
+        finally:
+            launcher.end()
+
+    return statistics.median(once() for _ in range(5))
 
 
 def sleepers(launcher, count):

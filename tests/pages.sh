@@ -143,48 +143,50 @@ same(f"{PAGE}: reasons", reasons, set(re.findall(r"^\.It Ql ([A-Z]\w+)$", fault_
 
 # ---- the numbers of the keys
 
-DEFS = "crates/job_defs/src/"
 SOURCE = {
-    "launch": read(DEFS + "launch.rt"),
-    "demand": read(DEFS + "demand.rt"),
-    "calendars": read(DEFS + "calendars.rt"),
-    "conditions": read(DEFS + "conditions.rt"),
-    "surroundings": read(DEFS + "surroundings.rt"),
-    "socket": read(DEFS + "socket.rt"),
-    "host": read(DEFS + "host.rt"),
-    "sockets": read(DEFS + "sockets.rt"),
+    "limits": read("crates/job_defs/src/limits.rt"),
+    "demand": read("crates/job_defs/src/demand.rt"),
+    "host": read("crates/job_defs/src/host.rt"),
     "keys": read("crates/json_kinds/src/keys.rt"),
     "label": read("crates/history_model/specs/Labels.antt"),
 }
-# What several files count by is named in one.
-LIMITS = dict(re.findall(r"const (\w+): usize = ([\d_]+);", read(DEFS + "demand.rt")))
-for name, limit in LIMITS.items():
-    SOURCE = {file: re.sub(rf"\b{name}\b", limit, text) for file, text in SOURCE.items()}
+
+
+def limit(name):
+    """How a limit stands in the source: its number."""
+    return rf"\b{name}: \w+ = ([\d_]+);"
+
+
+def least_and_most(name):
+    return rf"(?s)\b{name}_LEAST: \w+ = ([\d_]+);.*\b{name}_MOST: \w+ = ([\d_]+);"
+
+
 # Each key, the file that checks it, and how its numbers stand there. Behind them stand numbers that the page may name too.
 NUMBERS = [
     ("Label", "label", r"nat_lt (\d+) \(length bytes\) && nat_le \(length bytes\) (\d+)", {"32", "127"}),
-    ("Program", "launch", r"WORD_LIMIT: usize = ([\d_]+)", {"1"}),
-    ("ProgramArguments", "launch", r"WORD_LIMIT: usize = ([\d_]+)", {"256", "0"}),
-    ("ProgramArguments", "launch", r"words\.len\(\) > ([\d_]+)", {"4,096", "0"}),
-    ("PathState", "conditions", r"members\.len\(\) > ([\d_]+)", set()),
-    ("QueueDirectories", "demand", r"items\.len\(\) > ([\d_]+) - before", set()),
-    ("StartInterval", "demand", r"KeyName::StartInterval, ([\d_]+), ([\d_]+)", set()),
-    ("StartCalendarInterval", "calendars", r"entries\.len\(\) > ([\d_]+)", set()),
-    ("Minute", "calendars", r"MINUTE, (\d+), (\d+)", set()),
-    ("Hour", "calendars", r"HOUR, (\d+), (\d+)", set()),
-    ("Day", "calendars", r"DAY, (\d+), (\d+)", set()),
-    ("Weekday", "calendars", r"WEEKDAY, (\d+), (\d+)", set()),
-    ("Month", "calendars", r"MONTH, (\d+), (\d+)", {"400"}),
-    ("ThrottleInterval", "demand", r"KeyName::ThrottleInterval, ([\d_]+), ([\d_]+), ([\d_]+)", {"1"}),
-    ("ExitTimeOut", "demand", r"KeyName::ExitTimeOut, ([\d_]+), ([\d_]+), ([\d_]+)", set()),
-    ("EnvironmentVariables", "surroundings", r"members\.len\(\) > ([\d_]+)", {"1", "255", "4,096"}),
-    ("EnvironmentVariables", "surroundings", r"KeyName::EnvironmentVariables, (255)", {"1", "128", "4,096"}),
-    ("EnvironmentVariables", "surroundings", r"plain_text\(value, KeyName::EnvironmentVariables, ([\d_]+)", {"1", "128", "255"}),
-    ("Sockets", "sockets", r"room: usize = (\d+)", {"65,536", "64"}),
-    ("SockPathName", "socket", r"SOCKET_PATH_LIMIT: usize = ([\d_]+)", {"1", "0600"}),
+    ("Program", "limits", limit("WORD_LIMIT"), {"1"}),
+    ("ProgramArguments", "limits", limit("WORD_LIMIT"), {"256", "0"}),
+    ("ProgramArguments", "limits", limit("ARGUMENTS_LIMIT"), {"4,096", "0"}),
+    ("PathState", "limits", limit("LIST_LIMIT"), set()),
+    ("QueueDirectories", "limits", limit("LIST_LIMIT"), set()),
+    ("StartInterval", "limits", least_and_most("INTERVAL"), set()),
+    ("StartCalendarInterval", "limits", limit("LIST_LIMIT"), set()),
+    ("Minute", "limits", least_and_most("MINUTE"), set()),
+    ("Hour", "limits", least_and_most("HOUR"), set()),
+    ("Day", "limits", least_and_most("DAY"), set()),
+    ("Weekday", "limits", least_and_most("WEEKDAY"), set()),
+    ("Month", "limits", least_and_most("MONTH"), {"400"}),
+    ("ThrottleInterval", "limits", least_and_most("PACE"), {"1", "10"}),
+    ("ThrottleInterval", "demand", r"KeyName::ThrottleInterval,\s+PACE_LEAST,\s+PACE_MOST,\s+([\d_]+)", {"0", "1", "86,400"}),
+    ("ExitTimeOut", "limits", least_and_most("PACE"), {"20"}),
+    ("ExitTimeOut", "demand", r"KeyName::ExitTimeOut,\s+PACE_LEAST,\s+PACE_MOST,\s+([\d_]+)", {"0", "86,400"}),
+    ("EnvironmentVariables", "limits", limit("VARIABLES_LIMIT"), {"1", "255", "4,096"}),
+    ("EnvironmentVariables", "limits", limit("VARIABLE_NAME_LIMIT"), {"1", "128", "4,096"}),
+    ("EnvironmentVariables", "limits", limit("WORD_LIMIT"), {"1", "128", "255"}),
+    ("Sockets", "limits", limit("SOCKETS_LIMIT"), {"65,536", "64"}),
+    ("SockPathName", "limits", limit("SOCKET_PATH_LIMIT"), {"1", "0600"}),
     ("SockNodeName", "host", r"n <= (255)", {"0", "127.0.0.1"}),
-    ("SockServiceName", "socket", r"([\d_]+) <= port && port <= ([\d_]+)", set()),
-    ("SockServiceName", "socket", r"KeyName::Sockets, (\d+), ([\d_]+)", set()),
+    ("SockServiceName", "limits", least_and_most("PORT"), set()),
 ]
 
 
