@@ -10,6 +10,7 @@ import shutil
 import socket
 import subprocess
 import threading
+import time
 
 from harness import HERE, check, connect, end_process, make, patience, read_line, shell_job, text_at, wait_for
 from status import asked, job_where
@@ -721,6 +722,8 @@ def a_disabled_label_is_left(stage):
     launcher.ask({"req": "disable", "job": "other"})
     put(stage, "web.json", kept("web", "two"))
     put(stage, "other.json", kept("other"))
+    # (what --dry-run prints is by the status file alone)
+    job_where(stage.at("standing/status.jsonl"), "web", lambda job: job["disabled"] == "override")
     for words in (["--dry-run"], [], ["--now"]):
         got = apply(stage, *words, "jobs")
         # (of a label that is not loaded only the load's refusal says that it is disabled)
@@ -731,6 +734,26 @@ def a_disabled_label_is_left(stage):
         launcher.ask({"req": "enable", "job": label})
     got = apply(stage)
     check(got.status == 0 and sorted(got.words()) == [("changed", "web"), ("new", "other")], f"enabled again: {got}")
+
+
+def a_setting_that_the_status_file_lacks(stage):
+    """The launcher can't write its status file, or is late with it: it is asked for the label's setting before the job is unloaded."""
+    launcher = begin(stage)
+    put(stage, "web.json", kept("web"))
+    in_effect(apply(stage), ("new", "web"))
+    pid = running(launcher, "web")
+    has_loaded(stage, "web", kept("web"))
+    os.chmod(stage.at("standing"), 0o500)
+    try:
+        launcher.ask({"req": "disable", "job": "web"})
+        put(stage, "web.json", kept("web", "two"))
+        # (so that the file counts as what the launcher would not write anew)
+        time.sleep(1.5)
+        got = apply(stage, "--now", "jobs")
+    finally:
+        os.chmod(stage.at("standing"), 0o700)
+    check(got.status == 2 and got.words() == [("disabled", "web")], f"{got}")
+    unharmed(launcher, "web", pid, got)
 
 
 def a_definition_that_is_refused_leaves_its_job(stage):
@@ -1088,6 +1111,7 @@ SCENES = [
     a_job_that_stays_down_is_named,
     a_port_that_passes_on,
     a_disabled_label_is_left,
+    a_setting_that_the_status_file_lacks,
     a_definition_that_is_refused_leaves_its_job,
     a_launcher_that_shuts_down,
     two_at_once,

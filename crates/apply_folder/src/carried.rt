@@ -1,6 +1,6 @@
 //! A step, carried out.
 
-use crate::client::Client;
+use crate::client::{Client, PrintedJob};
 use crate::left::{EndedJob, note_ended};
 use control_client::{Fault, Replied};
 use history_model::{Refusal, Text};
@@ -51,6 +51,8 @@ pub(crate) struct StepTask<'a> {
     pub(crate) before: Option<&'a str>,
     /// That was loaded under another label, and was unloaded for this step.
     pub(crate) is_moved: bool,
+    /// The definition that was loaded disables it, and no setting does.
+    pub(crate) has_disabled: bool,
     /// A run of the job may be ended.
     pub(crate) may_end: bool,
     /// In seconds; 0 means no limit.
@@ -80,8 +82,11 @@ pub(crate) fn carry_out(
         is_told: false,
     };
     for _ in 0..u64::MAX {
-        let seen = seen_for(host, alloc, client, task)?;
-        match next_request(&task.operation, seen, task.may_end, is_unloaded) {
+        let printed = printed_for(host, alloc, client, task)?;
+        if !is_unloaded && is_disabled_since(task, printed) {
+            return Ok(Outcome::Left(Reason::Disabled));
+        }
+        match next_request(&task.operation, printed.seen, task.may_end, is_unloaded) {
             NextRequest::Unload => match unload(host, alloc, client, task)? {
                 None => is_unloaded = true,
                 Some(refused) => return Ok(refused),
@@ -105,16 +110,28 @@ pub(crate) fn carry_out(
     Ok(Outcome::Late)
 }
 
-// The state of its job. If nothing is loaded, it does not ask the launcher.
-fn seen_for(
+// What the launcher prints of its job. If nothing is loaded, it does not ask the launcher.
+fn printed_for(
     host: &HostRuntime,
     alloc: Global,
     client: &mut Client,
     task: &StepTask<'_>,
-) -> Result<JobSeen, Fault> {
+) -> Result<PrintedJob, Fault> {
     match task.operation {
-        Operation::Load(_) | Operation::Leave(_) => Ok(JobSeen::Gone),
-        Operation::Replace(_) | Operation::Unload => client.seen(host, alloc, task.label),
+        Operation::Load(_) | Operation::Leave(_) => Ok(PrintedJob {
+            seen: JobSeen::Gone,
+            is_disabled: false,
+        }),
+        Operation::Replace(_) | Operation::Unload => client.printed(host, alloc, task.label),
+    }
+}
+
+// Whether a setting disables its label that the status file did not have yet, so that the load would be refused after the unload. A launcher on a busy machine may write the
+// file late.
+fn is_disabled_since(task: &StepTask<'_>, printed: PrintedJob) -> bool {
+    match task.operation {
+        Operation::Replace(_) => printed.is_disabled && !task.has_disabled,
+        _ => false,
     }
 }
 

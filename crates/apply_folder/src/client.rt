@@ -6,6 +6,14 @@ use history_model::{Refusal, Text, TextRef};
 use load_plan::JobSeen;
 use std::alloc::Global;
 
+/// What the launcher prints of a job.
+#[derive(Clone, Copy)]
+pub(crate) struct PrintedJob {
+    pub(crate) seen: JobSeen,
+    /// The setting of its label disables it, or without one its definition.
+    pub(crate) is_disabled: bool,
+}
+
 /// The launcher at a socket, over one connection that is made when it is needed.
 #[derive(Drop)]
 pub(crate) struct Client {
@@ -77,6 +85,26 @@ impl Client {
         self.look(host, alloc, &Request::List)
     }
 
+    /// What the launcher prints of the job of this label.
+    pub(crate) fn printed(
+        &mut self,
+        host: &HostRuntime,
+        alloc: Global,
+        label: &str,
+    ) -> Result<PrintedJob, Fault> {
+        let request = Request::Print {
+            job: TextRef::new(label),
+        };
+        let replied = self.look(host, alloc, &request)?;
+        let seen = seen_of(replied.code, replied.text.as_str());
+        let is_disabled = has_line(replied.text.as_str(), "\tdisabled = true");
+        drop(replied);
+        match seen {
+            Some(seen) => Ok(PrintedJob { seen, is_disabled }),
+            None => Err(Fault::BadReply),
+        }
+    }
+
     /// The present state of the job of this label.
     pub(crate) fn seen(
         &mut self,
@@ -84,16 +112,8 @@ impl Client {
         alloc: Global,
         label: &str,
     ) -> Result<JobSeen, Fault> {
-        let request = Request::Print {
-            job: TextRef::new(label),
-        };
-        let replied = self.look(host, alloc, &request)?;
-        let seen = seen_of(replied.code, replied.text.as_str());
-        drop(replied);
-        match seen {
-            Some(seen) => Ok(seen),
-            None => Err(Fault::BadReply),
-        }
+        let printed = self.printed(host, alloc, label)?;
+        Ok(printed.seen)
     }
 
     pub(crate) fn load(
@@ -133,6 +153,15 @@ pub(crate) fn seen_of(code: u8, text: &str) -> Option<JobSeen> {
         return None;
     }
     state_in(text)
+}
+
+fn has_line(text: &str, wanted: &str) -> bool {
+    for line in text.lines() {
+        if line == wanted {
+            return true;
+        }
+    }
+    false
 }
 
 fn state_in(text: &str) -> Option<JobSeen> {

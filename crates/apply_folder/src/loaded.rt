@@ -35,6 +35,8 @@ pub(crate) struct ReportedJob {
     pub(crate) is_going: bool,
     /// Whether a setting disables its label.
     pub(crate) is_disabled: bool,
+    /// Whether its definition disables it, and no setting does.
+    pub(crate) has_disabled: bool,
     /// Whether an earlier apply of one of the folders loaded it.
     pub(crate) was_applied: bool,
     /// The number of its run, and the second in which it began.
@@ -269,6 +271,7 @@ fn job_with(
         is_kept_alive: is_kept_alive(status, has_calendar),
         is_going: matches!(state, JobState::Removing),
         is_disabled: matches!(status.disabled, Some(DisabledBy::Override)),
+        has_disabled: matches!(status.disabled, Some(DisabledBy::Definition)),
         was_applied: false,
         run: status.note.run,
         since,

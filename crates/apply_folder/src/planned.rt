@@ -588,6 +588,10 @@ fn task_of<'a>(
         },
         is_moved: moved.is_some(),
         before,
+        has_disabled: match job {
+            Some(job) => job.has_disabled,
+            None => false,
+        },
         may_end: match job {
             Some(job) => scene.flags.at_once || job.is_kept_alive,
             None => scene.flags.at_once,
