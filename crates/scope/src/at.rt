@@ -200,7 +200,7 @@ fn second_of(
 
 fn finder_of(alloc: Global, of: &ScopeCommand, until: u64) -> MomentFinder<'_> {
     MomentFinder {
-        listener: JournalListener::new(alloc, of, WHOLE),
+        listener: JournalListener::new(alloc, of, WHOLE, None),
         until,
         read: 0,
         found: 0,

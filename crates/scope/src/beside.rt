@@ -138,7 +138,7 @@ pub(crate) fn journal_beside(
         drop(path);
         return Ok(BesideJournal::Long);
     }
-    let mut listener = JournalListener::new(alloc, of, WHOLE);
+    let mut listener = JournalListener::new(alloc, of, WHOLE, None);
     let with_before = leaves_open(standing, of.words.as_slice());
     let read = read_all(host, alloc, path.as_str(), with_before, &mut listener);
     drop(path);

@@ -74,9 +74,14 @@ pub(crate) struct JournalListener<'a> {
     told: ReportedSpan,
 }
 
-impl JournalListener<'_> {
+impl<'a> JournalListener<'a> {
     /// No line is received yet for what the command asks for.
-    pub(crate) fn new(alloc: Global, of: &ScopeCommand, window: Window) -> JournalListener<'_> {
+    pub(crate) fn new(
+        alloc: Global,
+        of: &'a ScopeCommand,
+        window: Window,
+        beside: Option<(&'a StatusRead, Reading)>,
+    ) -> JournalListener<'a> {
         JournalListener {
             alloc,
             of,
@@ -86,7 +91,7 @@ impl JournalListener<'_> {
             named: NamedLabels::new(alloc, of.words.as_slice()),
             utc: utc(),
             window,
-            beside: None,
+            beside,
             lacks_reason: false,
             is_followed: false,
             told: ReportedSpan {

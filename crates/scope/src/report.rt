@@ -84,11 +84,7 @@ pub(crate) fn report<W: Wait>(
     let paths = journal_paths(host, of)?;
     let beside = log_beside(host, alloc, of);
     let mut lines = JournalLines::new(alloc);
-    let mut listener = JournalListener::new(alloc, of, window);
-    listener.beside = match &beside {
-        Ok(Some((standing, begun))) => Some((standing, *begun)),
-        Ok(None) | Err(_) => None,
-    };
+    let mut listener = JournalListener::new(alloc, of, window, file_in(&beside));
     let found = report_on(
         host,
         waits,
@@ -126,6 +122,16 @@ fn log_beside(
         | ScopeTask::Plist(_)
         | ScopeTask::Show
         | ScopeTask::Drift => Ok(None),
+    }
+}
+
+// The status file, if there is one, and its launcher's first clock reading.
+fn file_in(
+    beside: &Result<Option<(StatusRead, Reading)>, AllocError>,
+) -> Option<(&StatusRead, Reading)> {
+    match beside {
+        Ok(Some((standing, begun))) => Some((standing, *begun)),
+        Ok(None) | Err(_) => None,
     }
 }
 
