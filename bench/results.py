@@ -24,11 +24,12 @@ PEER_ROWS = {
     "all stopped, seconds": ("all stopped", "s"),
     "memory without the jobs, MB": ("memory, shared pages parted", "MB"),
     "a restart after a kill, ms": ("a restart after a kill, median of twenty", "ms"),
+    "restarts back to back, ms": ("a restart back to back, median of twenty", "ms"),
     "status of one job, ms": ("status of one, by a program", "ms"),
     "**processor a minute at rest, ms**": ("processor a minute at rest", "ms"),
 }
 README_ROWS = {"all started, seconds", "memory without the jobs, MB", "a restart after a kill, ms", "status of one job, ms", "**processor a minute at rest, ms**"}
-PEER_COLUMNS = {1: "jobd", 2: "runit", 3: "daemontools", 4: "supervisor"}
+PEER_COLUMNS = {1: "jobd", 2: "runit", 3: "s6", 4: "daemontools", 5: "supervisor"}
 NUMBER = re.compile(r"[\d,]+(?:\.\d+)?")
 # Under what circumstances a figure was measured: rows that differ in these alone are of one kind.
 QUALIFIER = re.compile(r", (?:a quiet machine|beside [^,:]*|in memory|on a disk)(?=[,:]|$)|(?<=median of )\w+")
