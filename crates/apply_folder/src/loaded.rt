@@ -12,9 +12,14 @@ use std::io::ErrorKind;
 use std::time::{Duration, SystemTime};
 use std::{fs, io, thread};
 
-/// For how many milliseconds a file may be out of date. A launcher writes it within a second of a change, and one pass of its event loop
-/// later.
+/// For how many milliseconds a file may be out of date. A launcher writes it within a second of a change, in the next passes of its event loop.
+/// These are late on a busy machine. So it is asked once for each pass that it may need to write the file: with each answer a pass is over.
 const BEHIND: u64 = 1_200;
+
+/// How many bytes of the file the launcher writes in one pass, and how many passes more it may take.
+const IN_ONE_PASS: u64 = 65_536;
+
+const MORE_PASSES: u64 = 3;
 
 /// How often it is looked at again, and how many milliseconds are between: three seconds and a half.
 const LOOKS: u32 = 70;
@@ -117,8 +122,17 @@ fn look_once(
     places: &Option<Places>,
     asked: &io::Result<SystemTime>,
 ) -> Result<Option<Look>, Stop> {
-    if !is_current(host, path, asked) {
-        return Ok(None);
+    match currency_of(host, path, asked) {
+        Currency::Written => {}
+        Currency::Behind => return Ok(None),
+        Currency::Old(length) => {
+            for _ in 0..length / IN_ONE_PASS + MORE_PASSES {
+                drop(client.list(host, alloc)?);
+            }
+            if let Currency::Behind = currency_of(host, path, asked) {
+                return Ok(None);
+            }
+        }
     }
     let standing = standing_at(host, alloc, path)?;
     check_launcher(host, path, &standing, places)?;
@@ -146,26 +160,35 @@ fn print_diagnostic(host: &HostRuntime, path: &str, diagnostic: Diagnostic) -> S
     Stop::Told(NO_ANSWER)
 }
 
-// Whether the file has all that held when it was asked for. It was written after that, or so long ago that the launcher would have written
-// it again.
-fn is_current(host: &HostRuntime, path: &str, asked: &io::Result<SystemTime>) -> bool {
+// Whether the file has all that held when it was asked for. It was written after that, or a second and more before: then a launcher whose passes are not
+// late would have written it again.
+#[derive(Clone, Copy)]
+enum Currency {
+    Written,
+    /// Of this number of bytes.
+    Old(u64),
+    Behind,
+}
+
+fn currency_of(host: &HostRuntime, path: &str, asked: &io::Result<SystemTime>) -> Currency {
     let (Ok(asked), Ok(now)) = (asked, SystemTime::now(host)) else {
-        return false;
+        return Currency::Behind;
     };
     let data = match fs::metadata(host, path) {
         Ok(data) => data,
         // A launcher that begins has not written it yet. Whoever reads the file reports what else keeps it from being read.
-        Err(error) => return error.kind() != ErrorKind::NotFound,
+        Err(error) if error.kind() == ErrorKind::NotFound => return Currency::Behind,
+        Err(_) => return Currency::Written,
     };
     let Ok(written) = data.modified() else {
-        return false;
+        return Currency::Behind;
     };
     if written.duration_since(*asked).is_ok() {
-        return true;
+        return Currency::Written;
     }
     match now.duration_since(written) {
-        Ok(age) => age >= Duration::from_millis(BEHIND),
-        Err(_) => false,
+        Ok(age) if age >= Duration::from_millis(BEHIND) => Currency::Old(data.len()),
+        _ => Currency::Behind,
     }
 }
 
