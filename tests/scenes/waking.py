@@ -221,9 +221,25 @@ def a_helper_that_is_late_for_a_while(stage):
     launcher.shut_down()
 
 
-def a_helper_that_is_slow_or_floods(stage):
-    """One that answers late each time, one that reports without end, and one that writes what no helper does: each is ended."""
-    for way in ("slow", "floods", "babbles"):
+def a_helper_that_is_slow(stage):
+    """Each answer comes 50 ms late. The launcher asks about each child then, waits for none of many answers in a row, and keeps the helper."""
+    beside(stage, "slow")
+    launcher = stage.serve()
+    launcher.load(kept_alive("one"))
+    pid = is_used(launcher)
+    begun = time.monotonic()
+    for _ in range(12):
+        comes_back(launcher, "one")
+        launcher.answers("slow")
+        time.sleep(0.25)
+    in_time(time.monotonic() - begun < 12, f"12 restarts took {time.monotonic() - begun:.1f} s")
+    check(text_at(stage.at("told")).count("begins") == 1 and helpers(launcher) == [pid], f"it is given up: {text_at(stage.at('told'))!r}")
+    launcher.shut_down()
+
+
+def a_helper_that_floods(stage):
+    """One that reports without end, and one that writes what no helper does: each is ended."""
+    for way in ("floods", "babbles"):
         beside(stage, way)
         launcher = stage.serve()
         launcher.load(kept_alive("one"))
@@ -301,6 +317,6 @@ def a_helper_that_others_may_change(stage):
 
 
 SCENES = [
-    exits_that_the_helper_reports, a_helper_that_is_stopped, a_helper_that_is_late_for_a_while, a_helper_that_is_slow_or_floods, a_helper_that_lies,
+    exits_that_the_helper_reports, a_helper_that_is_stopped, a_helper_that_is_late_for_a_while, a_helper_that_is_slow, a_helper_that_floods, a_helper_that_lies,
     a_helper_without_descriptors, a_helper_that_others_may_change,
 ]

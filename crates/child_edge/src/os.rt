@@ -325,6 +325,12 @@ impl<R: Clock + Files<File = File> + Processes> OsEdge<R> {
         self.connections.must_wait(job, room)
     }
 
+    /// Whether the exit of a child wakes the poll that [`register`](OsEdge::register) was given: there is a helper that
+    /// reports exits, and it owes no answer. Takes no memory.
+    pub fn is_woken_by_exits(&self) -> bool {
+        self.waker.reports()
+    }
+
     /// Holds a connection whose request came whole, under the job and a number that it has had for no other. Its
     /// request is spooled, and the run that is started with the number serves it.
     ///

@@ -1,8 +1,9 @@
 //! The helper that reports exits, `jobd-wake`: it gets the PID of each child, waits for the exits of all, and reports each.
 //! The launcher asks it in each pass of the loop which have exited. What it reports can only make the launcher ask the
 //! system earlier: whether a child exited is what the system then answers. Where it gives no answer in time, the launcher
-//! asks about each child, and goes on with the helper once the answer comes. After a second without it, or if too many
-//! answers are late, the launcher ends the helper, and starts another ten seconds later.
+//! asks about each child, and goes on with the helper once the answer comes. If too many answers of a second are late, it
+//! asks the helper again only after that second. After a second without an answer the launcher ends the helper, and starts
+//! another ten seconds later.
 
 ghost use Rattle.std.specs.Prelude.{◌≡◌, true, false};
 
@@ -33,8 +34,11 @@ const PATIENCE: u64 = 2;
 /// started, and one that was late.
 const OVERDUE: u64 = 1_000;
 
-/// How many answers may be late between two passes that ask about all children.
+/// How many answers may be late within `LATE_IN` milliseconds. After one more the launcher asks the helper again only once
+/// they are over.
 const LATE: u32 = 8;
+
+const LATE_IN: u64 = 1_000;
 
 /// After how many milliseconds a helper is started again.
 const PEACE: u64 = 10_000;
@@ -48,15 +52,24 @@ const ROOM: usize = 4_096;
 /// more is given up: it would keep the loop awake.
 const STRAYS: u32 = 1_024;
 
-/// A helper, the launcher's end of its socket, and whether that is registered with the loop's poll. `is_ready`: it owes no
-/// answer. Else `since` is the `up` at which it was started or was late.
+/// Whether the helper owes an answer.
+#[derive(Clone, Copy, PartialEq, Eq)]
+enum Turn {
+    /// It owes none. Each pass asks it, and waits for the answer.
+    Ready,
+    /// It owes one, for which the launcher does not wait: since this `up` it was started, or is late.
+    Owing { since: u64 },
+    /// It owes none. Too many were late, so the launcher does not ask it for a while.
+    Resting,
+}
+
+/// A helper, the launcher's end of its socket, and whether that is registered with the loop's poll.
 #[derive(Drop)]
 struct Helper<P: OpenProcess + Drop> {
     child: Child<P>,
     socket: UnixStream,
     is_known: bool,
-    is_ready: bool,
-    since: u64,
+    turn: Turn,
 }
 
 /// What became of a question.
@@ -81,7 +94,9 @@ pub(crate) struct Waker<P: OpenProcess + Drop> {
     again: u64,
     line: AnswerLine,
     strays: u32,
+    // How many answers were late since the `up` of the first of them.
     lates: u32,
+    late_since: u64,
     // The `up` at which the last pass began that asks about all, and whether this is one.
     swept: u64,
     is_sweep: bool,
@@ -103,6 +118,7 @@ impl<P: OpenProcess + Drop> Waker<P> {
             line: AnswerLine::new(),
             strays: 0,
             lates: 0,
+            late_since: 0,
             swept: 0,
             is_sweep: true,
             asks_all: true,
@@ -134,7 +150,6 @@ impl<P: OpenProcess + Drop> Waker<P> {
         if is_pass && self.is_sweep {
             self.swept = up;
             self.strays = 0;
-            self.lates = 0;
         }
         let asked = self.ask(rt, made, up, children);
         self.asks_all = asks_all(self.is_sweep, asked == QuestionState::Answered);
@@ -152,43 +167,69 @@ impl<P: OpenProcess + Drop> Waker<P> {
         up: u64,
         children: &mut Children<P>,
     ) -> QuestionState {
-        let Some(helper) = &mut self.helper else {
+        let may_wait = self.may_wait(up);
+        let Some(turn) = self.next_turn(may_wait) else {
             return QuestionState::Silent;
         };
-        let (is_ready, since) = (helper.is_ready, helper.since);
-        if is_ready && !is_sent(&mut helper.socket, b"\n".as_slice()) {
-            return QuestionState::Silent;
-        }
-        match self.answer(rt, made, up, children) {
-            Some(true) if is_ready => QuestionState::Answered,
-            Some(true) if self.is_made_ready() => QuestionState::Awaited,
-            None if is_ready && self.may_be_late(up) => QuestionState::Awaited,
-            None if !is_ready && up.saturating_sub(since) < OVERDUE => QuestionState::Awaited,
+        match (turn, self.answer(rt, made, up, children)) {
+            (Turn::Ready, Some(true)) => QuestionState::Answered,
+            (Turn::Owing { .. }, Some(true)) if self.has_answered(may_wait) => {
+                QuestionState::Awaited
+            }
+            (Turn::Ready, None) if self.may_be_late(up) => QuestionState::Awaited,
+            (Turn::Owing { since }, None) if up.saturating_sub(since) < OVERDUE => {
+                QuestionState::Awaited
+            }
+            (Turn::Resting, None) => QuestionState::Awaited,
             _ => QuestionState::Silent,
         }
     }
 
-    // From now on the launcher waits for each answer, 2 milliseconds at most.
-    fn is_made_ready(&mut self) -> bool {
+    // Whether the launcher may wait for answers: not too many were late within the last second.
+    fn may_wait(&self, up: u64) -> bool {
+        self.lates <= LATE || up.saturating_sub(self.late_since) >= LATE_IN
+    }
+
+    // Whose turn it is, once the helper was asked, if it owed no answer. None: there is no helper, or it takes no question.
+    fn next_turn(&mut self, may_wait: bool) -> Option<Turn> {
+        let Some(helper) = &mut self.helper else {
+            return None;
+        };
+        if helper.turn == Turn::Resting && may_wait && !is_made_ready(helper) {
+            return None;
+        }
+        if helper.turn == Turn::Ready && !is_sent(&mut helper.socket, b"\n".as_slice()) {
+            return None;
+        }
+        Some(helper.turn)
+    }
+
+    // A late answer came. From now on the launcher waits for each, 2 milliseconds at most; if too many were late, it lets
+    // the helper rest first.
+    fn has_answered(&mut self, may_wait: bool) -> bool {
         match &mut self.helper {
+            Some(helper) if may_wait => is_made_ready(helper),
             Some(helper) => {
-                helper.is_ready = true;
-                helper.socket.set_nonblocking(false).is_ok()
+                helper.turn = Turn::Resting;
+                true
             }
             None => false,
         }
     }
 
-    // An answer is late: whether the helper may give it later. The launcher does not wait for it any more.
+    // An answer is late. The launcher does not wait for it any more.
     fn may_be_late(&mut self, up: u64) -> bool {
+        if up.saturating_sub(self.late_since) >= LATE_IN {
+            self.late_since = up;
+            self.lates = 0;
+        }
         self.lates = self.lates.saturating_add(1);
         match &mut self.helper {
-            Some(helper) if self.lates <= LATE => {
-                helper.is_ready = false;
-                helper.since = up;
+            Some(helper) => {
+                helper.turn = Turn::Owing { since: up };
                 helper.socket.set_nonblocking(true).is_ok()
             }
-            _ => false,
+            None => false,
         }
     }
 
@@ -294,6 +335,14 @@ impl<P: OpenProcess + Drop> Waker<P> {
             .is_ok();
     }
 
+    /// Whether a report comes of itself: a helper owes no answer, and its reports wake the poll.
+    pub(crate) fn reports(&self) -> bool {
+        match &self.helper {
+            Some(helper) => helper.is_known && helper.turn == Turn::Ready,
+            None => false,
+        }
+    }
+
     // Ends the helper, also one that was stopped. The launcher sends the next one all children.
     fn give_up(&mut self, up: u64, children: &mut Children<P>) {
         self.end();
@@ -351,6 +400,12 @@ fn is_news<P: OpenProcess + Drop>(
     *strays <= STRAYS
 }
 
+// From now on the launcher waits for each answer, 2 milliseconds at most.
+fn is_made_ready<P: OpenProcess + Drop>(helper: &mut Helper<P>) -> bool {
+    helper.turn = Turn::Ready;
+    helper.socket.set_nonblocking(false).is_ok()
+}
+
 // Whether all of it was taken in time.
 fn is_sent(socket: &mut UnixStream, bytes: &[u8]) -> bool {
     match socket.write(bytes) {
@@ -401,8 +456,7 @@ fn start<R: Net + Processes>(
             child,
             socket,
             is_known: false,
-            is_ready: false,
-            since,
+            turn: Turn::Owing { since },
         }),
         Err(error) => {
             drop(socket);

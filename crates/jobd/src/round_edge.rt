@@ -68,6 +68,9 @@ pub trait RoundEdge: ChildEdge + SleepEdge + PathEdge + SocketEdge {
     fn must_wait(&mut self, job: JobNo) -> bool
         ensures told { Self.told self.new ≡ Self.told self.old };
 
+    /// Whether the exit of a child wakes the poll.
+    fn is_woken_by_exits(&self) -> bool;
+
     /// Whether the job has the sockets of this bind still.
     fn listens_at(&self, origin: Origin) -> bool;
 
@@ -167,6 +170,10 @@ impl<R: System> RoundEdge for OsEdge<R> {
 
     fn must_wait(&mut self, job: JobNo) -> bool {
         OsEdge::must_wait(self, job)
+    }
+
+    fn is_woken_by_exits(&self) -> bool {
+        OsEdge::is_woken_by_exits(self)
     }
 
     fn listens_at(&self, origin: Origin) -> bool {

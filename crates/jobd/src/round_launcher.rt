@@ -329,6 +329,10 @@ impl<T: SettingStore, E: RoundEdge, W: Write> LoopHost for RoundLauncher<T, E, W
         self.host.edge().must_wait(job)
     }
 
+    fn is_woken_by_exits(&mut self) -> bool {
+        self.host.edge().is_woken_by_exits()
+    }
+
     fn listens_at(&mut self, origin: Origin) -> bool {
         self.host.edge().listens_at(origin)
     }

@@ -217,6 +217,10 @@ impl<E: RoundEdge, R: System> RoundEdge for StatusEdge<E, R> {
         self.edge.must_wait(job)
     }
 
+    fn is_woken_by_exits(&self) -> bool {
+        self.edge.is_woken_by_exits()
+    }
+
     fn listens_at(&self, origin: Origin) -> bool {
         self.edge.listens_at(origin)
     }

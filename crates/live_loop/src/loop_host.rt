@@ -139,6 +139,10 @@ pub trait LoopHost: PathHost + Answers {
     fn must_wait(&mut self, job: JobNo) -> bool
         ensures { Self.Asked self.old self.new };
 
+    /// Whether the exit of a child wakes the poll. Else a pass sees it once it asks.
+    fn is_woken_by_exits(&mut self) -> bool
+        ensures { Self.Asked self.old self.new };
+
     /// Whether the job has these sockets still.
     fn listens_at(&mut self, origin: Origin) -> bool
         ensures { Self.Asked self.old self.new };

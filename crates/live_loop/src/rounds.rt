@@ -1,6 +1,6 @@
 //! The passes of the live loop: what each does, one after the other.
 
-ghost use Rattle.std.specs.Prelude.{◌≡◌, ◌≤◌, OnOk, IfOk};
+ghost use Rattle.std.specs.Prelude.{◌≡◌, ◌≤◌, ◌<◌, OnOk, IfOk, true};
 ghost use Rattle.control_socket.specs.Serving.{Serves};
 ghost use Rattle.live_loop.specs.Rounds.{Asks, IsRound, ServesAll};
 ghost use Rattle.live_loop.specs.Ending.{Ends};
@@ -27,11 +27,11 @@ use std::time::Duration;
 /// reply, or ask on and on, and for a standard error that takes nothing.
 const PATIENCE: u64 = SECOND;
 
-/// How many microseconds a quick pass waits.
+/// How many microseconds a quick pass sleeps.
 const QUICK_WAIT: u64 = 200;
 
 /// One pass of the event loop. It waits at most a tenth of a second. After a pass in which a client's request came
-/// whole, the next four wait 200 microseconds.
+/// whole, the next four wait 200 microseconds, unless the exit of a child wakes the poll.
 ///
 /// Then it reads the clock and asks about each child. Once in 1,000 milliseconds of `up` it asks what is at the listed
 /// paths. It checks those whose answer is known by now. It takes new control clients and serves all of them, and does
@@ -111,14 +111,15 @@ pub fn serve<L: Wait, R: System, H: LoopHost + Drop>(
 }
 
 // Waits for readiness, no longer than until the next time of the table and the next path check. The poll knows whole
-// milliseconds alone, so a quick pass sleeps before it.
+// milliseconds alone, so a quick pass may sleep before it.
 fn wait<R: System, H: LoopHost>(rt: &R, live: &mut Live<H>) -> Result<(), ServeFault>
     ensures asks { Asks H.Asked live.old.host live.new.host }
     ensures kept { IsKeptBy live.old live.new }
     ensures ended { live.new.ended_at ≡ live.old.ended_at }
 {
     let mut wait = next_wait(live);
-    if live.quick > 0 && wait > 0 {
+    let is_nap = must_nap(live, wait);
+    if is_nap {
         thread::sleep(rt, Duration::from_micros(QUICK_WAIT));
         wait = 0;
     }
@@ -140,6 +141,22 @@ fn wake(events: &Events, sockets: &mut JobSockets, control: &mut ControlSocket)
         sockets.wake_by(token);
         control.wake_by(token);
     }
+}
+
+// Whether a quick pass sleeps: no exit wakes the poll.
+fn must_nap<H: LoopHost>(live: &mut Live<H>, wait: u64) -> bool
+    ensures quick { result ≡ true → (0 < live.old.quick) × (0 < wait) }
+    ensures asks { Asks H.Asked live.old.host live.new.host }
+    ensures kept { IsKeptBy live.old live.new }
+    ensures ended { live.new.ended_at ≡ live.old.ended_at }
+{
+    if live.quick == 0 {
+        return false;
+    }
+    if wait == 0 {
+        return false;
+    }
+    !live.host.is_woken_by_exits()
 }
 
 fn next_wait<H: LoopHost>(live: &mut Live<H>) -> u64

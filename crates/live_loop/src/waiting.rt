@@ -26,8 +26,8 @@ pub fn next_pause(is_active: bool, pause: u64) -> u64
 const QUICK: u32 = 4;
 
 /// How many of the next passes are quick, after one pass more; `quick` is how many were after those before it. Four are
-/// quick after a pass in which a client's request came whole. The reason: most runs that answer one exit soon, and no
-/// exit wakes a pass. A quick pass waits 200 microseconds if nothing is there.
+/// quick after a pass in which a client's request came whole. The reason: most runs that answer one exit soon, and
+/// without a helper that reports exits none wakes a pass. A quick pass then waits 200 microseconds if nothing is there.
 pub fn quick_rounds(is_whole: bool, quick: u32) -> u32
     ensures { (rounds : List Bool) → quick ≡ quick_after rounds →
         result ≡ quick_after (is_whole ∷ rounds) }

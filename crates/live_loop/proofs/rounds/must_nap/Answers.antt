@@ -1,0 +1,10 @@
+-- The edge is asked once at most.
+use Rattle.live_loop.specs.Rounds.{nothing}
+use Rattle.live_loop.proofs.RoundsLemmas.{asks_one}
+use Rattle.live_loop.proofs.rounds.must_nap.Goals as goal
+
+pub returns-then-clause-asks : goal.returns-then-clause-asks
+returns-then-clause-asks g c = nothing
+
+pub returns-clause-asks : goal.returns-clause-asks
+returns-clause-asks g c = asks_one c.is_woken_by_exits.ensures

@@ -1,0 +1,6 @@
+-- The clocks are asked, and then the edge.
+use Rattle.live_loop.proofs.RoundsLemmas.{asks_append}
+use Rattle.live_loop.proofs.rounds.wait.Goals as goal
+
+pub returns-clause-asks : goal.returns-clause-asks
+returns-clause-asks g c = asks_append c.next_wait-wait.ensures.asks c.must_nap-is_nap.ensures.asks
