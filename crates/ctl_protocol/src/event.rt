@@ -11,6 +11,7 @@ use crate::members::{
     Form, ReadFault, flag_in, flag_or_in, has_only_keys, label_in, number_in, target_in, text_in,
 };
 use crate::request::{LoadRequest, Outside, Request};
+use crate::written::written_event;
 use history_model::{Answer, Ask, Ended, Event, JobItem, Obs, Reading, TextRef};
 use json::Scratch;
 use std::alloc::{AllocError, Global};
@@ -413,6 +414,9 @@ pub fn read_event<'a>(
 ) -> Result<Event<'a>, ReadFault>
     ensures { Reads result (event_at line.now) }
 {
+    if let Some(event) = written_event(line) {
+        return Ok(event);
+    }
     let line = Line::read(alloc, line, room.lent(alloc)?)?;
     event_in(&line)
 }
