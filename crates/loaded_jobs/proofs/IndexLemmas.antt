@@ -45,7 +45,7 @@ is-named-at es k e at = go (map name es) es k at (all-named es) where
 
 -- ---- places that move for a new slot
 
-raised-to : (new k was : ℕ) (b : Bool) → nat_lt was new ≡ b → k < 2 ^ 32 → (k < new → was ≡ k) → (new < k → was + 1 ≡ k) → k ≢ new → raised new was ≡ k
+raised-to : (new k was : ℕ) (b : Bool) → nat_lt was new ≡ b → k < 2 ^ 16 → (k < new → was ≡ k) → (new < k → was + 1 ≡ k) → k ≢ new → raised new was ≡ k
 raised-to new k was true low few before behind differ = go (nat_lt k new) refl where
   go : (c : Bool) → nat_lt k new ≡ c → raised new was ≡ k
   go true here = (let inside : k < new = grind (arith, nat_tests, here) in rw low (before inside))
@@ -61,8 +61,8 @@ raised-to new k was false far few before behind differ = go (nat_lt k new) refl 
       let clash : ⊥ = grind (arith, nat_tests, far, low, same) in absurd clash
   go false there =
       let high : new < k = grind (arith, nat_tests, there, differ) in
-      rw far (ap (λ n. n % 2 ^ 32) (behind high) ∙ mod-eq_of_lt few)
+      rw far (ap (λ n. n % 2 ^ 16) (behind high) ∙ mod-eq_of_lt few)
 
 -- a slot that was before the new one keeps its place, and one that was there or after has the next
-pub raised-around : (new k was : ℕ) → k ≢ new → k < 2 ^ 32 → (k < new → was ≡ k) → (new < k → was + 1 ≡ k) → raised new was ≡ k
+pub raised-around : (new k was : ℕ) → k ≢ new → k < 2 ^ 16 → (k < new → was ≡ k) → (new < k → was + 1 ≡ k) → raised new was ≡ k
 raised-around new k was differ few before behind = raised-to new k was (nat_lt was new) refl few before behind differ

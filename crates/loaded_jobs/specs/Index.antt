@@ -43,9 +43,9 @@ place_in places number = slice_index_or places number 0
 abbrev pub lowered : ℕ → ℕ → ℕ
 lowered gone place = if nat_lt gone place then place - 1 else place
 
--- a place, a number of 32 bits, once a slot has come at one place: those from there on move one to the back
+-- a place, a number of 16 bits, once a slot has come at one place: those from there on move one to the back
 abbrev pub raised : ℕ → ℕ → ℕ
-raised new place = if nat_lt place new then place else (place + 1) % 2 ^ 32
+raised new place = if nat_lt place new then place else (place + 1) % 2 ^ 16
 
 -- each job's number has its place
 abbrev pub ArePlaced : List ℕ → List JobSlot → Type 0

@@ -15,7 +15,7 @@ use history_model::{JobNo, MAX_JOBS};
 use std::alloc::{AllocError, Global};
 
 /// Gives each slot's number its place. It takes no memory.
-pub fn place_all(places: &mut [u32], job_slots: &[JobSlot])
+pub fn place_all(places: &mut [u16], job_slots: &[JobSlot])
     requires once { IsOnce (map name job_slots.now) }
     requires few { length job_slots.now ≤ MAX_JOBS }
     requires fits { (number : ℕ) →
@@ -28,7 +28,7 @@ pub fn place_all(places: &mut [u32], job_slots: &[JobSlot])
 }
 
 /// Gives each slot's number its place, from a place on: those before it have theirs. It takes no memory.
-pub fn place_from(places: &mut [u32], job_slots: &[JobSlot], from: usize)
+pub fn place_from(places: &mut [u16], job_slots: &[JobSlot], from: usize)
     requires once { IsOnce (map name job_slots.now) }
     requires few { length job_slots.now ≤ MAX_JOBS }
     requires fits { (number : ℕ) →
@@ -43,13 +43,13 @@ pub fn place_from(places: &mut [u32], job_slots: &[JobSlot], from: usize)
     let mut place = from;
     while place < job_slots.len() {
         let job_slot = &job_slots[place];
-        places[job_slot.number as usize] = place as u32;
+        places[job_slot.number as usize] = place as u16;
         place += 1;
     }
 }
 
 /// Moves the place of each slot after the one that left one to the front. It looks at no slot, and takes no memory.
-pub fn close_up(places: &mut [u32], job_slots: &[JobSlot], place: usize)
+pub fn close_up(places: &mut [u16], job_slots: &[JobSlot], place: usize)
     requires few { length job_slots.now ≤ MAX_JOBS }
     requires inside { place ≤ length job_slots.now }
     requires fits { (k : ℕ) (e : JobSlot) → slice_get job_slots.now k ≡ Some e →
@@ -61,11 +61,11 @@ pub fn close_up(places: &mut [u32], job_slots: &[JobSlot], place: usize)
     ensures placed { ArePlaced places.new job_slots.now }
     ensures length { length places.new ≡ length places.old }
 {
-    lower_above(places, place as u32);
+    lower_above(places, place as u16);
 }
 
 /// Takes one from each place above this one.
-fn lower_above(places: &mut [u32], place: u32)
+fn lower_above(places: &mut [u16], place: u16)
     ensures lowered { (number : ℕ) →
         place_in places.new number ≡ lowered place (place_in places.old number) }
     ensures length { length places.new ≡ length places.old }
@@ -80,7 +80,7 @@ fn lower_above(places: &mut [u32], place: u32)
 
 /// Moves the place of each slot after this one, which is new, one to the back, and gives the new one its place. It looks at no
 /// other slot, and takes no memory.
-pub fn make_way(places: &mut [u32], job_slots: &[JobSlot], place: usize)
+pub fn make_way(places: &mut [u16], job_slots: &[JobSlot], place: usize)
     requires once { IsOnce (map name job_slots.now) }
     requires few { length job_slots.now ≤ MAX_JOBS }
     requires inside { place < length job_slots.now }
@@ -94,13 +94,13 @@ pub fn make_way(places: &mut [u32], job_slots: &[JobSlot], place: usize)
     ensures placed { ArePlaced places.new job_slots.now }
     ensures length { length places.new ≡ length places.old }
 {
-    raise_from(places, place as u32);
+    raise_from(places, place as u16);
     let job_slot = &job_slots[place];
-    places[job_slot.number as usize] = place as u32;
+    places[job_slot.number as usize] = place as u16;
 }
 
 /// Adds one to each place from this one on.
-fn raise_from(places: &mut [u32], place: u32)
+fn raise_from(places: &mut [u16], place: u16)
     ensures raised { (number : ℕ) → number < length places.old →
         place_in places.new number ≡ raised place (place_in places.old number) }
     ensures length { length places.new ≡ length places.old }

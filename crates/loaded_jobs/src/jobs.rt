@@ -82,8 +82,9 @@ pub struct Index {
     pub(crate) timers: TimerHeap,
     /// The places that the present event marked; empty between events.
     pub(crate) marked: PlaceSet,
-    /// The place of each job, by its number.
-    pub(crate) places: Vec<u32>,
+    /// The place of each job, by its number. There are at most `MAX_JOBS` jobs, so 16 bits hold a place: less has to change if
+    /// places move.
+    pub(crate) places: Vec<u16>,
 }
 
 impl Jobs {

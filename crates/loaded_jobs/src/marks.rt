@@ -21,7 +21,7 @@ use place_set::PlaceSet;
 use timer_heap::TimerHeap;
 
 /// Takes out the timers that are due at the clock reading, and marks the places of their jobs.
-pub fn mark_due(timers: &mut TimerHeap, places: &[u32], ready: &mut PlaceSet, up: u64)
+pub fn mark_due(timers: &mut TimerHeap, places: &[u16], ready: &mut PlaceSet, up: u64)
     requires places { HavePlaces timers.old places.now ready.old }
     requires empty { (place : ℕ) → has_place ready.old place ≡ false }
     ensures marked { (number : ℕ) → IsMarked up timers.old timers.new places.now ready.new number }
@@ -31,7 +31,7 @@ pub fn mark_due(timers: &mut TimerHeap, places: &[u32], ready: &mut PlaceSet, up
     ensures timers { room timers.new ≡ room timers.old }
 {
     while let Some(number) = timers.pop_due(up) {
-        ready.insert(places[number as usize]);
+        ready.insert(places[number as usize] as u32);
     }
 }
 
@@ -40,7 +40,7 @@ pub fn mark_due(timers: &mut TimerHeap, places: &[u32], ready: &mut PlaceSet, up
 pub fn mark_minutes(
     listed: &[Listed],
     minutes: &[CivilMinute],
-    places: &[u32],
+    places: &[u16],
     ready: &mut PlaceSet,
 )
     requires order { AreOrdered listed.now }
@@ -71,7 +71,7 @@ pub fn mark_minutes(
 fn mark_once(
     listed: &[Listed],
     minute: u8,
-    places: &[u32],
+    places: &[u16],
     ready: &mut PlaceSet,
     seen: &mut [bool; 256],
 )
@@ -92,14 +92,14 @@ fn mark_once(
 }
 
 /// Marks the places of the jobs that have this trigger.
-fn mark_of(listed: &[Listed], query: Query<'_>, places: &[u32], ready: &mut PlaceSet)
+fn mark_of(listed: &[Listed], query: Query<'_>, places: &[u16], ready: &mut PlaceSet)
     requires order { AreOrdered listed.now }
     requires places { HaveMarks listed.now places.now ready.old }
     ensures { Marks ready.old ready.new (stands_at listed.now places.now (rank_of query.entry)) }
 {
     let run = run_of(listed, query);
     for one in run {
-        ready.insert(places[one.number as usize]);
+        ready.insert(places[one.number as usize] as u32);
     }
 }
 
@@ -108,7 +108,7 @@ pub fn mark_touched(
     job_slots: &[JobSlot],
     affected: AffectedJobs<'_>,
     listed: &[Listed],
-    places: &[u32],
+    places: &[u16],
     ready: &mut PlaceSet,
 )
     requires room { length job_slots.now ≤ place_room ready.old }

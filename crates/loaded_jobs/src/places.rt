@@ -57,7 +57,7 @@ impl Jobs {
 }
 
 /// The place of the job with this number: the one that the index has for it, if the job there has the number.
-pub fn place_of_number(job_slots: &[JobSlot], places: &[u32], number: JobNo) -> Option<usize>
+pub fn place_of_number(job_slots: &[JobSlot], places: &[u16], number: JobNo) -> Option<usize>
     requires { ArePlaced places.now job_slots.now }
     ensures { result ≡ position (has_number number) job_slots.now }
 {

@@ -91,7 +91,7 @@ pub fn enlist(listed: &mut Vec<Listed>, triggers: Vec<Trigger>, number: JobNo)
 }
 
 /// Drops the triggers of the jobs that were removed.
-pub fn forget(listed: &mut Vec<Listed>, places: &[u32], job_slots: &[JobSlot])
+pub fn forget(listed: &mut Vec<Listed>, places: &[u16], job_slots: &[JobSlot])
     ensures items { listed.new.items
         ≡ filter (stays_under places.now job_slots.now) listed.old.items }
     ensures capacity { vec_capacity listed.new ≡ vec_capacity listed.old }
@@ -100,7 +100,7 @@ pub fn forget(listed: &mut Vec<Listed>, places: &[u32], job_slots: &[JobSlot])
 }
 
 /// Whether the job of this trigger is not gone.
-fn stays(one: &Listed, places: &[u32], job_slots: &[JobSlot]) -> bool
+fn stays(one: &Listed, places: &[u16], job_slots: &[JobSlot]) -> bool
     ensures { result ≡ stays_under places.now job_slots.now one.now }
 {
     let Some(place) = places.get(one.number as usize) else {
@@ -115,7 +115,7 @@ fn stays(one: &Listed, places: &[u32], job_slots: &[JobSlot]) -> bool
 /// The path that comes next after the text, of a job that is not gone.
 pub fn path_after<'x>(
     listed: &'x [Listed],
-    places: &[u32],
+    places: &[u16],
     job_slots: &[JobSlot],
     text: &str,
 ) -> Option<&'x str>
