@@ -1,12 +1,10 @@
 -- One number of a set of places is changed, or one more is added.
-use Rattle.std.proofs.Common.{◌≡◌, ◌≢◌, ℕ, zero, suc, nat_lt, ◌+◌, ◌*◌, ◌/◌, ◌%◌, ◌^◌, ◌==◌, ◌<◌, ◌≤◌, List, [], ◌∷◌, ◌++◌, length, Bool, true, false, refl, sym, ap, ◌∙◌, subst, inl, inr, arith, w64}
+use Rattle.std.proofs.Common.{◌≡◌, ◌≢◌, ℕ, zero, suc, nat_lt, ◌+◌, ◌*◌, ◌/◌, ◌%◌, ◌==◌, ◌<◌, ◌≤◌, List, [], ◌∷◌, ◌++◌, length, Bool, true, false, refl, sym, ap, ◌∙◌, inl, inr, arith}
 use Rattle.std.specs.Prelude.{slice_set, slice_index_or}
 use Rattle.std.proofs.lemmas.Bool.{cases_eq}
 use Rattle.std.proofs.lemmas.Bool.Decides.{nat_tests}
-use Rattle.std.proofs.lemmas.Nat.Bits.{bit_at-zero, bit_at_set_same, bit_at_set_other, bit_at_clear_same, bit_at_clear_other, bit_at-trailing_zeros, bit_at-lt}
-use Rattle.std.specs.Int.{bit_at, bit_not, trailing_zeros}
-use Rattle.std.specs.Int.RustNames.{bit_or}
-use Rattle.std.specs.Prelude.{bit_and}
+use Rattle.std.proofs.lemmas.Nat.Bits.{bit_at-zero}
+use Rattle.std.specs.Int.{bit_at}
 use Rattle.place_set.specs.Places.{has_bit}
 
 get-zero : (words : List ℕ) (k : ℕ) → slice_index_or (words ++ 0 ∷ []) k 0 ≡ slice_index_or words k 0
@@ -24,7 +22,7 @@ get-set [] k word within = absurd (omega (arith, within))
 get-set (w ∷ ws) zero word within = refl
 get-set (w ∷ ws) (suc k) word within = get-set ws k word (omega (arith, within))
 
-get-other : (words : List ℕ) (k j word : ℕ) → j ≢ k → slice_index_or (slice_set words k word) j 0 ≡ slice_index_or words j 0
+pub get-other : (words : List ℕ) (k j word : ℕ) → j ≢ k → slice_index_or (slice_set words k word) j 0 ≡ slice_index_or words j 0
 get-other [] k j word differ = refl
 get-other (w ∷ ws) zero zero word differ = absurd (differ refl)
 get-other (w ∷ ws) zero (suc j) word differ = refl

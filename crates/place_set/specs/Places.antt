@@ -22,6 +22,10 @@ place_room places = 64 * length places.words
 abbrev pub AreFew : List ℕ → Type 0
 AreFew words = length words ≤ 2 ^ 26
 
+-- the first numbers, this many, have no bit
+abbrev pub AreEmpty : ℕ → List ℕ → Type 0
+AreEmpty count words = (k : ℕ) → k < count → slice_index_or words k 0 ≡ 0
+
 -- each place is among them if it was, and there is no less room
 pub record KeepsPlaces (old new : Places) : Type 0 where
   pub places : (place : ℕ) → has_place new place ≡ has_place old place

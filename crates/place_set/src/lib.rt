@@ -3,7 +3,7 @@
 #![tactic(auto)]
 
 ghost use Rattle.std.specs.Prelude.{◌≡◌, ◌<◌, ◌≤◌, OnOk, []};
-ghost use Rattle.place_set.specs.Places.{IsFirstWord};
+ghost use Rattle.place_set.specs.Places.{AreEmpty, IsFirstWord};
 
 use std::alloc::{AllocError, Global};
 use std::marker::Model;
@@ -12,6 +12,8 @@ use std::marker::Model;
 #[derive(Drop)]
 pub struct PlaceSet {
     words: Vec<u64>,
+    /// At least this many numbers at the front have no bit: a search begins after them.
+    passed: usize,
 }
 
 impl Model for PlaceSet {
@@ -19,11 +21,11 @@ impl Model for PlaceSet {
 
     ghost Value = { Places };
 
-    ghost use Rattle.place_set.specs.Places.{AreFew};
+    ghost use Rattle.place_set.specs.Places.{AreFew, AreEmpty};
 
     ghost view = { λ set. record { words = set.words.items } };
 
-    ghost invariant = { λ set. AreFew set.words.items };
+    ghost invariant = { λ set. AreFew set.words.items × AreEmpty set.passed set.words.items };
 }
 
 impl PlaceSet {
@@ -35,6 +37,7 @@ impl PlaceSet {
     {
         PlaceSet {
             words: Vec::new(alloc),
+            passed: 0,
         }
     }
 
@@ -45,6 +48,7 @@ impl PlaceSet {
         ensures kept { KeepsPlaces self.old self.new }
     {
         let words = places as usize / 64 + 1;
+        self.passed = 0;
         while self.words.len() < words {
             self.words.push(0)?;
         }
@@ -57,6 +61,7 @@ impl PlaceSet {
         ensures { Inserts self.old self.new place }
     {
         let at = place as usize / 64;
+        self.passed = self.passed.min(at);
         self.words[at] |= 1 << (place % 64);
     }
 
@@ -64,9 +69,10 @@ impl PlaceSet {
     pub fn pop_least(&mut self) -> Option<u32>
         ensures { IsLeastTaken self.old result self.new }
     {
-        let Some(at) = first_word(&self.words) else {
+        let Some(at) = first_word(&self.words, self.passed) else {
             return None;
         };
+        self.passed = at;
         let word = self.words[at];
         let bit = word.trailing_zeros();
         self.words[at] = word & !(1 << bit);
@@ -74,11 +80,12 @@ impl PlaceSet {
     }
 }
 
-/// The index of the first number that has a bit set; none if no number has one.
-fn first_word(words: &[u64]) -> Option<usize>
+/// The index of the first number that has a bit set; none if no number has one. The first `passed` numbers have none.
+fn first_word(words: &[u64], passed: usize) -> Option<usize>
+    requires { AreEmpty passed words.now }
     ensures { IsFirstWord words.now result }
 {
-    let mut at = 0;
+    let mut at = passed;
     while at < words.len() {
         if words[at] != 0 {
             return Some(at);
