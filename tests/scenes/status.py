@@ -682,7 +682,7 @@ def starting(stage, path):
     """The labels of the coming starts, and what is told beside them. Of `refused` there is none in the midst of a start."""
     status, text, error = asked(stage, path, "next")
     check(status == 0 and text.startswith("As of "), f"next ended with {status}: {text!r}, {error!r}")
-    return {line.split("  ")[1] for line in text.splitlines()[1:]}, error
+    return {line.split("  ")[1] for line in text.splitlines() if "  in " in line}, error
 
 
 def what_a_boot_left_out(stage):
@@ -790,7 +790,7 @@ def why_and_status_of_now(stage):
     if not sees_all():
         return
     status, text, _ = asked(stage, path, "why", "runs")
-    check(status == 0 and "exited or was killed" in text and "runs is not supervised" in text, f"of a killed launcher: {text}")
+    check(status == 0 and "exited or was killed" in text and "runs was running when the file was written." in text, f"of a killed launcher: {text}")
     rows = cells(stage, path)
     check({row[1] for row in rows.values()} == {"unknown"} and {row[2] for row in rows.values()} == {"-"}, f"rows of a killed launcher: {rows}")
     check(asked(stage, path, "why", "--failing", "runs")[0] == 2, "a job of a killed launcher does not fail")
@@ -826,7 +826,7 @@ def whose_launcher_is_none(stage):
         other.kill()
         wait_for(lambda: text_at(f"/proc/{other.pid}/stat").rpartition(")")[2].split()[0] == "Z", "it does not end")
         check(gone in asked(stage, its_own, "status")[1], f"a process that has ended: {asked(stage, its_own, 'status')}")
-        check(("is not supervised" if sees_all() else "waits was not running") in asked(stage, its_own, "why", "waits")[1], f"of its job: {asked(stage, its_own, 'why', 'waits')}")
+        check("waits was not running when the file was written." in asked(stage, its_own, "why", "waits")[1], f"of its job: {asked(stage, its_own, 'why', 'waits')}")
 
 
 def what_a_socket_waits_for(stage):
@@ -1121,6 +1121,83 @@ def what_both_sources_say(stage):
     launcher.shut_down()
 
 
+# What differs between the sources, since one of them does not know it, or since their last clock readings are less than a second apart.
+LACKING = (
+    (r"\((for|in) [^)]*\)", r"(\1)"), (r"It is being removed( \([^)]*\))?:", "It is being removed:"), (r"It is disabled since \S+?( \(jobctl [^)]*\))?: ", "It is disabled: "),
+    (r"(was refused, at [0-9:]+)[:.] .*", r"\1"), (r" at [0-9:]+ \(StartInterval", " at (StartInterval"), (r"follows at [0-9:]+ if", "follows if"),
+)
+
+
+def blocks_of(text):
+    """What a text of `why` says of each job, without what differs."""
+    for form, other in LACKING:
+        text = re.sub(form, other, text)
+    return {block.split(" ")[0]: block for block in text.partition("\n\n")[2].rstrip("\n").split("\n\n") if re.match(r"\S+ is ", block)}
+
+
+def each_reason_by_each_source(stage):
+    """Each reason for which a job does not run is said in the same words by the journal alone, by the status file alone, and by both, whichever comes first; at
+    once and half a minute later. So are objects, the jobs that fail and the coming starts. `next` says which sources were read, as `why` does."""
+    launcher, path = serve(stage, journal="journal")
+    journal, deaf = stage.at("journal"), f"trap '' TERM; : > {stage.at('deaf')}; while :; do sleep 0.05; done"
+    never = {"StartCalendarInterval": {"Month": 2, "Day": 30}}
+    for job in (
+        {"Label": "idle", "ProgramArguments": ["/bin/true"]}, {"Label": "watch", "ProgramArguments": ["/bin/true"], "WatchPaths": [stage.at("watched")]},
+        {"Label": "night", "ProgramArguments": ["/bin/true"], "StartCalendarInterval": {"Hour": 3}}, {"Label": "never", "ProgramArguments": ["/bin/true"], **never},
+        {"Label": "hourly", "ProgramArguments": ["/bin/true"], "StartInterval": 3600}, shell_job("kept", "exec sleep 600", KeepAlive=True),
+        shell_job("throttled", "exit 1", KeepAlive=True, ThrottleInterval=600), shell_job("once", "exit 0", RunAtLoad=True, LaunchOnlyOnce=True),
+        shell_job("exit", "exit 3", RunAtLoad=True, KeepAlive={"SuccessfulExit": True}), shell_job("off", "exit 0", RunAtLoad=True),
+        {"Label": "refused", "ProgramArguments": ["/nonexistent/prog"], "RunAtLoad": True, "ThrottleInterval": 600},
+        shell_job("leaving", deaf, RunAtLoad=True, ExitTimeOut=3600),
+    ):
+        launcher.load(job)
+    wait_for(lambda: os.path.exists(stage.at("deaf")), "the job does not run")
+    os.unlink(stage.at("deaf"))
+    launcher.load(shell_job("stopping", deaf, RunAtLoad=True, ExitTimeOut=3600))
+    wait_for(lambda: os.path.exists(stage.at("deaf")), "the other job does not run")
+    for request in ({"req": "disable", "job": "off"}, {"req": "stop", "job": "stopping"}, {"req": "unload", "job": "leaving"}):
+        launcher.ask(request)
+    job_where(path, "leaving", lambda job: job["state"] == "removing")
+    job_where(path, "stopping", lambda job: job["state"] == "stopping")
+    for label in ("throttled", "once", "exit", "off"):
+        job_where(path, label, lambda job: job["last_end"])
+    job_where(path, "refused", lambda job: job["refused"])
+    job_where(path, "off", lambda job: job["disabled"])
+    kept = {key: value for key, value in os.environ.items() if not key.startswith("JOBD_")}
+    file, socket = {"JOBD_STATUS_FILE": path}, {"JOBD_SOCKET": stage.at("socket")}
+    ways = {"the journal": (("--journal", journal), {}), "the file": (("--status-file", path), {}),
+            "the journal and the file": (("--journal", journal), file), "the file and the journal": (("--status-file", path), socket), "the launcher": ((), socket)}
+
+    def said(way, *words):
+        named, env = ways[way]
+        return subprocess.run([*stage.given.jobscope, *words, *named], env={**kept, **env}, capture_output=True, timeout=patience(), text=True, stdin=subprocess.DEVNULL).stdout
+
+    def objects(way, now):
+        found = {it["label"]: it for it in map(json.loads, said(way, "why", "--json", "--now", str(now)).splitlines())}
+        keys = ("state", "fault", "starts", "last_code", "last_signal", "is_disabled")
+        return {label: ([it.get(key) for key in keys], [cause["kind"] for cause in it["causes"]]) for label, it in found.items()}
+
+    first = int(time.time()) + 1
+    for now in (first, first + 30):
+        wanted = blocks_of(said("the journal", "why", "--now", str(now)))
+        check(len(wanted) == 13, f"jobs by the journal: {list(wanted)}")
+        for way in ways:
+            got = blocks_of(said(way, "why", "--now", str(now)))
+            others = [f"{got.get(label)!r} in place of {block!r}" for label, block in wanted.items() if got.get(label) != block]
+            check(not others and len(got) == len(wanted), f"at {now - first} s, by {way}: {others}")
+            check(objects(way, now) == objects("the journal", now), f"objects at {now - first} s by {way}: {objects(way, now)} {objects('the journal', now)}")
+            lines = [[line for line in said(one, "why", "--failing", "--now", str(now)).splitlines() if ": its last " in line] for one in (way, "the journal")]
+            lines = [[line.split(": ")[:2] for line in some] for some in lines]
+            check(lines[0] == lines[1] and lines[0], f"failing at {now - first} s by {way}: {lines}")
+            starts = [[line.split("  ")[1] for line in said(one, "next", "--from", str(now)).splitlines() if "  in " in line] for one in (way, "the journal")]
+            check(starts[0] == starts[1] and starts[0], f"starts at {now - first} s by {way}: {starts}")
+    heads = {"the journal": "Its journal alone was read: what the boot left out is not known.\n",
+             "the file": "Its status file alone was read: jobs that were loaded in the last two seconds may be missing.\n"}
+    for way in ways:
+        check(heads.get(way, BOTH) in said(way, "next"), f"the head of next by {way}: {said(way, 'next')!r}")
+    launcher.kill()
+
+
 ENDING = "It is shutting down: it starts no job.\n"
 
 
@@ -1148,6 +1225,7 @@ def a_shutdown_by_the_file_alone(stage):
 SCENES = [
     a_shutdown_by_the_file_alone,
     calls_that_failed,
+    each_reason_by_each_source,
     what_both_sources_say,
     counts_over_restarts,
     since_when_labels_are_disabled,

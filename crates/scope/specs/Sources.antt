@@ -21,18 +21,13 @@ why_source n =
     else_of n.file NamedFile (else_of n.journal Journals
     (else_of n.variable_file VariableFile (else_of n.variable_journal Journals None)))
 
-abbrev pub next_source : NamedSources → Option Source
-next_source n =
-    else_of n.file NamedFile (else_of n.journal Journals
-    (else_of n.variable_journal Journals (else_of n.variable_file VariableFile None)))
-
--- What the arguments name comes before what a variable names, and a status file before a journal; but for next the variable of a journal comes first.
--- None: nothing is named. Other subcommands read journals alone.
+-- What the arguments name comes before what a variable names, and a status file before a journal. None: nothing is named. Other subcommands read journals
+-- alone.
 abbrev pub named_source : ScopeTask → NamedSources → Option Source
 named_source tasks.Status n = status_source n
 named_source tasks.Metrics n = status_source n
 named_source (tasks.Why why) n = why_source n
-named_source (tasks.Next next) n = next_source n
+named_source (tasks.Next next) n = why_source n
 named_source _ n = Some Journals
 
 -- The journal if it can be opened and goes on, else the status file if there is one. Without either, the journal is asked for, so that the fault is its.

@@ -29,6 +29,10 @@ later_asked (Some shut) job = if nat_lt job.ask shut.0 then Some (Shutdown, shut
 abbrev pub asked_in : Past → Record → Option (JobRequest × Reading)
 asked_in past job = later_asked past.shut_down job
 
+-- a run of it ended, of whichever load
+abbrev pub has_ended : Record → Bool
+has_ended job = nat_lt 0 job.totals.codes || nat_lt 0 job.totals.signals
+
 -- the last second that is looked at: 400 days ahead, and no later than a clock may show
 abbrev pub last_looked_at : ℕ → ℕ
 last_looked_at after = min (after + FARTHEST) MAX_WALL

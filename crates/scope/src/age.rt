@@ -1,6 +1,5 @@
 //! The time as of which a journal is reported, how long ago that was, and whether its launcher was running then.
 
-use crate::joined::{SourcesRead, sources_said};
 use history_model::{Reading, SECOND};
 use launcher_life::{LauncherSeen, Life, foretells, may_live};
 use run_times::Filling::{Moment, Number, Time};
@@ -59,18 +58,6 @@ pub(crate) fn clock_as_of(as_of: AsOf, last: Reading) -> Reading {
     match as_of {
         AsOf::Seen(second, _, _) => gone_on(within_limits(last), second),
         as_of => reading_as_of(as_of, last),
-    }
-}
-
-/// Adds which sources were read, if the report is of now.
-pub(crate) fn add_sources(page: &mut Page<'_>, as_of: AsOf, has_file: bool) {
-    match as_of {
-        AsOf::Seen(_, _, _) => page.writer.put(sources_said(if has_file {
-            SourcesRead::Both
-        } else {
-            SourcesRead::JournalAlone
-        })),
-        AsOf::End(_) | AsOf::Moment { .. } => {}
     }
 }
 

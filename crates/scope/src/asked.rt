@@ -1,7 +1,7 @@
 //! What the arguments ask of `why` and `next`, as their reports take it.
 
 use history_model::Text;
-use launchctl_words::{NextWords, ScopeCommand, WhyWords};
+use launchctl_words::{NextWords, ScopeCommand, ScopeTask, WhyWords};
 
 /// Of which jobs it is said why they run or not, and in which form.
 #[derive(Clone, Copy)]
@@ -48,5 +48,23 @@ impl NextAsked {
             is_json: command.is_json,
             is_utc: command.is_utc,
         }
+    }
+}
+
+/// Whether failing jobs alone are asked for.
+pub(crate) fn asks_for_failing(command: &ScopeCommand) -> bool {
+    match &command.task {
+        ScopeTask::Why(why) => why.is_failing,
+        ScopeTask::Check(_)
+        | ScopeTask::Next(_)
+        | ScopeTask::Status
+        | ScopeTask::Metrics
+        | ScopeTask::Log(_)
+        | ScopeTask::Runs(_)
+        | ScopeTask::Picture(_)
+        | ScopeTask::Cron(_)
+        | ScopeTask::Plist(_)
+        | ScopeTask::Show
+        | ScopeTask::Drift => false,
     }
 }

@@ -32,6 +32,8 @@ pub(crate) enum BesideJournal {
     Long,
     /// There is none, it can't be read, or it is another launcher's.
     Unread,
+    /// The file has all that is asked for.
+    Unneeded,
 }
 
 impl BesideJournal {
@@ -39,7 +41,7 @@ impl BesideJournal {
     pub(crate) fn journal(&self) -> Option<&OpenJournal> {
         match self {
             BesideJournal::Read(journal) => Some(journal),
-            BesideJournal::Long | BesideJournal::Unread => None,
+            BesideJournal::Long | BesideJournal::Unread | BesideJournal::Unneeded => None,
         }
     }
 
@@ -49,6 +51,7 @@ impl BesideJournal {
             BesideJournal::Read(_) => SourcesRead::Both,
             BesideJournal::Long => SourcesRead::FileOfLongJournal,
             BesideJournal::Unread => SourcesRead::FileAlone,
+            BesideJournal::Unneeded => SourcesRead::FileEnough,
         }
     }
 }
@@ -190,7 +193,9 @@ pub(crate) fn settings_of(
             drop(journal);
             Ok(labels)
         }
-        BesideJournal::Long | BesideJournal::Unread => Ok(KnownLabels::new(alloc)),
+        BesideJournal::Long | BesideJournal::Unread | BesideJournal::Unneeded => {
+            Ok(KnownLabels::new(alloc))
+        }
     }
 }
 

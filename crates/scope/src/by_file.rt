@@ -3,33 +3,29 @@
 ghost use Rattle.std.specs.Prelude.{IfOk};
 ghost use Rattle.scope.specs.Findings.{AreFound};
 
-use crate::as_root::read_for;
-use crate::asked::{NextAsked, WhyAsked};
+use crate::asked::asks_for_failing;
 use crate::beside::{BesideJournal, journal_beside, settings_of};
+use crate::by_sources::put_view;
 use crate::clock::now;
 use crate::counted::counts_of;
-use crate::errors::put_errors;
-use crate::found::{Findings, NO_CLOCK, UNREADABLE, WELL};
-use crate::journal::reader::OpenJournal;
+use crate::found::{Findings, NO_CLOCK, UNREADABLE, WELL, nowhere_if};
 use crate::journal::source::{NONE_NAMED, has_variable, open_journal};
+use crate::kept_journals::length_at;
 use crate::launcher::{LauncherFiles, is_there, launcher_files};
-use crate::left::left_running;
+use crate::left::left_for;
 use crate::objects::status::status_objects;
-use crate::objects::why::standing_objects;
-use crate::report::{put_now, tell_unforetold};
 use crate::sources::{Answers, NamedSources, Source, answers_of, found_source, named_source};
 use crate::subcommands::Statuses;
 use crate::table_width::table_columns;
-use crate::texts::standing::{failed_in, failing_in, standing_text};
-use crate::texts::standing_next::standing_lines;
-use crate::texts::starts::{ComingLines, tells_clockless};
 use crate::texts::unknown::unknown_in;
-use crate::texts::why::is_known;
-use definition_files::tell_clockless;
+use crate::view::LauncherView;
+use calendar_due::Zone;
+use ctl_protocol::LINE_LIMIT;
+use files_and_process::path_files::read_front;
 use history_model::Text;
 use launchctl_words::{ScopeCommand, ScopeTask};
-use run_times::telling::{put, put_made, tell_of};
-use status_file::JournalStatus;
+use run_times::telling::{put_made, tell_of};
+use status_file::{JournalStatus, read_line};
 use status_page::{
     Look, RunCounts, StatusRead, has_colour, named_path, print_diagnostic, read_standing,
     samples_text, table_text,
@@ -94,16 +90,19 @@ fn launchers_file(host: &HostRuntime, of: &ScopeCommand) -> io::Result<Option<St
 }
 
 // Whether a launcher that may be running writes nothing more to its journal, by its status file. That is looked at for the two tasks that either source
-// answers.
+// answers. The file is read whole only if its first line says that the journal is closed.
 fn is_closed(host: &HostRuntime, of: &ScopeCommand, files: &LauncherFiles) -> bool {
     let (Answers::Either, Some(path)) = (answers_of(&of.task), &files.status_file) else {
         return false;
     };
+    if !says_closed(host, host.alloc(), path.as_str()) {
+        return false;
+    }
     match read_standing(host, host.alloc(), path.as_str(), of.words.as_slice()) {
         Ok(standing) => {
-            let is_closed = standing.may_live() && has_closed(&standing);
+            let may_live = standing.may_live();
             drop(standing);
-            is_closed
+            may_live
         }
         Err(diagnostic) => {
             drop(diagnostic);
@@ -112,13 +111,40 @@ fn is_closed(host: &HostRuntime, of: &ScopeCommand, files: &LauncherFiles) -> bo
     }
 }
 
-fn has_closed(standing: &StatusRead) -> bool {
-    match standing.launcher() {
-        Some(launcher) => match launcher.journal {
-            JournalStatus::Closed(_) => true,
-            JournalStatus::None | JournalStatus::Open => false,
+// Whether the first line of the status file says that the journal is closed.
+fn says_closed(host: &HostRuntime, alloc: Global, path: &str) -> bool {
+    if length_at(host, path).is_none() {
+        return false;
+    }
+    let mut bytes = Vec::new(alloc);
+    let is_closed = match read_front(host, path, LINE_LIMIT, &mut bytes) {
+        Ok(()) => match bytes.as_slice().split(|byte| *byte == b'\n').next() {
+            Some(line) => is_closed_in(alloc, line),
+            None => false,
         },
-        None => false,
+        Err(error) => {
+            drop(error);
+            false
+        }
+    };
+    drop(bytes);
+    is_closed
+}
+
+fn is_closed_in(alloc: Global, line: &[u8]) -> bool {
+    match read_line(alloc, line) {
+        Ok(line) => {
+            let is_closed = match line.launcher() {
+                Ok(launcher) => match launcher.journal {
+                    JournalStatus::Closed(_) => true,
+                    JournalStatus::None | JournalStatus::Open => false,
+                },
+                Err(_) => false,
+            };
+            drop(line);
+            is_closed
+        }
+        Err(_) => false,
     }
 }
 
@@ -166,7 +192,7 @@ pub(crate) fn tell_by_file(
             let told = tell(host, alloc, of, path, &standing, second);
             drop(standing);
             match told {
-                Ok((before, last)) => Ok(Statuses::of(before, last)),
+                Ok(found) => Ok(Statuses::of(WELL, found)),
                 Err(error) => Err(error),
             }
         }
@@ -184,15 +210,11 @@ fn tell(
     path: &str,
     standing: &StatusRead,
     second: u64,
-) -> io::Result<(Findings, Findings)> {
+) -> io::Result<Findings> {
     let labels = of.words.as_slice();
     match &of.task {
-        ScopeTask::Why(why) => {
-            let asked = WhyAsked::of(of, why);
-            return tell_why(host, alloc, of, asked, path, standing, second);
-        }
-        ScopeTask::Next(next) => {
-            put_next(host, alloc, NextAsked::of(of, next), path, standing, second)?;
+        ScopeTask::Why(_) | ScopeTask::Next(_) => {
+            return tell_joined(host, alloc, of, path, standing, second);
         }
         ScopeTask::Metrics => {
             let counts = counts_of(host, alloc, standing)?;
@@ -225,92 +247,70 @@ fn tell(
         | ScopeTask::Show
         | ScopeTask::Drift => {}
     }
-    let is_nowhere = tell_unknown(host, alloc, path, standing, labels, None)?;
-    Ok((WELL, Findings { is_nowhere, ..WELL }))
+    Ok(nowhere_if(tell_unknown(host, alloc, path, standing, labels)?))
 }
 
-// Why each job runs or not, by the file and, if it can be read, by the journal of its launcher. Which jobs fail the file says alone.
-fn tell_why(
+// Why each job runs or not, or when each starts, by the file and, if it can be read, by the journal of its launcher. Which jobs fail the file says alone.
+fn tell_joined(
     host: &HostRuntime,
     alloc: Global,
     of: &ScopeCommand,
-    asked: WhyAsked<'_>,
     path: &str,
     standing: &StatusRead,
     second: u64,
-) -> io::Result<(Findings, Findings)> {
-    let kept = if asked.is_failing {
-        BesideJournal::Unread
+) -> io::Result<Findings> {
+    let kept = if asks_for_failing(of) {
+        BesideJournal::Unneeded
     } else {
         journal_beside(host, alloc, of, standing)?
     };
-    let told = put_why(host, alloc, asked, path, standing, second, &kept);
+    let told = tell_by_both(host, alloc, of, path, standing, second, &kept);
     drop(kept);
     told
 }
 
-fn put_why(
+fn tell_by_both(
     host: &HostRuntime,
     alloc: Global,
-    asked: WhyAsked<'_>,
+    of: &ScopeCommand,
     path: &str,
     standing: &StatusRead,
     second: u64,
-    beside: &BesideJournal,
-) -> io::Result<(Findings, Findings)> {
-    let labels = asked.labels;
-    let journal = beside.journal();
-    let count = put_jobs(host, alloc, asked, standing, second, beside)?;
-    let is_nowhere = tell_unknown(host, alloc, path, standing, labels, journal)?;
-    if !asked.is_json {
-        put_failed(host, alloc, asked, path, standing, second)?;
-        if let Some(journal) = journal {
-            put_now(host, alloc, journal, labels)?;
+    kept: &BesideJournal,
+) -> io::Result<Findings> {
+    let zone = standing.zone(alloc, false)?;
+    let told = match standing.zone(alloc, of.is_utc) {
+        Ok(shown) => {
+            let told = tell_in(host, alloc, of, path, standing, second, kept, &zone, &shown);
+            drop(shown);
+            told
         }
-    }
-    let differs = asked.is_failing && count > 0;
-    Ok((
-        Findings { differs, ..WELL },
-        Findings { is_nowhere, ..WELL },
-    ))
+        Err(error) => Err(io::Error::from(error)),
+    };
+    drop(zone);
+    told
 }
 
-// The jobs, and how many of them fail, if that is asked for.
-fn put_jobs(
+// By the launcher's zone, and the one in which times are shown.
+fn tell_in<'x>(
     host: &HostRuntime,
     alloc: Global,
-    asked: WhyAsked<'_>,
-    standing: &StatusRead,
+    of: &'x ScopeCommand,
+    path: &str,
+    standing: &'x StatusRead,
     second: u64,
-    beside: &BesideJournal,
-) -> io::Result<u64> {
-    let labels = asked.labels;
-    if asked.is_failing && !asked.is_json {
-        let (text, count) = failing_in(alloc, standing, labels, asked.is_utc, second)?;
-        put_made(host, Ok(text))?;
-        return Ok(count);
-    }
-    let left = left_running(host, alloc, standing, labels)?;
-    let made = if asked.is_json {
-        standing_objects(
-            alloc,
-            standing,
-            asked,
-            second,
-            left.as_slice(),
-            beside.journal(),
-        )
-    } else {
-        let left = left.as_slice();
-        match standing_text(alloc, standing, labels, asked.is_utc, second, left, beside) {
-            Ok(text) => Ok((text, 0)),
-            Err(error) => Err(error),
-        }
-    };
+    kept: &'x BesideJournal,
+    zone: &'x Zone,
+    shown: &'x Zone,
+) -> io::Result<Findings> {
+    let journal = kept.journal();
+    let left = left_for(host, alloc, standing, journal, of)?;
+    let processes = left.as_slice();
+    let sources = kept.sources();
+    let view = LauncherView::by_file(standing, second, journal, sources, processes, zone, shown);
+    let told = put_view(host, alloc, path, &view, of);
     drop(left);
-    let (text, count) = made?;
-    put_made(host, Ok(text))?;
-    Ok(count)
+    told
 }
 
 fn lent(counts: &Option<RunCounts>) -> Option<&RunCounts> {
@@ -320,58 +320,18 @@ fn lent(counts: &Option<RunCounts>) -> Option<&RunCounts> {
     }
 }
 
-// Where the errors of the jobs went whose last run failed.
-fn put_failed(
-    host: &HostRuntime,
-    alloc: Global,
-    asked: WhyAsked<'_>,
-    path: &str,
-    standing: &StatusRead,
-    second: u64,
-) -> io::Result<()> {
-    let failed = failed_in(alloc, standing, asked.labels, second)?;
-    if !asked.is_failing && !failed.is_empty() {
-        put(host, "\n")?;
-    }
-    let whom = read_for(host, Some(path));
-    put_errors(host, alloc, failed.as_slice(), true, whom)
-}
-
-// The next starts, and how many jobs have none.
-fn put_next(
-    host: &HostRuntime,
-    alloc: Global,
-    asked: NextAsked,
-    path: &str,
-    standing: &StatusRead,
-    second: u64,
-) -> io::Result<()> {
-    tell_unforetold(host, path, asked.is_json, standing.foretells());
-    let ComingLines {
-        text,
-        jobs,
-        clockless,
-    } = standing_lines(alloc, standing, asked, second)?;
-    if tells_clockless(asked.is_all, clockless, jobs) {
-        tell_clockless(host, path, clockless, jobs);
-    }
-    put_made(host, Ok(text))
-}
-
-// Reports each of the labels that nothing names: no job of the file, no definition that the boot left out, and not the journal, if it was read. It returns
-// whether there is one.
+// Reports each of the labels that nothing names: no job of the file, and no definition that the boot left out. It returns whether there is one.
 fn tell_unknown(
     host: &HostRuntime,
     alloc: Global,
     path: &str,
     standing: &StatusRead,
     labels: &[Text],
-    journal: Option<&OpenJournal>,
 ) -> Result<bool, AllocError> {
     let mut is_nowhere = false;
     for label in labels {
         let label = label.as_str();
-        if !standing.has(label) && !standing.leaves_out(label) && !is_known_in(journal, label) {
+        if !standing.has(label) && !standing.leaves_out(label) {
             let told = unknown_in(alloc, standing, label)?;
             tell_of(host, path, &told);
             drop(told);
@@ -379,11 +339,4 @@ fn tell_unknown(
         }
     }
     Ok(is_nowhere)
-}
-
-fn is_known_in(journal: Option<&OpenJournal>, label: &str) -> bool {
-    match journal {
-        Some(journal) => is_known(journal, label),
-        None => false,
-    }
 }

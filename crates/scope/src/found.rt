@@ -52,6 +52,16 @@ pub(crate) const NO_CLOCK: Findings = Findings {
     differs: false,
 };
 
+/// Nothing has one of the named labels, if that is so.
+pub(crate) fn nowhere_if(is_nowhere: bool) -> Findings {
+    Findings { is_nowhere, ..WELL }
+}
+
+/// A job fails or a file differs, if that is so and asked for.
+pub(crate) fn differing_if(differs: bool) -> Findings {
+    Findings { differs, ..WELL }
+}
+
 impl Findings {
     /// What either found.
     pub(crate) fn and(self, other: Findings) -> Findings

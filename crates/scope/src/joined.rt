@@ -8,18 +8,9 @@ use crate::journal::labels::DisabledBy;
 use crate::journal::reader::OpenJournal;
 use crate::known_runs::KnownRuns;
 use history_model::Reading;
-use leftovers::RunProcess;
 use run_log::RefusedStart;
 use status_file::{DisabledBy as DisabledNow, JobStatus, StatusLine};
 use status_page::{StatusRead, reading_of};
-
-/// A journal, and the status file of its launcher, if that was read too, with the processes that runs of that launcher left running.
-#[derive(Clone, Copy)]
-pub(crate) struct JoinedJournal<'a> {
-    pub(crate) journal: &'a OpenJournal,
-    pub(crate) standing: Option<&'a StatusRead>,
-    pub(crate) processes: &'a [RunProcess],
-}
 
 /// By what a label is disabled.
 #[derive(Clone, Copy)]
@@ -54,21 +45,6 @@ pub(crate) struct LabelPast {
     /// The clock reading of its last event.
     pub(crate) last: Reading,
     pub(crate) disabled: Option<DisabledBy>,
-}
-
-impl<'a> JoinedJournal<'a> {
-    /// What was read of a launcher, its journal and maybe its status file.
-    pub(crate) fn new(
-        journal: &'a OpenJournal,
-        standing: Option<&'a StatusRead>,
-        processes: &'a [RunProcess],
-    ) -> JoinedJournal<'a> {
-        JoinedJournal {
-            journal,
-            standing,
-            processes,
-        }
-    }
 }
 
 impl<'a> LabelNow<'a> {
@@ -293,6 +269,8 @@ pub(crate) enum SourcesRead {
     FileAlone,
     /// Its status file alone, since its journal has too many bytes.
     FileOfLongJournal,
+    /// Its status file alone, which has all that is asked for.
+    FileEnough,
 }
 
 /// Which sources were read, as a line of the head, and what is not known without the other one.
@@ -308,5 +286,23 @@ pub(crate) fn sources_said(sources: SourcesRead) -> &'static str {
         SourcesRead::FileOfLongJournal => {
             "Its status file alone was read, since its journal has more than 32 MiB: refused loads, who disabled a label, and unsupported conditions are not known.\n"
         }
+        SourcesRead::FileEnough => "Its status file was read.\n",
+    }
+}
+
+/// The same for coming starts.
+pub(crate) fn sources_of_next(sources: SourcesRead) -> &'static str {
+    match sources {
+        SourcesRead::Both => "Its journal and its status file were read.\n",
+        SourcesRead::JournalAlone => {
+            "Its journal alone was read: what the boot left out is not known.\n"
+        }
+        SourcesRead::FileAlone => {
+            "Its status file alone was read: jobs that were loaded in the last two seconds may be missing.\n"
+        }
+        SourcesRead::FileOfLongJournal => {
+            "Its status file alone was read, since its journal has more than 32 MiB: jobs that were loaded in the last two seconds may be missing.\n"
+        }
+        SourcesRead::FileEnough => "Its status file was read.\n",
     }
 }

@@ -1,7 +1,7 @@
 //! What a command reads of a launcher: its status file, or journals.
 
 ghost use Rattle.std.specs.Prelude.{◌≡◌};
-ghost use Rattle.scope.specs.Sources.{answers_in, either_unless, found_source, named_source, next_source, source_found, status_source, why_source};
+ghost use Rattle.scope.specs.Sources.{answers_in, either_unless, found_source, named_source, source_found, status_source, why_source};
 
 use launchctl_words::ScopeTask;
 
@@ -48,8 +48,7 @@ pub(crate) fn named_source(task: &ScopeTask, named: NamedSources) -> Option<Sour
 {
     match task {
         ScopeTask::Status | ScopeTask::Metrics => source_of_status(named),
-        ScopeTask::Why(_) => source_of_why(named),
-        ScopeTask::Next(_) => source_of_next(named),
+        ScopeTask::Why(_) | ScopeTask::Next(_) => source_of_why(named),
         ScopeTask::Check(_)
         | ScopeTask::Log(_)
         | ScopeTask::Runs(_)
@@ -84,20 +83,6 @@ fn source_of_why(named: NamedSources) -> Option<Source>
         Some(Source::VariableFile)
     } else if named.variable_journal {
         Some(Source::Journals)
-    } else {
-        None
-    }
-}
-
-fn source_of_next(named: NamedSources) -> Option<Source>
-    ensures { result ≡ next_source named }
-{
-    if named.file {
-        Some(Source::NamedFile)
-    } else if named.journal || named.variable_journal {
-        Some(Source::Journals)
-    } else if named.variable_file {
-        Some(Source::VariableFile)
     } else {
         None
     }

@@ -1,4 +1,4 @@
-//! The texts that are written of a journal: why each job is in its state, what its runs came to, and the journal for people.
+//! The texts that are written of a launcher: why each job is in its state, when it starts, what its runs came to, and the journal for people.
 
 pub(crate) mod after_exit;
 pub(crate) mod by_facts;
@@ -7,14 +7,15 @@ pub(crate) mod causes;
 pub(crate) mod coming;
 pub(crate) mod failing;
 pub(crate) mod fronts;
+pub(crate) mod heads;
+pub(crate) mod labels;
+pub(crate) mod left;
 pub(crate) mod log;
 pub mod log_ends;
 pub(crate) mod next;
 pub(crate) mod runs;
 pub(crate) mod show;
 pub(crate) mod since;
-pub(crate) mod standing;
-pub(crate) mod standing_next;
 pub(crate) mod starts;
 pub(crate) mod told;
 pub(crate) mod unknown;

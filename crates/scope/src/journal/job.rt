@@ -1,5 +1,8 @@
 //! What is kept of one job: of its present load, and over all its loads.
 
+ghost use Rattle.std.specs.Prelude.{◌≡◌};
+ghost use Rattle.scope.specs.Told.{has_ended};
+
 use crate::journal::news::What;
 use crate::journal::run::{JobRun, RunEnd};
 use crate::journal::waiting::Wait;
@@ -207,6 +210,13 @@ impl Record {
             Signal::Kill => RunItem::Killed,
         };
         self.log.note(item, at);
+    }
+
+    /// Whether a run of it ended, of whichever load.
+    pub(crate) fn has_ended(&self) -> bool
+        ensures { result ≡ has_ended self.now }
+    {
+        self.totals.codes > 0 || self.totals.signals > 0
     }
 
     /// When it was loaded last.

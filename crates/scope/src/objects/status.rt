@@ -7,7 +7,7 @@ use crate::journal::labels::KnownLabels;
 use crate::objects::job::{ReportContext, around_file};
 use crate::objects::left_out::put_left_out;
 use crate::objects::lines::{end_of, moment_of, number_of};
-use crate::texts::standing::disabled_at;
+use crate::view::by_file::disabled_at;
 use calendar_due::Zone;
 use history_model::Reading;
 use json_lines::Value::{Absent, Flag, Moment, Number, Text};

@@ -1,52 +1,20 @@
-//! Which jobs of a journal fail, and by which rule jobs of a journal and of a file do.
+//! Which jobs fail, whichever sources were read: the rule, and the text of `why --failing`.
 
 ghost use Rattle.std.specs.Prelude.{◌≡◌, is_some, IfSome};
 ghost use Rattle.status_page.specs.Failing.{is_failing, FaultHolds};
 ghost use Rattle.scope.specs.KnownFaults.{past_in};
 
-use crate::age::{AsOf, add_head, add_sources, clock_as_of, reading_as_of};
 use crate::errors::FailedRun;
-use crate::joined::{JoinedJournal, label_now, runs_joined};
-use crate::journal::job::KeptJob;
-use crate::journal::reader::OpenJournal;
+use crate::joined::sources_said;
 use crate::known_runs::KnownRuns;
-use crate::texts::standing::{is_failed_run, missed_fault};
-use calendar_due::Zone;
-use history_model::{Reading, Text};
+use crate::texts::heads::add_launcher;
+use crate::view::rows::{Row, loaded_of, loaded_rows};
+use crate::view::{JobView, LauncherView};
+use history_model::Text;
 use run_times::Page;
 use status_file::JobFacts;
-use status_page::{Failing, Fault, add_failing, add_left_out, fault_of, is_asked, passed_minute};
+use status_page::{Failing, Fault, add_failing, add_left_out, fault_of};
 use std::alloc::{AllocError, Global};
-
-/// A line for each loaded job of the journal, or of those named, that fails, and how many there are. Lines for definitions that the boot left out follow, if
-/// the status file was read.
-pub(crate) fn failing_text(
-    alloc: Global,
-    of: JoinedJournal<'_>,
-    zone: &Zone,
-    labels: &[Text],
-    as_of: AsOf,
-) -> Result<(String, u64), AllocError> {
-    let last = of.journal.table.reading();
-    let mut page = Page::new(alloc, zone, reading_as_of(as_of, last));
-    add_head(&mut page, as_of, last);
-    add_sources(&mut page, as_of, of.standing.is_some());
-    let seen = LauncherNow::of(as_of, last);
-    let mut count: u64 = 0;
-    for (label, job) in &of.journal.past.jobs {
-        let label = label.as_str();
-        if is_asked(labels, label) && add_if_failing(&mut page, of, label, job, seen) {
-            count = count.saturating_add(1);
-        }
-    }
-    if let Some(standing) = of.standing {
-        count = count.saturating_add(add_left_out(&mut page, standing, labels));
-    }
-    match page.into_text() {
-        Ok(text) => Ok((text, count)),
-        Err(error) => Err(error),
-    }
-}
 
 /// As of when it is asked which jobs fail.
 #[derive(Clone, Copy)]
@@ -57,30 +25,53 @@ pub(crate) struct LauncherNow {
     pub(crate) up: u64,
 }
 
-impl LauncherNow {
-    /// Of a journal that is reported as of then, if `last` is the clock reading of its last event.
-    pub(crate) fn of(as_of: AsOf, last: Reading) -> LauncherNow {
-        LauncherNow {
-            may_live: as_of.may_live(),
-            up: clock_as_of(as_of, last).up,
-        }
+/// A line for each loaded job, or for those named, that fails, and for each definition that the boot left out, and how many there are. The jobs whose last
+/// run failed are added to `failed`.
+pub(crate) fn failing_text<'a>(
+    alloc: Global,
+    of: &LauncherView<'a>,
+    labels: &[Text],
+    failed: &mut Vec<FailedRun<'a>>,
+) -> Result<(String, u64), AllocError> {
+    let rows = loaded_rows(alloc, of, labels)?;
+    let mut page = Page::new(alloc, of.shown, of.now);
+    add_launcher(&mut page, of, sources_said(of.sources));
+    let mut count: u64 = 0;
+    for row in &rows {
+        let fails = add_if_failing(&mut page, of, *row, failed);
+        count = count.saturating_add(u64::from(fails));
+    }
+    drop(rows);
+    if let Some(standing) = of.standing() {
+        count = count.saturating_add(add_left_out(&mut page, standing, labels));
+    }
+    match page.into_text() {
+        Ok(text) => Ok((text, count)),
+        Err(error) => Err(error),
     }
 }
 
 fn add_if_failing<'a>(
     page: &mut Page<'_>,
-    of: JoinedJournal<'a>,
-    label: &'a str,
-    job: &'a KeptJob,
-    now: LauncherNow,
+    of: &LauncherView<'a>,
+    row: Row<'a>,
+    failed: &mut Vec<FailedRun<'a>>,
 ) -> bool {
-    let Some(facts) = of.journal.facts(label) else {
+    match loaded_of(page.alloc, of, row) {
+        Ok(Some(job)) => add_fault(page, &job, failed),
+        Ok(None) => false,
+        Err(_) => {
+            page.writer.refuse();
+            false
+        }
+    }
+}
+
+fn add_fault<'a>(page: &mut Page<'_>, job: &JobView<'a>, failed: &mut Vec<FailedRun<'a>>) -> bool {
+    let Some(fault) = job.fault else {
         return false;
     };
-    let runs = runs_joined(job.record.known(), label_now(of.standing, label));
-    let Some(fault) = job_fault(of.journal, job, &facts, now) else {
-        return false;
-    };
+    let runs = &job.told.runs;
     let ended = match &runs.last {
         Some(last) => Some(last.ended),
         None => None,
@@ -88,73 +79,58 @@ fn add_if_failing<'a>(
     add_failing(
         page,
         &Failing {
-            label,
+            label: job.label,
             fault,
             refused: runs.refused_at(),
             reason: runs.reason(),
             ended,
         },
     );
+    note_failed(page, job, failed);
     true
 }
 
-/// The loaded jobs of the journal, or those named, whose last run failed.
-pub(crate) fn failed_runs<'a>(
-    alloc: Global,
-    journal: &'a OpenJournal,
-    labels: &[Text],
-    as_of: AsOf,
-) -> Result<Vec<FailedRun<'a>>, AllocError> {
-    let up = clock_as_of(as_of, journal.table.reading()).up;
-    let now = LauncherNow { may_live: true, up };
-    let mut failed = Vec::new(alloc);
-    for (label, job) in &journal.past.jobs {
-        let label = label.as_str();
-        if let (Some(def), Some(facts), true) = (
-            &job.def,
-            journal.facts(label),
-            is_asked(labels, label),
-        ) {
-            let throttle = def.throttle_interval();
-            if is_failed_run(fault_in(&facts, &job.record.known(), throttle, now)) {
-                failed.push(FailedRun {
-                    label,
-                    errors: def.standard_error_path(),
-                    is_served: def.has_sockets(),
-                })?;
-            }
-        }
+/// Adds the job to those whose last run failed, if it did, and if it is known where its errors go.
+pub(crate) fn note_failed<'a>(
+    page: &mut Page<'_>,
+    job: &JobView<'a>,
+    failed: &mut Vec<FailedRun<'a>>,
+) {
+    let keys = &job.told.keys;
+    if !keys.knows_errors || !is_failed_run(job.fault) {
+        return;
     }
-    Ok(failed)
+    let run = FailedRun {
+        label: job.label,
+        errors: keys.errors,
+        is_served: keys.has_sockets,
+    };
+    if failed.push(run).is_err() {
+        page.writer.refuse();
+    }
 }
 
-/// Why a loaded job is failing, if it is: also since a minute of its calendar passed while no launcher ran.
-pub(crate) fn job_fault(
-    journal: &OpenJournal,
-    job: &KeptJob,
+/// Whether a job is reported as failing because its last run failed.
+pub(crate) fn is_failed_run(fault: Option<Fault>) -> bool {
+    match fault {
+        Some(Fault::Ended(_)) => true,
+        _ => false,
+    }
+}
+
+/// Why a job is reported as failing, if it is: by its runs, or since a minute of its calendar passed while no launcher ran.
+pub(crate) fn fault_or_missed(
     facts: &JobFacts<'_>,
+    runs: &KnownRuns<'_>,
+    throttle: u32,
+    missed: Option<u64>,
     now: LauncherNow,
 ) -> Option<Fault> {
-    let throttle = match &job.def {
-        Some(def) => def.throttle_interval(),
-        None => 0,
-    };
-    match fault_in(facts, &job.record.known(), throttle, now) {
-        Some(fault) => Some(fault),
-        None => missed_fault(missed_by(journal, job)),
+    match (fault_in(facts, runs, throttle, now), missed) {
+        (Some(fault), _) => Some(fault),
+        (None, Some(minute)) => Some(Fault::Missed(minute)),
+        (None, None) => None,
     }
-}
-
-/// The minute of its calendar that passed while no launcher ran, if this is the job's first load under the launcher, and it was not started since.
-pub(crate) fn missed_by(journal: &OpenJournal, job: &KeptJob) -> Option<u64> {
-    let def = job.def.as_ref()?;
-    let has_started = !job.record.is_first || job.record.known().starts > 0;
-    passed_minute(
-        def.calendar(),
-        &journal.zone,
-        has_started,
-        journal.past.down,
-    )
 }
 
 /// Why a job with this `ThrottleInterval` is reported as failing, if it is, by its facts and by what is known of its runs. Of a journal and of a file

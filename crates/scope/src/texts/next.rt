@@ -1,145 +1,192 @@
-//! The coming starts of a journal's jobs by time alone.
+//! The coming starts of a launcher's jobs by time alone: the one text of `next`, and its objects, whichever sources were read.
 
-use crate::age::{AsOf, add_head};
-use crate::journal::job::KeptJob;
-use crate::journal::reader::OpenJournal;
-use crate::page::interval_end;
-use crate::texts::causes::throttle_of;
+use crate::asked::NextAsked;
+use crate::joined::sources_of_next;
+use crate::texts::heads::add_launcher;
 use crate::texts::starts::{ComingLines, Start, Telling, put_starts};
+use crate::view::rows::{Row, loaded_of, loaded_rows};
+use crate::view::{JobView, LauncherView, Schedule};
 use calendar_due::Zone;
 use definition_files::calendar_after;
-use job_defs::Def;
-use run_times::Page;
-use status_page::{Next, can_start_again, start_told, start_when, within_limits};
+use run_times::{Page, coming_second};
+use status_page::{Next, add_left_out, can_start_again, start_told};
 use std::alloc::{AllocError, Global};
 
-/// What is asked of the coming starts.
+/// How many starts are shown if all are asked for and the arguments do not say it.
+const COUNT: u64 = 10;
+
+/// How many jobs there are, and how many of them the clocks never start.
 #[derive(Clone, Copy)]
-pub(crate) struct AskedStarts<'a> {
-    /// The zone in which times are shown.
-    pub(crate) zone: &'a Zone,
-    pub(crate) as_of: AsOf,
-    /// Each of them, and not only the next of each job.
-    pub(crate) is_all: bool,
-    pub(crate) telling: Telling,
+struct Counts {
+    jobs: u64,
+    clockless: u64,
 }
 
-/// The coming starts of each loaded job. If no launcher is known to run, there are none, and no job is reported to have no schedule.
+/// The coming starts of each loaded job, and in a text what the boot left out. If no launcher is known to run, there are none, and no job is reported to
+/// have no schedule.
 pub(crate) fn next_lines(
     alloc: Global,
-    journal: &OpenJournal,
-    of: AskedStarts<'_>,
+    of: &LauncherView<'_>,
+    asked: NextAsked,
 ) -> Result<ComingLines, AllocError> {
     let mut starts = Vec::new(alloc);
-    let mut jobs: u64 = 0;
-    let mut clockless: u64 = 0;
-    for (label, job) in &journal.past.jobs {
-        if let (Some(def), true) = (&job.def, of.as_of.foretells()) {
-            let before = starts.len();
-            add_starts(journal, label.as_str(), job, def, of, &mut starts)?;
-            jobs = jobs.saturating_add(1);
-            clockless = clockless.saturating_add(u64::from(starts.len() == before));
-        }
-    }
-    let text = starts_text(alloc, journal, of, &mut starts);
+    let lines = match add_all(alloc, of, asked.is_all, &mut starts) {
+        Ok(counts) => lines_of(alloc, of, asked, counts, &mut starts),
+        Err(error) => Err(error),
+    };
     drop(starts);
-    match text {
+    lines
+}
+
+fn lines_of(
+    alloc: Global,
+    of: &LauncherView<'_>,
+    asked: NextAsked,
+    counts: Counts,
+    starts: &mut Vec<Start<'_>>,
+) -> Result<ComingLines, AllocError> {
+    let mut page = Page::new(alloc, of.shown, of.now);
+    if !asked.is_json {
+        add_launcher(&mut page, of, sources_of_next(of.sources));
+    }
+    let count = if asked.is_all { COUNT } else { u64::MAX };
+    let telling = Telling {
+        now: of.clock.wall,
+        count: asked.count.unwrap_or(count),
+        is_json: asked.is_json,
+        around: of.around,
+    };
+    put_starts(&mut page, of.zone, telling, starts);
+    if let (Some(standing), false) = (of.standing(), asked.is_json) {
+        let _count = add_left_out(&mut page, standing, &[]);
+    }
+    match page.into_text() {
         Ok(text) => Ok(ComingLines {
             text,
-            jobs,
-            clockless,
+            jobs: counts.jobs,
+            clockless: counts.clockless,
         }),
         Err(error) => Err(error),
     }
 }
 
-fn starts_text(
+fn add_all<'a>(
     alloc: Global,
-    journal: &OpenJournal,
-    of: AskedStarts<'_>,
-    starts: &mut Vec<Start<'_>>,
-) -> Result<String, AllocError> {
-    let last = journal.table.reading();
-    let mut page = Page::new(alloc, of.zone, last);
-    if !of.telling.is_json {
-        add_head(&mut page, of.as_of, last);
+    of: &LauncherView<'a>,
+    is_all: bool,
+    starts: &mut Vec<Start<'a>>,
+) -> Result<Counts, AllocError> {
+    let mut counts = Counts {
+        jobs: 0,
+        clockless: 0,
+    };
+    if !of.around.foretells {
+        return Ok(counts);
     }
-    put_starts(&mut page, &journal.zone, of.telling, starts);
-    page.into_text()
+    let rows = loaded_rows(alloc, of, &[])?;
+    let added = add_rows(alloc, of, is_all, rows.as_slice(), starts, &mut counts);
+    drop(rows);
+    match added {
+        Ok(()) => Ok(counts),
+        Err(error) => Err(error),
+    }
+}
+
+fn add_rows<'a>(
+    alloc: Global,
+    of: &LauncherView<'a>,
+    is_all: bool,
+    rows: &[Row<'a>],
+    starts: &mut Vec<Start<'a>>,
+    counts: &mut Counts,
+) -> Result<(), AllocError> {
+    for row in rows {
+        if let Some(job) = loaded_of(alloc, of, *row)? {
+            let before = starts.len();
+            add_starts(alloc, of, &job, is_all, starts)?;
+            counts.jobs = counts.jobs.saturating_add(1);
+            let is_clockless = starts.len() == before;
+            counts.clockless = counts.clockless.saturating_add(u64::from(is_clockless));
+        }
+    }
+    Ok(())
 }
 
 // Adds the next start of the job, or the next by its calendar and the next by its interval if all are asked for.
 fn add_starts<'a>(
-    journal: &OpenJournal,
-    label: &'a str,
-    job: &KeptJob,
-    def: &'a Def,
-    of: AskedStarts<'_>,
+    alloc: Global,
+    of: &LauncherView<'a>,
+    job: &JobView<'a>,
+    is_all: bool,
     starts: &mut Vec<Start<'a>>,
 ) -> Result<(), AllocError> {
-    let Some(facts) = journal.facts(label) else {
-        return Ok(());
+    let calendar = minute_after(alloc, job.schedule, of.zone, of.clock.wall)?;
+    let facts = &job.told.facts;
+    let interval = match facts.moments.interval {
+        Some(up) => Some(coming_second(job.last, up)),
+        None => None,
     };
-    let last = within_limits(journal.table.reading());
     let can_start = can_start_again(&facts.reasons);
-    let calendar = calendar_after(def.calendar(), &journal.zone, of.telling.now);
-    let interval = interval_end(&journal.table, label, last);
-    let adding = Adding {
-        label,
-        def,
-        is_all: of.is_all,
-    };
-    if of.is_all {
+    if is_all {
         if !can_start {
             return Ok(());
         }
-        push(adding, calendar, false, starts)?;
-        return push(adding, interval, true, starts);
+        push(job, true, calendar, false, starts)?;
+        return push(job, true, interval, true, starts);
     }
-    let when = start_when(
-        &facts.reasons,
-        facts.spawns_from,
-        def.calendar(),
-        &journal.zone,
-        last,
-        of.telling.now,
-    );
-    let throttle = match facts.reasons.throttled_until {
-        Some(up) => Some(throttle_of(&job.record.known(), def.throttle_interval(), up, last)),
-        None => None,
-    };
-    match start_told(can_start, Next::Clock(when), throttle, calendar, interval) {
-        Some(told) => push(adding, Some(told.at), told.is_interval, starts),
+    match start_told(
+        can_start,
+        Next::Clock(job.start),
+        job.throttle,
+        calendar,
+        interval,
+    ) {
+        Some(told) => push(job, false, Some(told.at), told.is_interval, starts),
         None => Ok(()),
     }
 }
 
-/// The job whose starts are added.
-#[derive(Clone, Copy)]
-struct Adding<'a> {
-    label: &'a str,
-    def: &'a Def,
-    /// The starts after its next one are asked for.
-    is_all: bool,
+// The next minute of its calendar after a second.
+fn minute_after(
+    alloc: Global,
+    schedule: Schedule<'_>,
+    zone: &Zone,
+    now: u64,
+) -> Result<Option<u64>, AllocError> {
+    match schedule {
+        Schedule::Definition(def) => Ok(calendar_after(def.calendar(), zone, now)),
+        Schedule::Line(line) => match line.calendar(alloc) {
+            Ok(entries) => {
+                let minute = calendar_after(entries.as_slice(), zone, now);
+                drop(entries);
+                Ok(minute)
+            }
+            Err(_) => Err(AllocError),
+        },
+    }
 }
 
 fn push<'a>(
-    of: Adding<'a>,
+    job: &JobView<'a>,
+    is_all: bool,
     at: Option<u64>,
     is_interval: bool,
     starts: &mut Vec<Start<'a>>,
 ) -> Result<(), AllocError> {
-    match at {
-        Some(at) => Ok(starts.push(Start {
-            label: of.label,
-            at,
-            every: if is_interval {
-                of.def.start_interval()
-            } else {
-                None
-            },
-            def: if of.is_all { Some(of.def) } else { None },
-        })?),
-        None => Ok(()),
-    }
+    let Some(at) = at else {
+        return Ok(());
+    };
+    Ok(starts.push(Start {
+        label: job.label,
+        at,
+        every: if is_interval {
+            job.told.keys.start_interval
+        } else {
+            None
+        },
+        def: match (is_all, job.schedule) {
+            (true, Schedule::Definition(def)) => Some(def),
+            _ => None,
+        },
+    })?)
 }

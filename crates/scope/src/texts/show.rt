@@ -5,7 +5,7 @@ use crate::journal::job::KeptJob;
 use crate::journal::labels::KnownLabel;
 use crate::journal::reader::OpenJournal;
 use crate::objects::loaded::put_loaded;
-use crate::texts::why::add_disabled;
+use crate::texts::labels::add_disabled;
 use calendar_due::Zone;
 use definition_files::laid_out;
 use job_defs::Def;

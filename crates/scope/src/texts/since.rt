@@ -1,19 +1,17 @@
-//! What came due by time alone since a journal's last event or since a launcher wrote its file, and when time alone starts jobs.
+//! What came due by time alone since a journal's last event or since a launcher wrote its file.
 
-ghost use Rattle.std.specs.Prelude.{◌≡◌, ◌≤◌, ℕ, Bool};
-ghost use Rattle.history_model.specs.declared.TheConstants.{MAX_UP, MAX_WALL};
+ghost use Rattle.std.specs.Prelude.{◌≡◌, ℕ, Bool};
 ghost use Rattle.history_model.specs.Items.{History};
 ghost use Rattle.history_model.specs.NextMomentByFacts.{has_come};
 ghost use Rattle.job_core.specs.JobMoments.{AreMoments, may_kill_when, may_term_when};
 ghost use Rattle.scope.specs.Ages.{ComesSince, is_overdue, reasons_then};
 
-use calendar_due::Zone;
-use history_model::{Entry, Reading, Reasons};
+use crate::view::JobView;
+use history_model::{Reading, Reasons};
 use job_table::Moments;
 use run_times::Filling::{Text, Time};
 use run_times::{Page, coming_second};
-use status_file::JobFacts;
-use status_page::{StartWhen, ThrottleEnd, second_told, start_when};
+use status_page::{StartWhen, second_told};
 
 /// When KILL came due for the present run: after this `up` of the last clock reading, and not after now.
 pub(crate) fn kill_since(moments: &Moments, last: u64, now: u64) -> Option<u64>
@@ -63,72 +61,28 @@ fn is_overdue(at: u64, now: u64) -> bool
     now.saturating_sub(at) > ON_TIME
 }
 
-/// Adds when time alone starts the job, or what came due after the last clock reading and up to now. If the job waits only to be wanted, the ways
-/// to its start have named the coming start already.
-pub(crate) fn add_coming(
-    page: &mut Page<'_>,
-    facts: &JobFacts<'_>,
-    entries: &[Entry],
-    zone: &Zone,
-    last: Reading,
-    now: Reading,
-    is_idle: bool,
-    throttle: Option<ThrottleEnd>,
-)
-    requires up { last.up ≤ MAX_UP }
-    requires wall { last.wall ≤ MAX_WALL }
-{
-    match start_when(
-        &facts.reasons,
-        facts.spawns_from,
-        entries,
-        zone,
-        last,
-        now.wall,
-    ) {
+/// Adds when time alone starts the job, or what came due after the last clock reading of its source and up to now. If the job waits only to be wanted,
+/// the ways to its start have named the coming start already.
+pub(crate) fn add_coming(page: &mut Page<'_>, job: &JobView<'_>, now: Reading, is_idle: bool) {
+    match job.start {
         StartWhen::Since(at) if is_overdue(at, now.wall) => {
             page.add(
                 "  Its start has been overdue since $.\n",
-                &[Time(second_told(throttle, at))],
+                &[Time(second_told(job.throttle, at))],
             );
         }
         StartWhen::Since(_) => page.writer.put("  Its start is due.\n"),
         StartWhen::At(at) if !is_idle => {
-            let at = Time(second_told(throttle, at));
+            let at = Time(second_told(job.throttle, at));
             page.add("  It starts at $, if nothing else happens.\n", &[at]);
         }
         _ => {}
     }
-    let kill = kill_since(&facts.moments, last.up, now.up);
-    add_since(page, "KILL for its run", kill, last);
-    let term = term_since(&facts.moments, last.up, now.up);
-    add_since(page, "TERM for its run", term, last);
-}
-
-/// The second at which time alone starts the job. It may be past: then the start is overdue since that second. The end of the throttle is shown as
-/// by `add_coming`.
-pub(crate) fn start_second(
-    facts: &JobFacts<'_>,
-    entries: &[Entry],
-    zone: &Zone,
-    last: Reading,
-    now: Reading,
-    throttle: Option<ThrottleEnd>,
-) -> Option<u64>
-    requires up { last.up ≤ MAX_UP }
-    requires wall { last.wall ≤ MAX_WALL }
-{
-    match start_when(
-        &facts.reasons,
-        facts.spawns_from,
-        entries,
-        zone,
-        last,
-        now.wall,
-    ) {
-        StartWhen::Since(at) | StartWhen::At(at) => Some(second_told(throttle, at)),
-        StartWhen::Never => None,
-    }
+    let moments = &job.told.facts.moments;
+    let kill = kill_since(moments, job.last.up, now.up);
+    add_since(page, "KILL for its run", kill, job.last);
+    let term = term_since(moments, job.last.up, now.up);
+    add_since(page, "TERM for its run", term, job.last);
 }
 
 fn add_since(page: &mut Page<'_>, what: &'static str, up: Option<u64>, last: Reading) {
