@@ -31,7 +31,7 @@ pub(crate) fn job_by_file<'a>(
     job: &JobStatus<'a>,
     entries: &[Entry],
 ) -> JobView<'a>
-    ensures { result.told.facts ≡ facts_then job.now.facts of.now.now.up }
+    ensures { result.told.facts ≡ facts_then job.now.facts of.entry.now.now.up }
 {
     let runs = KnownRuns::noted(&job.note, job.facts.reasons.child);
     let throttle = job.keys.throttle_interval;

@@ -61,7 +61,7 @@ fn job_by_journal<'a>(
     facts: JobFacts<'a>,
     file: Option<LabelNow<'a>>,
 ) -> JobView<'a>
-    ensures { result.told.facts ≡ facts_then facts.entry of.now.now.up }
+    ensures { result.told.facts ≡ facts_then facts.entry of.entry.now.now.up }
 {
     let runs = runs_joined(job.record.known(), file);
     let throttle = def.throttle_interval();
