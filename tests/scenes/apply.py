@@ -475,11 +475,28 @@ def jobd_group_ends_all(stage):
     os.unlink(stage.at("www.left"))
     launcher.load(job)
     left = left_by(stage)
+    # What began in the hundredth of a second in which the next run begins is not named.
+    time.sleep(0.05)
     try:
         os.kill(running(launcher, "www"), 9)
         wait_for(lambda: f"Process {left} (sleep) of its run 1 still runs." in asked(stage, stage.at("standing/status.jsonl"), "why", "www")[1], "what a KILL left is not named")
     finally:
         end_process(left)
+
+
+def jobd_group_waits_for_all(stage):
+    """jobd-group exits only once the last process of its group has ended, though the shell that it started ends at the TERM at once."""
+    launcher = begin(stage)
+    group, slow = os.path.join(HERE, "../../contrib/jobd-group"), stage.at("slow.says")
+    program = f"trap 'sleep 0.7; echo over >{slow}; exit' TERM; echo runs >{slow}.new; mv {slow}.new {slow}; while :; do sleep 0.05; done"
+    job = shell_job("slow", "", KeepAlive=True, ThrottleInterval=0)
+    job["ProgramArguments"] = ["/bin/sh", group, "/bin/sh", "-c", 'sh -c "$0" & wait', program]
+    launcher.load(job)
+    wait_for(lambda: text_at(slow), "the slow program does not start")
+    got = stage.jobctl(["unload", "slow"])
+    check(got.returncode == 0, f"unload: {got}")
+    wait_for(lambda: not loaded(launcher), "the job does not go")
+    check(text_at(slow) == "over\n", "jobd-group exited before the program of its group")
 
 
 # ---- one variable, and labels
@@ -1100,7 +1117,7 @@ SCENES = [
     a_run_has_its_name,
     what_a_run_left_behind_is_named,
     what_an_unload_left_is_named,
-    jobd_group_ends_all,
+    jobd_group_ends_all, jobd_group_waits_for_all,
     one_variable_is_enough,
     labels_that_nobody_has,
     a_start_between_the_look_and_the_step,
