@@ -40,7 +40,7 @@ JOBS = (1, 100, 1000)
 # What is counted, the kind of stream, its two lengths, what the difference is parted by (`lines`, `jobs` or nothing), the aim (a count, or
 # how many times the first count the last may be), and the yardstick.
 COUNTS = [
-    ("a clock line, nothing due", "ticks", (200, 1200), "lines", 3000, "4,259"),
+    ("a clock line, nothing due", "ticks", (200, 1200), "lines", 1300, "4,259"),
     ("a reading that crosses a minute of no job", "minutes", (9, 59), "lines", "1.2", "-"),
     ("a start of a job that is throttled", "asks", (200, 1200), "lines", None, "-"),
     ("a reading, a start and its two answers (mean)", "starts", (200, 1200), "lines", None, "-"),
@@ -59,7 +59,7 @@ WHOLE = ("calendars", "shutdown", "watched")
 # The crates' functions, by a part of their names: the dearest of them, with all that it calls, is what the part takes.
 SPLIT = [
     ("lines", r"ctl_protocol::(cut|feed)::"),
-    ("reading", r"ctl_protocol::(event|line|members|number|target|tree)::"),
+    ("reading", r"ctl_protocol::(event|line|members|number|target|tree|written)::"),
     ("table", r"job_table"),
     ("outcome", r"ctl_protocol.*outcome"),
 ]
