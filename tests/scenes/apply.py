@@ -395,17 +395,22 @@ def a_run_has_its_name(stage):
     launcher.load(kept("own", EnvironmentVariables={"JOBD_RUN": "mine", "OTHER": "1"}))
     name = f"{launcher.pid}.{began_of(launcher.pid)}"
 
-    def named(pid):
-        """What it has once it is the job's program: before that it has the launcher's variables."""
-        return wait_for(lambda: variable_of(pid), "it has no name")
+    def named(pid, other="JOBD_RUN"):
+        """What it has once it is the job's program, and another variable. While a process becomes another program it has none, and before that the launcher's."""
+
+        def found():
+            both = (variable_of(pid), variable_of(pid, other))
+            return None not in both and both
+
+        return wait_for(found, "it has no name")
 
     first = running(launcher, "org.example.web")
-    check(named(first) == f"{name}/org.example.web/1", f"its name: {variable_of(first)}")
+    check(named(first)[0] == f"{name}/org.example.web/1", f"its name: {variable_of(first)}")
     own = running(launcher, "own")
-    check((named(own), variable_of(own, "OTHER")) == ("mine", "1"), f"its own value: {variable_of(own)}")
+    check(named(own, "OTHER") == ("mine", "1"), f"its own value: {variable_of(own)}")
     os.kill(first, 9)
     second = wait_for(lambda: pid_of(launcher, "org.example.web") not in (None, first) and pid_of(launcher, "org.example.web"), "it is not started again")
-    check(named(second) == f"{name}/org.example.web/2", f"the name of its second run: {variable_of(second)}")
+    check(named(second)[0] == f"{name}/org.example.web/2", f"the name of its second run: {variable_of(second)}")
 
 
 def what_a_run_left_behind_is_named(stage):
