@@ -1170,7 +1170,9 @@ def each_reason_by_each_source(stage):
 
     def said(way, *words):
         named, env = ways[way]
-        return subprocess.run([*stage.given.jobscope, *words, *named], env={**kept, **env}, capture_output=True, timeout=patience(), text=True, stdin=subprocess.DEVNULL).stdout
+        ran = subprocess.run([*stage.given.jobscope, *words, *named], env={**kept, **env}, capture_output=True, timeout=patience(), text=True, stdin=subprocess.DEVNULL)
+        check(ran.stdout, f"{words} by {way} writes nothing: {ran}")
+        return ran.stdout
 
     def objects(way, now):
         found = {it["label"]: it for it in map(json.loads, said(way, "why", "--json", "--now", str(now)).splitlines())}

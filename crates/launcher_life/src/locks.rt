@@ -13,9 +13,29 @@ const LOCKS: &str = "/proc/locks";
 /// How many bytes of that list are looked at.
 const MOST: usize = 4_194_304;
 
-/// The process that the list names for the lock on the file at the path. If the layers of an overlayfs are on several file systems, a file reports
-/// another device than the list. Its folder reports that of the list.
+/// How many times the list is read before a file counts as one without a lock. Linux gives a long list in pieces, and leaves a lock out if another one goes
+/// from the list between two of them.
+const READS: u32 = 4;
+
+/// The process that the list names for the lock on the file at the path.
 pub(crate) fn holder_of<R: Files>(
+    rt: &R,
+    alloc: Global,
+    path: &str,
+    data: &Metadata,
+) -> io::Result<Option<u32>> {
+    for _ in 0..READS {
+        let holder = listed_holder(rt, alloc, path, data)?;
+        if holder.is_some() {
+            return Ok(holder);
+        }
+    }
+    Ok(None)
+}
+
+// The process that the list names as it is read now. If the layers of an overlayfs are on several file systems, a file reports another device than the
+// list. Its folder reports that of the list.
+fn listed_holder<R: Files>(
     rt: &R,
     alloc: Global,
     path: &str,
