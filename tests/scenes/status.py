@@ -8,6 +8,7 @@ import os
 import re
 import resource
 import shutil
+import signal
 import stat
 import subprocess
 import time
@@ -87,7 +88,7 @@ def what_a_status_file_holds(stage):
     launcher.load(shell_job("ended", "exit 3", RunAtLoad=True, ThrottleInterval=1))
     job = job_where(path, "ended", lambda job: job["last_end"])
     end = job["last_end"]
-    check(end["run"] == 1 and end["code"] == 3 and "signal" not in end, f"its end: {end}")
+    check(end["run"] == 1 and end["code"] == 3 and "signal" not in end and end["ordered"] is False, f"its end: {end}")
     check(end["began"]["up"] <= end["ended"]["up"] and job["since"] == end["ended"], f"its moments: {job}")
     check(job["failures"] == 1 and job["pid"] is None and job["state"] == "idle", f"its counts: {job}")
     launcher.ask({"req": "kickstart", "job": "ended", "k": False})
@@ -497,7 +498,7 @@ def status_files_that_are_refused(stage):
 FAMILIES = {
     "jobd_job_running": ("gauge", "Whether a run of the job is running.", lambda job: int(job["pid"] is not None)),
     "jobd_job_starts_total": ("counter", "Starts that were ordered, including refused ones.", lambda job: job["starts"]),
-    "jobd_job_failures_total": ("counter", "Runs that did not exit with code 0.", lambda job: job["failures"] - job["refusals"]),
+    "jobd_job_failures_total": ("counter", "Runs that failed: they exited with a code above 0, or by a signal that the launcher did not give.", lambda job: job["failures"] - job["refusals"]),
     "jobd_job_refused_total": ("counter", "Starts that the system refused.", lambda job: job["refusals"]),
     "jobd_job_last_end_timestamp_seconds": (
         "gauge", "When the last run of the job exited.", lambda job: job["last_end"] and job["last_end"]["ended"]["wall"]),
@@ -926,8 +927,15 @@ def counted(paths, label):
     events = [json.loads(line) for path in paths for line in text_at(path).splitlines()[1:]]
     events = [event for event in events if event.get("job") == label]
     refusals = sum(event["ev"] == "spawn_refused" for event in events)
-    return (refusals + sum(event["ev"] == "spawned" for event in events),
-            sum(event["ev"] == "ended" and event.get("code") != 0 for event in events), refusals)
+    failures, is_ordered = 0, False
+    for event in events:
+        if event["ev"] in ("spawned", "spawn_refused"):
+            is_ordered = False
+        elif event["ev"] in ("termed", "killed"):
+            is_ordered = True
+        elif event["ev"] == "ended":
+            failures += event["code"] > 0 if "code" in event else not (is_ordered and event["signal"] in (0, 9, 15))
+    return refusals + sum(event["ev"] == "spawned" for event in events), failures, refusals
 
 
 def counts(stage, path, label, **around):
@@ -1224,8 +1232,82 @@ def a_shutdown_by_the_file_alone(stage):
     check(said() == [0, 0, 0], f"once it has exited: {said()}")
 
 
+def a_socket_that_is_refused(stage):
+    """Why a socket could not be bound is said of its label by the journal with the file, by the file alone, and as objects, until a load of the label is
+    accepted. By the journal alone the load is refused, and no reason is known."""
+    launcher, path = serve(stage, journal="journal")
+    journal, blocked = stage.at("journal"), stage.at("blocked")
+    with open(blocked, "w"):
+        pass
+    job = {"Label": "web", "ProgramArguments": ["/bin/cat"], "Sockets": {"s": {"SockPathName": blocked}}, "inetdCompatibility": {"Wait": False}}
+    check(launcher.load(job, code=11)["text"] == "socket refused\n", "the load is not refused")
+    (bind,) = wait_for(lambda: told(path)[0]["refused_binds"], "the file does not have the refused load")
+    check(bind["label"] == "web" and blocked in bind["reason"], f"the refused load: {bind}")
+    kept = {key: value for key, value in os.environ.items() if not key.startswith("JOBD_")}
+
+    def why(*words):
+        ran = subprocess.run([*stage.given.jobscope, "why", *words, "web"], env=kept, capture_output=True, timeout=patience(), text=True, stdin=subprocess.DEVNULL)
+        check(ran.returncode == 0 and not ran.stderr, f"{words}: {ran}")
+        return ran.stdout
+
+    def said(reason):
+        return f"\nweb is not loaded.\n  Its load at {time.strftime('%H:%M:%S', time.gmtime(bind['at']['wall']))} was refused: socket refused{reason}.\n"
+
+    both = ("--journal", journal), {"JOBD_STATUS_FILE": path}
+    kept.update(both[1])
+    check(said(f": {bind['reason']}") in why(*both[0]), f"by both: {why(*both[0])!r}")
+    found = json.loads(why("--json", *both[0]))
+    check(found["load_refusal"] == "socket refused" and found["load_reason"] == bind["reason"], f"the object: {found}")
+    del kept["JOBD_STATUS_FILE"]
+    check(said("") in why("--journal", journal), f"by the journal alone: {why('--journal', journal)!r}")
+    check(said(f": {bind['reason']}") in why("--status-file", path), f"by the file alone: {why('--status-file', path)!r}")
+    os.unlink(blocked)
+    launcher.load(job)
+    wait_for(lambda: not told(path)[0]["refused_binds"], "the file still has the refused load")
+    check("web is not running.\n" in why("--status-file", path), f"once it is loaded: {why('--status-file', path)!r}")
+    launcher.kill()
+
+
+def which_runs_failed(stage):
+    """A run that the launcher ends with TERM or KILL has not failed, whatever comes later; one that exits with a code, or that others end with TERM, has. So
+    say the file, `status`, `metrics` by the file and by the journal, and `why`."""
+    launcher, path = serve(stage, journal="journal")
+    launcher.load(shell_job("soft", "exec sleep 600", KeepAlive=True, ThrottleInterval=1))
+    launcher.load(shell_job("hard", "trap '' TERM; while :; do sleep 0.05; done", KeepAlive=True, ThrottleInterval=1, ExitTimeOut=1))
+    launcher.load(shell_job("code", "trap 'exit 7' TERM; while :; do sleep 0.05; done", KeepAlive=True, ThrottleInterval=1))
+    labels = ("soft", "hard", "code")
+    for run in (1, 2):
+        for label in labels:
+            job_where(path, label, lambda job: job["pid"] and job["run"] == run)
+        time.sleep(0.2)
+        for label in labels:
+            launcher.ask({"req": "stop", "job": label})
+        for label in labels:
+            job_where(path, label, lambda job: job["last_end"] and job["last_end"]["run"] == run)
+    ends = {label: job_where(path, label, lambda job: job["pid"] and job["run"] == 3) for label in labels}
+    wanted = {"soft": 0, "hard": 0, "code": 2}
+    check({label: job["failures"] for label, job in ends.items()} == wanted, f"of runs that the launcher ended: {ends}")
+    check(all(job["last_end"]["ordered"] is True for job in ends.values()), f"their ends: {ends}")
+    os.kill(ends["soft"]["pid"], signal.SIGTERM)
+    killed = job_where(path, "soft", lambda job: job["pid"] and job["run"] == 4)
+    check(killed["failures"] == 1 and killed["last_end"]["ordered"] is False, f"of a run that others ended: {killed}")
+    wanted["soft"] = 1
+    rows = {row["label"]: row["failures"] for row in map(json.loads, asked(stage, path, "status", "--json")[1].splitlines())}
+    check(rows == wanted, f"by status: {rows}")
+    for label in labels:
+        check(counts(stage, path, label)[0][1] == wanted[label], f"by metrics, of {label}: {counts(stage, path, label)}")
+        check(counts(stage, path, label)[0] == counted([stage.at("journal")], label), f"by the journal, of {label}: {counts(stage, path, label)}")
+        text = asked(stage, path, "why", label)[1]
+        check(f" starts since its load, {wanted[label]} failed." in text, f"why {label}: {text!r}")
+    for label in labels:
+        end_process(told(path)[1][label]["pid"])
+    launcher.kill()
+
+
 SCENES = [
     a_shutdown_by_the_file_alone,
+    a_socket_that_is_refused,
+    which_runs_failed,
     calls_that_failed,
     each_reason_by_each_source,
     what_both_sources_say,

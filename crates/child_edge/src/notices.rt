@@ -151,6 +151,8 @@ pub(crate) struct Notices {
     paths: BTreeMap<String, String>,
     /// Why the last start was refused; none if it went well, or if there was no memory for the reason.
     pub(crate) start_refusal: Option<String>,
+    /// Why the sockets of the last load were not bound; none if they were, or if there was no memory for the reason.
+    pub(crate) bind_refusal: Option<String>,
     // A refusal for want of memory has to be logged; and how many requests were answered well since the last one.
     is_short: bool,
     well: u32,
@@ -166,6 +168,7 @@ impl Notices {
             told: BTreeMap::new(alloc),
             paths: BTreeMap::new(alloc),
             start_refusal: None,
+            bind_refusal: None,
             is_short: false,
             well: WELL,
         }
@@ -253,6 +256,19 @@ impl Notices {
             }
         };
         drop(mem::replace(&mut self.start_refusal, refusal));
+    }
+
+    /// The sockets of the job were bound.
+    pub(crate) fn bound(&mut self, job: JobNo) {
+        drop(self.bind_refusal.take());
+        self.done(job, SystemRequest::Bind);
+    }
+
+    /// The sockets of the job with this label were not bound, as the form says.
+    pub(crate) fn not_bound(&mut self, job: JobNo, label: &str, form: &str, holes: &[Hole<'_>]) {
+        let refusal = filled(self.alloc, form, holes);
+        drop(mem::replace(&mut self.bind_refusal, refusal));
+        self.refused(job, SystemRequest::Bind, Some(label), None, form, holes);
     }
 
     /// A start found that a file of its connection is lost.

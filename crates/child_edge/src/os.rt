@@ -162,6 +162,15 @@ impl<R: Processes> OsEdge<R> {
         }
     }
 
+    /// Why the sockets of the last load were not bound: what could not be done, with the system's reason. None if they were bound, or if there was no memory
+    /// for the reason.
+    pub fn bind_refusal(&self) -> Option<&str> {
+        match &self.notices.bind_refusal {
+            Some(words) => Some(words.as_str()),
+            None => None,
+        }
+    }
+
     /// A request of a control client was answered: it was refused for want of memory, or not. The first such refusal is
     /// logged, and the first after 1,000 other answers in a row. Takes no memory.
     pub fn note_answer(&mut self, is_short: bool)

@@ -112,7 +112,7 @@ impl Sockets {
     {
         match self.bind_new(rt, job, def.label(), def.sockets()) {
             Ok(()) => {
-                notices.done(job, SystemRequest::Bind);
+                notices.bound(job);
                 Ok(())
             }
             Err(fault) => tell_fault(notices, job, def, fault),
@@ -375,8 +375,7 @@ fn tell_fault(notices: &mut Notices, job: JobNo, def: &Def, fault: BindFault) ->
 {
     let socket = def.sockets().get(fault.socket);
     let (form, holes) = cannot_bind(socket, fault.error);
-    let label = Some(def.label());
-    notices.refused(job, SystemRequest::Bind, label, None, form, &holes);
+    notices.not_bound(job, def.label(), form, &holes);
     Err(fault.error)
 }
 

@@ -62,8 +62,6 @@ fn clash_of_next(command: &ScopeCommand, next: &NextWords) -> Option<&'static st
     let has_paths = !command.words.as_slice().is_empty();
     if names_file && names_journal {
         Some("jobscope: next: --status-file and --journal can't be given together\n")
-    } else if names_file && next.is_all {
-        Some("jobscope: next: --status-file and --all can't be given together\n")
     } else if names_zone && !has_paths {
         Some("jobscope: next: --zone and --zone-file need a PATH\n")
     } else if has_paths && (next.is_all || names_file || names_journal) {

@@ -9,7 +9,8 @@ use crate::standing_file::RENEWED;
 use history_model::{JobNo, Reading, Refusal, SECOND, Text};
 use job_table::JobTable;
 use status_file::{
-    JournalStatus, LauncherStatus, RunNotes, StatusText, VERSION, add_jobs, add_launcher, job_count,
+    JournalStatus, LauncherStatus, RefusedBinds, RunNotes, StatusText, VERSION, add_jobs,
+    add_launcher, job_count,
 };
 use std::alloc::Global;
 
@@ -50,6 +51,7 @@ pub struct Keeper {
     // How many calls of the edge had failed when it was lent.
     pub(crate) failed_calls: u64,
     pub(crate) notes: RunNotes,
+    binds: RefusedBinds,
     order: Vec<JobNo>,
     pub(crate) text: StatusText,
 }
@@ -74,6 +76,7 @@ impl Keeper {
             is_due: false,
             failed_calls: 0,
             notes: RunNotes::new(alloc, at),
+            binds: RefusedBinds::new(alloc),
             order: Vec::new(alloc),
             text: StatusText::new(alloc),
         }
@@ -86,12 +89,24 @@ impl Keeper {
         is_new
     }
 
-    /// A client's line was answered: with a refusal, or well. What the store refused last is in the file until a later setting is stored.
-    pub(crate) fn replied(&mut self, line: &[u8], refusal: Option<Refusal>) {
+    /// A client's line was answered: with a refusal, or well. What the store refused last is in the file until a later setting is stored. If sockets could not
+    /// be bound, for this reason, that is in the file until a load of that label is accepted.
+    pub(crate) fn replied(&mut self, line: &[u8], refusal: Option<Refusal>, unbound: Option<&str>) {
+        if refusal == Some(Refusal::SocketRefused) {
+            self.note_unbound(line, unbound);
+        }
         if refusal == Some(Refusal::StoreRefused) {
             self.has_refused = true;
         } else if self.has_refused && refusal.is_none() {
             self.has_refused = !writes_setting(self.alloc, line);
+        }
+    }
+
+    // Without a reason nothing is noted.
+    fn note_unbound(&mut self, line: &[u8], reason: Option<&str>) {
+        if let (Ok(Some(load)), Some(reason)) = (load_in(self.alloc, line), reason) {
+            self.binds.note(load.label.as_str(), reason, self.notes.at);
+            drop(load);
         }
     }
 
@@ -116,6 +131,7 @@ impl Keeper {
         match load_in(self.alloc, line) {
             Ok(Some(load)) => {
                 self.notes.loaded(load.label.as_str(), load.digest.as_str());
+                self.binds.forget(load.label.as_str());
                 drop(load);
             }
             _ => self.notes.forget_loads(),
@@ -155,7 +171,9 @@ impl Keeper {
             is_shutting_down: Some(table.is_shutting_down()),
             jobs,
         };
-        add_launcher(&mut self.text, self.alloc, &launcher);
+        let binds = self.binds.list();
+        add_launcher(&mut self.text, self.alloc, &launcher, binds.as_slice());
+        drop(binds);
         add_jobs(
             &mut self.text,
             self.alloc,

@@ -100,6 +100,9 @@ pub trait RoundEdge: ChildEdge + SleepEdge + PathEdge + SocketEdge {
     /// Why the last start was refused, as the edge puts it; none if it went well.
     fn start_refusal(&self) -> Option<&str>;
 
+    /// Why the sockets of the last load were not bound, as the edge puts it; none if they were.
+    fn bind_refusal(&self) -> Option<&str>;
+
     /// How many of its calls failed. After the greatest `u64` comes 0. Takes no memory.
     fn failed_calls(&self) -> u64
         ensures { result ≡ Self.failures self.now };
@@ -208,6 +211,10 @@ impl<R: System> RoundEdge for OsEdge<R> {
 
     fn start_refusal(&self) -> Option<&str> {
         OsEdge::start_refusal(self)
+    }
+
+    fn bind_refusal(&self) -> Option<&str> {
+        OsEdge::bind_refusal(self)
     }
 
     fn failed_calls(&self) -> u64 {

@@ -285,6 +285,10 @@ impl<E: RoundEdge, R: System> RoundEdge for StatusEdge<E, R> {
         self.edge.start_refusal()
     }
 
+    fn bind_refusal(&self) -> Option<&str> {
+        self.edge.bind_refusal()
+    }
+
     fn failed_calls(&self) -> u64 {
         self.edge.failed_calls()
     }
@@ -292,7 +296,7 @@ impl<E: RoundEdge, R: System> RoundEdge for StatusEdge<E, R> {
     fn note_reply(&mut self, line: &[u8], has_loaded: bool, refusal: Option<Refusal>) {
         self.edge.note_reply(line, has_loaded, refusal);
         if let Some(keeper) = &mut self.keeper {
-            keeper.replied(line, refusal);
+            keeper.replied(line, refusal, self.edge.bind_refusal());
             if has_loaded {
                 keeper.loaded(line);
             }

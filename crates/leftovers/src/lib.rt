@@ -52,11 +52,22 @@ pub fn run_processes<R: Files>(
 ) -> Result<Vec<RunProcess>, AllocError> {
     let mut pids = Vec::new(alloc);
     let _listed = add_pids(rt, alloc, &mut pids);
+    let found = run_processes_among(rt, alloc, launcher, pids.as_slice());
+    drop(pids);
+    found
+}
+
+/// Those of these processes, which the caller may have listed (`files_and_process::processes::add_pids`).
+pub fn run_processes_among<R: Files>(
+    rt: &R,
+    alloc: Global,
+    launcher: LauncherId,
+    pids: &[u32],
+) -> Result<Vec<RunProcess>, AllocError> {
     let front = front_of(alloc, launcher)?;
     let mut found = Vec::new(alloc);
-    let added = add_all(rt, alloc, pids.as_slice(), front.as_str(), &mut found);
+    let added = add_all(rt, alloc, pids, front.as_str(), &mut found);
     drop(front);
-    drop(pids);
     match added {
         Ok(()) => Ok(found),
         Err(error) => {

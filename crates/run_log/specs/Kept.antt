@@ -1,12 +1,12 @@
 -- What is known of the runs of one load of a job: each value is a search of what happened since.
-use Rattle.std.specs.Prelude.{ℕ, Bool, false, List, [], ◌∷◌, Option, Some, None, unwrap_or}
+use Rattle.std.specs.Prelude.{ℕ, Bool, false, List, ◌∷◌, length, min, Option, Some, None, unwrap_or}
 use Rattle.history_model.specs.declared.Reading.{Reading}
 use Rattle.history_model.specs.Search.{first, last}
 use Rattle.run_log.specs.declared.facts.RunEnd.{RunEnd}
 use Rattle.run_log.specs.declared.facts.RunItem.TheVariants.{Refused, Exited}
 use Rattle.run_log.specs.declared.log.Refusal.{Refusal}
 use Rattle.run_log.specs.Told.{Told}
-use Rattle.run_log.specs.Search.{is_order, is_begin, is_refusal, is_term, is_kill, is_exit, is_success, is_failure, is_change, ordered_run, refuses, readings, latest, after, from, count}
+use Rattle.run_log.specs.Search.{is_order, is_begin, is_refusal, is_term, is_kill, is_exit, is_success, is_change, is_ordered_to_end, ordered_run, refuses, readings, latest, after, from, count, failed_runs}
 
 -- what is known of the runs of a load
 pub record Kept : Type 0 where
@@ -16,7 +16,7 @@ pub record Kept : Type 0 where
   pub starts : ℕ  -- how many were ordered,
   pub refusals : ℕ  -- how many of these were refused,
   pub ends : ℕ  -- how many runs exited,
-  pub failures : ℕ  -- and how many of these otherwise than with code 0
+  pub failures : ℕ  -- and how many of these failed
   pub started : Option Reading  -- when the last start was ordered
   pub begun : Option Reading  -- when a run last began
   pub term : Option Reading  -- since the last order of a start: when the first TERM,
@@ -27,10 +27,10 @@ pub record Kept : Type 0 where
   pub is_refused : Bool  -- the last start that was answered was refused
 
 -- the exit that the first item is. The run began at the newest begin before it; without one, when it
--- exited
+-- exited. It is known whether TERM or KILL was ordered for it
 abbrev pub end_in : List Told → Option RunEnd
 end_in ((Exited run how, at) ∷ before) =
-    Some (record { run = run; how = how; began = unwrap_or (first (readings is_begin before)) at; ended = at })
+    Some (record { run = run; how = how; ordered = Some (is_ordered_to_end before); began = unwrap_or (first (readings is_begin before)) at; ended = at })
 end_in _ = None
 
 -- the refusal that the first item is
@@ -47,7 +47,7 @@ kept_of loaded past = record {
   starts = count is_order past;
   refusals = count is_refusal past;
   ends = count is_exit past;
-  failures = count is_failure past;
+  failures = min (length (failed_runs past)) 18446744073709551615;
   started = first (readings is_order past);
   begun = first (readings is_begin past);
   term = last (readings is_term (after is_order past));

@@ -1,9 +1,9 @@
 -- How what happened is searched, and what an item is.
-use Rattle.std.specs.Prelude.{ℕ, ◌==◌, Bool, true, false, not, List, [], ◌∷◌, length, min, Option, Some, None, if◌then◌else◌}
+use Rattle.std.specs.Prelude.{ℕ, ◌==◌, ◌||◌, ◌&&◌, Bool, true, false, not, nat_lt, List, [], ◌∷◌, length, min, Option, Some, None, is_some, if◌then◌else◌}
 use Rattle.history_model.specs.declared.Reading.{Reading}
 use Rattle.history_model.specs.declared.Ended.{Ended}
 use Rattle.history_model.specs.declared.Ended.TheVariants.{Code, Signal}
-use Rattle.history_model.specs.Search.{or_else}
+use Rattle.history_model.specs.Search.{or_else, first, last}
 use Rattle.run_log.specs.declared.facts.RunItem.{RunItem}
 use Rattle.run_log.specs.declared.facts.RunItem.TheVariants.{Ordered, Begun, Refused, Termed, Killed, Exited}
 use Rattle.run_log.specs.Told.{Told}
@@ -49,11 +49,6 @@ abbrev pub is_success : RunItem → Bool
 is_success (Exited run how) = is_success_end how
 is_success _ = false
 
--- a run exited otherwise
-abbrev pub is_failure : RunItem → Bool
-is_failure (Exited run how) = not (is_success_end how)
-is_failure _ = false
-
 -- from then on the job is as it is: a run began, was refused or exited
 abbrev pub is_change : RunItem → Bool
 is_change Begun = true
@@ -98,3 +93,29 @@ from passes ((item, at) ∷ past) = if passes item then (item, at) ∷ past else
 -- how many pass, as far as a number of 64 bits goes
 abbrev pub count : (RunItem → Bool) → List Told → ℕ
 count passes past = min (length (readings passes past)) 18446744073709551615
+
+-- ---- which runs failed
+
+-- the launcher gave this signal: TERM (15) or KILL (9), or an unknown one (0), to a run that it ordered to end
+abbrev pub is_given : Bool → ℕ → Bool
+is_given ordered signal = ordered && (signal == 0 || (signal == 9 || signal == 15))
+
+-- a run that ended so failed: it exited with a code above 0, or by a signal that the launcher did not give
+abbrev pub is_failure : Bool → Ended → Bool
+is_failure ordered (Code code) = nat_lt 0 code
+is_failure ordered (Signal signal) = not (is_given ordered signal)
+
+-- TERM or KILL was ordered since the last start was ordered
+abbrev pub is_ordered_to_end : List Told → Bool
+is_ordered_to_end past =
+    is_some (last (readings is_term (after is_order past))) || is_some (first (readings is_kill (after is_order past)))
+
+-- the item is the exit of a run that failed, after what came before it
+abbrev pub is_failed_run : RunItem → List Told → Bool
+is_failed_run (Exited run how) before = is_failure (is_ordered_to_end before) how
+is_failed_run _ before = false
+
+-- when a run failed, newest first
+abbrev pub failed_runs : List Told → List Reading
+failed_runs [] = []
+failed_runs ((item, at) ∷ past) = if is_failed_run item past then at ∷ failed_runs past else failed_runs past

@@ -28,6 +28,8 @@ pub enum RunItem {
 pub struct RunEnd {
     pub run: u64,
     pub how: Ended,
+    /// Whether TERM or KILL was ordered for it. None: it is not known, since a launcher of version 0.3.0 does not write it.
+    pub ordered: Option<bool>,
     /// When the system started it. Of a run whose start was not heard of, when it ended.
     pub began: Reading,
     pub ended: Reading,
@@ -57,7 +59,7 @@ pub struct RunFacts<'a> {
     pub refusals: u64,
     /// How many runs ended.
     pub ends: u64,
-    /// How many of these did not exit with code 0.
+    /// How many of these failed (`is_failure`).
     pub failures: u64,
     /// When its last start was ordered, also if it was refused.
     pub started: Option<Reading>,

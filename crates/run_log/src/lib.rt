@@ -4,7 +4,9 @@
 #![tactic(auto)]
 
 mod facts;
+mod failures;
 mod log;
 
 pub use facts::{RefusedStart, RunEnd, RunFacts, RunItem};
+pub use failures::is_failure;
 pub use log::RunLog;

@@ -4,11 +4,13 @@ ghost use Rattle.std.specs.Prelude.{◌≡◌, ◌+◌, List, ◌∷◌, [], min
 ghost use Rattle.history_model.specs.Search.{or_else};
 ghost use Rattle.history_model.specs.declared.Reading.{Reading};
 ghost use Rattle.run_log.specs.Told.{Told};
+ghost use Rattle.run_log.specs.Search.{is_success_end};
 ghost use Rattle.run_log.specs.Kept.{kept_of};
-ghost use Rattle.run_log.specs.AfterItem.{after_exit};
+ghost use Rattle.run_log.specs.AfterItem.{after_exit, is_ending};
 ghost use Rattle.run_log.specs.Shown.{shown, refusals_shown, text_in};
 
 use crate::facts::{RefusedStart, RunEnd, RunFacts, RunItem};
+use crate::failures::is_failure;
 use history_model::{Ended, Reading, Text};
 use std::marker::Model;
 use std::mem;
@@ -166,18 +168,29 @@ impl RunLog {
         ensures { self.new ≡ after_exit run how at self.old }
     {
         let began = self.begun.unwrap_or(at);
+        let is_ordered = self.is_ending();
         self.since = at;
         self.ends = one_more(self.ends);
-        match how {
-            Ended::Code(0) => self.succeeded = Some(at),
-            _ => self.failures = one_more(self.failures),
+        if is_failure(how, is_ordered) {
+            self.failures = one_more(self.failures);
+        }
+        if is_success(how) {
+            self.succeeded = Some(at);
         }
         self.last_end = Some(RunEnd {
             run,
             how,
+            ordered: Some(is_ordered),
             began,
             ended: at,
         });
+    }
+
+    // Whether TERM or KILL was ordered for the present run.
+    fn is_ending(&self) -> bool
+        ensures { result ≡ is_ending self.now }
+    {
+        self.term.is_some() || self.kill.is_some()
     }
 
     /// What is known of the job's runs. Takes no memory.
@@ -215,6 +228,15 @@ impl RunLog {
             }),
             None => None,
         }
+    }
+}
+
+fn is_success(how: Ended) -> bool
+    ensures { result ≡ is_success_end how }
+{
+    match how {
+        Ended::Code(code) => code == 0,
+        Ended::Signal(_) => false,
     }
 }
 

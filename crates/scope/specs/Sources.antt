@@ -48,10 +48,10 @@ found_source _ opens has_file = Some Journals
 abbrev pub either_unless : Bool → Answers
 either_unless is_of_journal = if is_of_journal then answers.Journals else answers.Either
 
--- Which sources answer a task. A status file holds the present alone: neither `why` at an earlier time, nor each of the coming starts.
+-- Which sources answer a task. A status file holds the present alone, and so not `why` at an earlier time.
 abbrev pub answers_in : ScopeTask → Answers
 answers_in tasks.Status = answers.StatusFile
 answers_in tasks.Metrics = answers.StatusFile
 answers_in (tasks.Why why) = either_unless (is_some why.at)
-answers_in (tasks.Next next) = either_unless next.is_all
+answers_in (tasks.Next next) = answers.Either
 answers_in _ = answers.Journals

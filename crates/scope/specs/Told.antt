@@ -13,6 +13,7 @@ use Rattle.scope.specs.Ages.{reasons_then}
 use Rattle.scope.specs.declared.journal.job.JobRequest.{JobRequest}
 use Rattle.scope.specs.declared.journal.job.JobRequest.TheVariants.{Shutdown}
 use Rattle.scope.specs.declared.journal.job.Record.{Record}
+use Rattle.scope.specs.declared.journal.labels.KnownLabel.{KnownLabel}
 use Rattle.scope.specs.declared.journal.past.Past.{Past}
 use Rattle.scope.specs.declared.texts.told.CalendarNext.{CalendarNext}
 use Rattle.scope.specs.declared.texts.told.CalendarNext.TheVariants.{Absent, Far, At}
@@ -48,3 +49,13 @@ IsCalendarNext zone entries after (At wall) = IsFirstDue zone entries after (las
 abbrev pub is_refusal_told : Refusal → Bool → ℕ → ℕ → Bool
 is_refusal_told AlreadyLoaded same at newest = not same || nat_le newest at
 is_refusal_told _ same at newest = true
+
+-- its last refused load only if it is reported
+abbrev pub refusal_told : KnownLabel → ℕ → Option (Refusal × Reading) → Option (Refusal × Reading)
+refusal_told known newest None = None
+refusal_told known newest (Some (refusal, at)) =
+    if is_refusal_told refusal known.is_same at.up newest then Some (refusal, at) else None
+
+-- what is reported of the label of a loaded job to which something happened last at this `up`
+abbrev pub known_told : KnownLabel → ℕ → KnownLabel
+known_told known newest = record known { refused = refusal_told known newest known.refused }

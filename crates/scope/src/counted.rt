@@ -13,6 +13,7 @@ use crate::kept_journals::{
 use calendar_due::Zone;
 use ctl_protocol::{LineRoom, ReadFault, read_event, read_header};
 use history_model::{Answer, Ended, Event, JobItem, MAX_WALL, Reading, Text};
+use run_log::is_failure;
 use run_times::{time_text, utc};
 use status_file::JournalStatus;
 use status_page::{RunCount, RunCounts, StatusRead};
@@ -101,19 +102,33 @@ fn count_event(counts: &mut RunCounts, event: &Event<'_>, second: u64) {
     }
 }
 
-// Counts an answer to an order of a start, or the end of a run.
+// Counts an answer to an order, or the end of a run.
 fn count_item(count: &mut RunCount, item: JobItem, second: u64) {
     match item {
-        JobItem::Answered(Answer::Spawned { .. }) => count.starts = count.starts.saturating_add(1),
+        JobItem::Answered(Answer::Spawned { .. }) => count_start(count),
         JobItem::Answered(Answer::SpawnRefused { .. }) => {
-            count.starts = count.starts.saturating_add(1);
+            count_start(count);
             count.refusals = count.refusals.saturating_add(1);
         }
-        JobItem::Ended {
-            how: Ended::Code(0),
-            ..
-        } => count.succeeded = Some(second),
-        JobItem::Ended { .. } => count.failures = count.failures.saturating_add(1),
+        JobItem::Answered(Answer::Termed { .. } | Answer::Killed { .. }) => {
+            count.is_ordered_to_end = true;
+        }
+        JobItem::Ended { how, .. } => count_end(count, how, second),
+        _ => {}
+    }
+}
+
+fn count_start(count: &mut RunCount) {
+    count.starts = count.starts.saturating_add(1);
+    count.is_ordered_to_end = false;
+}
+
+fn count_end(count: &mut RunCount, how: Ended, second: u64) {
+    if is_failure(how, count.is_ordered_to_end) {
+        count.failures = count.failures.saturating_add(1);
+    }
+    match how {
+        Ended::Code(0) => count.succeeded = Some(second),
         _ => {}
     }
 }

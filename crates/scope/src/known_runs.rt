@@ -3,7 +3,7 @@
 ghost use Rattle.std.specs.Option.{option_map};
 ghost use Rattle.std.specs.Prelude.{◌≡◌, is_some};
 ghost use Rattle.status_page.specs.Failing.{is_refused_last, is_start_refused, last_end_in};
-ghost use Rattle.scope.specs.KnownFaults.{end_in, past_in};
+ghost use Rattle.scope.specs.KnownFaults.{end_in, past_in, recorded_end};
 
 use history_model::{Ended, Reading, StandingChild};
 use run_log::{RefusedStart, RunEnd, RunFacts};
@@ -51,28 +51,18 @@ pub(crate) struct KnownRuns<'a> {
 }
 
 impl<'a> KnownRuns<'a> {
-    /// By what a journal says: what is recorded of the load, and since when its child is running. `is_ordered`: TERM or KILL was ordered for its last
-    /// run. `is_lost`: the wait for its present one was refused.
+    /// By what a journal says: what is recorded of the load, and since when its child is running. `is_lost`: the wait for its present run was refused.
     pub(crate) fn recorded(
         facts: RunFacts<'a>,
         began: Option<Reading>,
-        is_ordered: bool,
         is_lost: bool,
     ) -> KnownRuns<'a>
-        ensures { is_some result.refused ≡ is_refused_last
+        ensures last { end_in result.last ≡ recorded_end facts.entry.last_end }
+        ensures refused { is_some result.refused ≡ is_refused_last
             (option_map (λ start. start.run) facts.entry.refused)
             (option_map (λ end. end.run) facts.entry.last_end)
             (is_some began) }
     {
-        let last = match facts.last_end {
-            Some(end) => Some(KnownEnd {
-                how: end.how,
-                is_ordered,
-                began: end.began,
-                ended: end.ended,
-            }),
-            None => None,
-        };
         KnownRuns {
             starts: facts.starts,
             started: facts.started,
@@ -80,7 +70,7 @@ impl<'a> KnownRuns<'a> {
             is_lost,
             term: facts.term,
             kill: facts.kill,
-            last,
+            last: end_recorded(facts.last_end),
             refused: last_refused(facts.refused, facts.last_end, began.is_some()),
         }
     }
@@ -179,6 +169,22 @@ fn last_refused<'a>(
     }
 }
 
+// The end that a journal has.
+fn end_recorded(end: Option<RunEnd>) -> Option<KnownEnd>
+    ensures { end_in result ≡ recorded_end end }
+{
+    match end {
+        Some(end) => Some(KnownEnd {
+            how: end.how,
+            is_ordered: end.ordered.unwrap_or(false),
+            began: end.began,
+            ended: end.ended,
+        }),
+        None => None,
+    }
+}
+
+// The end that the launcher's file has.
 fn end_noted(note: &JobNote<'_>) -> Option<KnownEnd>
     ensures { end_in result ≡ last_end_in note.now }
 {

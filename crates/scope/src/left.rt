@@ -6,11 +6,11 @@ ghost use Rattle.scope.specs.Left.{is_late, may_have_left};
 use crate::joined::line_with;
 use crate::journal::reader::OpenJournal;
 use crate::kept_journals::begun_of;
-use files_and_process::processes::{process_at, ticks_now};
+use files_and_process::processes::{add_pids, process_at, ticks_now};
 use files_and_process::run_names::LauncherId;
 use history_model::{Reading, Text};
 use launchctl_words::{ScopeCommand, ScopeTask};
-use leftovers::{RunProcess, run_processes};
+use leftovers::{RunProcess, run_processes_among};
 use status_file::{JobNote, JobStatus, JournalStatus};
 use status_page::{StatusRead, is_asked};
 use std::alloc::{AllocError, Global};
@@ -68,7 +68,7 @@ fn left_running(
     if !can_be_left(standing, journal, labels, begun_of(alloc, standing)?) {
         return Ok(Vec::new(alloc));
     }
-    let mut left = run_processes(host, alloc, launcher)?;
+    let mut left = processes_unknown(host, alloc, standing, launcher)?;
     left.retain(|process| is_asked(labels, process.label.as_str()));
     if left.is_empty() {
         return Ok(left);
@@ -83,6 +83,28 @@ fn left_running(
     }
     left.retain(|process| process.began < oldest);
     Ok(left)
+}
+
+// The processes of its runs but for those that the file has as processes of present runs: 1,000 jobs that run need no look. A process that took the PID of
+// one of these since is younger than the file, and so not looked for, if the launcher still writes the file.
+fn processes_unknown(
+    host: &HostRuntime,
+    alloc: Global,
+    standing: &StatusRead,
+    launcher: LauncherId,
+) -> Result<Vec<RunProcess>, AllocError> {
+    let mut known = Vec::new(alloc);
+    if standing.foretells() {
+        known.extend_from_slice(standing.pids())?;
+    }
+    known.sort()?;
+    let mut pids = Vec::new(alloc);
+    let _listed = add_pids(host, alloc, &mut pids);
+    pids.retain(|pid| known.binary_search(pid).is_err());
+    let found = run_processes_among(host, alloc, launcher, pids.as_slice());
+    drop(pids);
+    drop(known);
+    found
 }
 
 // Whether a run can have left something, of one of the labels; without labels of any.

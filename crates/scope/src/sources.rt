@@ -118,14 +118,14 @@ fn source_found(opens: bool, has_file: bool) -> Source
     }
 }
 
-/// Which sources answer the task. `why` at a time, and all of the coming starts, are asked of no status file.
+/// Which sources answer the task. `why` at a time is asked of no status file.
 pub(crate) fn answers_of(task: &ScopeTask) -> Answers
     ensures { result ≡ answers_in task.now }
 {
     match task {
         ScopeTask::Status | ScopeTask::Metrics => Answers::StatusFile,
         ScopeTask::Why(why) => either_unless(why.at.is_some()),
-        ScopeTask::Next(next) => either_unless(next.is_all),
+        ScopeTask::Next(_) => Answers::Either,
         ScopeTask::Check(_)
         | ScopeTask::Log(_)
         | ScopeTask::Runs(_)

@@ -68,7 +68,7 @@ pub(crate) struct JobView<'a> {
     pub(crate) start: StartWhen,
     /// When it is throttled no longer, if it is throttled at that clock reading.
     pub(crate) throttle: Option<ThrottleEnd>,
-    /// How many of its starts since its load were refused, or did not exit with code 0.
+    /// How many of its starts since its load were refused, or failed (`run_log::is_failure`).
     pub(crate) failures: u64,
     pub(crate) fault: Option<Fault>,
     /// The minute of its calendar that passed while no launcher ran.
@@ -83,9 +83,8 @@ pub(crate) struct JobView<'a> {
 /// What a journal has of a job that the status file lacks.
 #[derive(Clone, Copy)]
 pub(crate) struct JobPast<'a> {
+    /// Its last refused load only if that still matters.
     pub(crate) known: KnownLabel,
-    /// Whether its last refused load still matters.
-    pub(crate) is_refusal_told: bool,
     /// Whether it looks as if its program put itself in the background.
     pub(crate) is_in_background: bool,
     /// The keys of its definition that are ignored.
@@ -106,6 +105,8 @@ pub(crate) struct UnloadedView<'a> {
     /// When its job was removed, if it had one.
     pub(crate) gone: Option<Reading>,
     pub(crate) known: KnownLabel,
+    /// Which of its sockets could not be bound, and why, if its last load was refused for that. The status file says it.
+    pub(crate) unbound: Option<&'a str>,
     /// Whether the status file still has a job of this label.
     pub(crate) is_in_file: bool,
 }

@@ -185,7 +185,11 @@ fn is_unknown(of: &LauncherView<'_>, label: &str) -> bool {
     };
     let is_in_file = match of.present {
         Present::Journal(_, _, standing) => leaves_out(standing, label),
-        Present::File(standing, _, _) => standing.has(label) || standing.leaves_out(label),
+        Present::File(standing, _, _) => {
+            standing.has(label)
+                || standing.leaves_out(label)
+                || standing.refused_bind(label).is_some()
+        }
     };
     !is_in_journal && !is_in_file
 }

@@ -3,13 +3,12 @@ use Rattle.std.proofs.Common.{◌≡◌, ◌++◌, ◌∷◌, [], ◌∙◌, ◌
 use Rattle.std.proofs.lemmas.List.{take_more, append_assoc, map-append}
 use Rattle.std.proofs.lemmas.Grind.{flat_map-append}
 use Rattle.std.specs.List.{flat_map}
-use Rattle.history_model.specs.declared.Entry.{Entry}
 use Rattle.json.specs.Print.{print}
 use Rattle.json.specs.Token.{Token}
 use Rattle.status_file.specs.declared.line.LineWriter.{LineWriter}
 use Rattle.status_file.specs.declared.line.Piece.{Piece}
 use Rattle.status_file.specs.declared.line.StatusText.{StatusText}
-use Rattle.status_file.specs.Tokens.{entry_tokens, token_in, tokens_in}
+use Rattle.status_file.specs.Tokens.{token_in, tokens_in}
 use Rattle.status_file.specs.Lines.{Adds, Puts, line_of}
 
 pub nothing : (line : LineWriter) → Puts [] line line
@@ -38,17 +37,16 @@ one_more ps at other x y z is_there first second =
     ap tokens_in (take_more ps at other is_there) ∙ map-append token_in (take at ps) (get_or ps at other ∷ []) in
     subst (λ ts. Puts ts x z) (sym more) (followed (tokens_in (take at ps)) (token_in (get_or ps at other) ∷ []) x y z first second)
 
--- so of the entries of a calendar
-pub one_entry_more : (es : List Entry) (at : ℕ) (other : Entry) (x y z : LineWriter) → at < length es →
-    Puts (flat_map entry_tokens (take at es)) x y → Puts (entry_tokens (get_or es at other)) y z →
-    Puts (flat_map entry_tokens (take (at + 1) es)) x z
-one_entry_more es at other x y z is_there first second =
+-- so of the items of a list, each of which has these tokens
+pub one_item_more : {A : Type 0} (f : A → List Token) (es : List A) (at : ℕ) (other : A) (x y z : LineWriter) → at < length es →
+    Puts (flat_map f (take at es)) x y → Puts (f (get_or es at other)) y z → Puts (flat_map f (take (at + 1) es)) x z
+one_item_more f es at other x y z is_there first second =
     let entry = get_or es at other in
-    let front = flat_map entry_tokens (take at es) in
-    let more : flat_map entry_tokens (take (at + 1) es) ≡ front ++ entry_tokens entry =
-    ap (flat_map entry_tokens) (take_more es at other is_there) ∙ flat_map-append entry_tokens (take at es) (entry ∷ [])
-    ∙ ap (λ last. front ++ last) (append-nil (entry_tokens entry)) in
-    subst (λ ts. Puts ts x z) (sym more) (followed front (entry_tokens entry) x y z first second)
+    let front = flat_map f (take at es) in
+    let more : flat_map f (take (at + 1) es) ≡ front ++ f entry =
+    ap (flat_map f) (take_more es at other is_there) ∙ flat_map-append f (take at es) (entry ∷ [])
+    ∙ ap (λ last. front ++ last) (append-nil (f entry)) in
+    subst (λ ts. Puts ts x z) (sym more) (followed front (f entry) x y z first second)
 
 -- a line that was begun after a text, and ended with these tokens
 pub ended : (ts : List Token) (old new : StatusText) (x y : LineWriter) →

@@ -21,7 +21,7 @@ use Rattle.serde_json.specs.Data.{Data, Items, no_items, item}
 use Rattle.serde_json.specs.Find.{as_bool, as_number, as_str, as_u64, at}
 use Rattle.serde_json.specs.View.{items_of}
 use Rattle.status_file.specs.Jobs.{JobLine}
-use Rattle.status_file.specs.Readings.{CalendarAt, ChildAt, CountOr0, DemandAt, DisabledAt, EndAt, EndedAt, EntryAt, FactsAt, JobAt, KeysAt, MomentsAt, NoteAt, OrderAt, OrderOf, PartAt, PathsAt, ReasonsAt, RefusedAt, WantsAt}
+use Rattle.status_file.specs.Readings.{CalendarAt, ChildAt, CountOr0, DemandAt, DisabledAt, EndAt, EndedAt, EntryAt, FactsAt, JobAt, KeysAt, LaterFlag, MomentsAt, NoteAt, OrderAt, OrderOf, PartAt, PathsAt, ReasonsAt, RefusedAt, WantsAt}
 use Rattle.status_file.specs.Reads.{CountIf, FlagIf, IsReading, NullOr, TextIf, count_at, value_at}
 use Rattle.status_file.specs.RoundTrip.{SameFacts, SameJob, SameKeys, SameNote, SamePaths, SameRefusal, bytes_of}
 use Rattle.status_file.specs.Tokens.{demand_text, disabled_text, order_text}
@@ -215,6 +215,10 @@ end_run : (a : RunEnd) (how : Ended) (b : ℕ) → count_at (codes "run") (Some 
 end_run a (Code x) b read = same a.run b read
 end_run a (Signal x) b read = same a.run b read
 
+end_ordered : (a : RunEnd) (how : Ended) (b : Option Bool) → LaterFlag (codes "ordered") (Some (sorted (end_or_null (Some (record a { how = how }))))) b → b ≡ a.ordered
+end_ordered a (Code x) b read = flag_same (codes "ordered") (Some (sorted (end_or_null (Some (record a { how = Code x }))))) a.ordered b refl read
+end_ordered a (Signal x) b read = flag_same (codes "ordered") (Some (sorted (end_or_null (Some (record a { how = Signal x }))))) a.ordered b refl read
+
 end_began : (a : RunEnd) (how : Ended) (b : Reading) → IsReading (value_at (codes "began") (Some (sorted (end_or_null (Some (record a { how = how })))))) b → b ≡ a.began
 end_began a (Code x) b read = reading_is a.began b read
 end_began a (Signal x) b read = reading_is a.began b read
@@ -230,6 +234,7 @@ end_same (Some a) None read = absurd (cc)
 end_same (Some a) (Some b) read = ap Some (λ i. record {
   run = end_run a a.how b.run read.run i;
   how = ended_same a a.how b.how read.how i;
+  ordered = end_ordered a a.how b.ordered read.ordered i;
   began = end_began a a.how b.began read.began i;
   ended = end_ended a a.how b.ended read.ended i;
 })

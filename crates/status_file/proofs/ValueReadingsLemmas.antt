@@ -109,8 +109,20 @@ end_at : (o : Option RunEnd) → NullOr EndAt (Some (sorted (end_or_null o))) o
 end_at None = refl
 end_at (Some end) = ended end.how where
   ended : (how : Ended) → EndAt (Some (sorted (end_or_null (Some (record end { how = how }))))) (record end { how = how })
-  ended (Code code) = record { run = refl; how = refl; began = (refl, refl); ended = (refl, refl) }
-  ended (Signal signal) = record { run = refl; how = (refl, refl); began = (refl, refl); ended = (refl, refl) }
+  ended (Code code) = record {
+    run = refl;
+    how = refl;
+    ordered = flag_if (codes "ordered") (Some (sorted (end_or_null (Some (record end { how = Code code }))))) end.ordered refl;
+    began = (refl, refl);
+    ended = (refl, refl);
+  }
+  ended (Signal signal) = record {
+    run = refl;
+    how = (refl, refl);
+    ordered = flag_if (codes "ordered") (Some (sorted (end_or_null (Some (record end { how = Signal signal }))))) end.ordered refl;
+    began = (refl, refl);
+    ended = (refl, refl);
+  }
 
 refused_at : (o : Option RefusedStart) → NullOr RefusedAt (Some (sorted (refused_or_null o))) o
 refused_at None = refl
@@ -226,7 +238,7 @@ awaited_deep (Some act) = omega (arith, count_deep 1 (order_run act), count_deep
 
 end_deep : (o : Option RunEnd) → depth (end_or_null o) ≤ 3
 end_deep None = omega arith
-end_deep (Some end) = omega arith
+end_deep (Some end) = omega (arith, flag_deep 2 end.ordered)
 
 refused_deep : (o : Option RefusedStart) → depth (refused_or_null o) ≤ 3
 refused_deep None = omega arith

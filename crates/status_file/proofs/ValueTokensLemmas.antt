@@ -84,7 +84,7 @@ awaited_said (Some act) rest = rw (count_said (order_run act), count_said (order
 
 end_said : (o : Option RunEnd) (rest : List Token) → key (codes "last_end") ∷ (said (end_or_null o) ++ rest) ≡ end_tokens o ++ rest
 end_said None rest = refl
-end_said (Some end) rest = refl
+end_said (Some end) rest = rw (flag_said end.ordered) refl
 
 refused_said : (o : Option RefusedStart) (rest : List Token) → key (codes "refused") ∷ (said (refused_or_null o) ++ rest) ≡ refused_tokens o ++ rest
 refused_said None rest = refl

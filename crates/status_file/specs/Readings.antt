@@ -21,6 +21,7 @@ use Rattle.serde_json.specs.View.{items_of}
 use Rattle.status_file.specs.Reads.{CountIf, FlagIf, IsReading, Lacks, NullOr, TextIf, count_at, flag_at, items_at, text_at, value_at}
 use Rattle.status_file.specs.Tokens.{demand_text, disabled_text, order_text}
 use Rattle.status_file.specs.declared.facts.JobFacts.{JobFacts}
+use Rattle.status_file.specs.declared.status.BindStatus.{BindStatus}
 use Rattle.status_file.specs.declared.status.DisabledBy.{DisabledBy}
 use Rattle.status_file.specs.declared.status.JobKeys.{JobKeys}
 use Rattle.status_file.specs.declared.status.JobNote.{JobNote}
@@ -61,6 +62,12 @@ pub record LauncherAt (object : Option Data) (launcher : LauncherStatus) : Type 
   pub failed_calls : LaterCount (codes "failed_calls") object launcher.failed_calls
   pub is_shutting_down : LaterFlag (codes "shutting_down") object launcher.is_shutting_down
   pub jobs : count_at (codes "jobs") object ≡ Some launcher.jobs
+
+-- a load that was refused, since a socket could not be bound
+pub record BindAt (object : Option Data) (bind : BindStatus) : Type 0 where
+  pub label : text_at (codes "label") object ≡ Some bind.label.now
+  pub reason : text_at (codes "reason") object ≡ Some bind.reason.now
+  pub at : IsReading (value_at (codes "at") object) bind.at
 
 -- ---- what the table says of a job
 
@@ -152,6 +159,7 @@ EndedAt object (Signal signal) = (value_at (codes "code") object ≡ None) × (c
 pub record EndAt (object : Option Data) (end : RunEnd) : Type 0 where
   pub run : count_at (codes "run") object ≡ Some end.run
   pub how : EndedAt object end.how
+  pub ordered : LaterFlag (codes "ordered") object end.ordered
   pub began : IsReading (value_at (codes "began") object) end.began
   pub ended : IsReading (value_at (codes "ended") object) end.ended
 

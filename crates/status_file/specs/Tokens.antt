@@ -21,6 +21,7 @@ use Rattle.status_file.specs.States.{state_by_reasons}
 use Rattle.status_file.specs.declared.facts.JobFacts.{JobFacts}
 use Rattle.status_file.specs.declared.line.Piece.{Piece}
 use Rattle.status_file.specs.declared.line.Piece.TheVariants as pieces
+use Rattle.status_file.specs.declared.status.BindStatus.{BindStatus}
 use Rattle.status_file.specs.declared.status.DisabledBy.{DisabledBy}
 use Rattle.status_file.specs.declared.status.DisabledBy.TheVariants.{Definition, Override}
 use Rattle.status_file.specs.declared.status.JobKeys.{JobKeys}
@@ -131,9 +132,23 @@ tallies_tokens l =
     ∷ key (codes "jobs") ∷ number (decimal l.jobs)
     ∷ end_object ∷ end_object ∷ []
 
-abbrev pub launcher_tokens : LauncherStatus → List Token
-launcher_tokens l =
-    process_tokens l ++ (moment_tokens (codes "at") (Some l.at) ++ (journal_tokens l.journal ++ tallies_tokens l))
+-- a load that was refused, since a socket could not be bound
+abbrev pub bind_front_tokens : BindStatus → List Token
+bind_front_tokens b =
+    begin_object ∷ key (codes "label") ∷ string b.label.now ∷ key (codes "reason") ∷ string b.reason.now ∷ []
+
+abbrev pub bind_tokens : BindStatus → List Token
+bind_tokens b = bind_front_tokens b ++ (moment_tokens (codes "at") (Some b.at) ++ end_object ∷ [])
+
+-- all of them
+abbrev pub binds_tokens : List BindStatus → List Token
+binds_tokens binds =
+    (key (codes "refused_binds") ∷ begin_array ∷ []) ++ (flat_map bind_tokens binds ++ end_array ∷ [])
+
+abbrev pub launcher_tokens : LauncherStatus → List BindStatus → List Token
+launcher_tokens l binds =
+    process_tokens l ++ (moment_tokens (codes "at") (Some l.at)
+    ++ (journal_tokens l.journal ++ (binds_tokens binds ++ tallies_tokens l)))
 
 -- ---- what the table says
 
@@ -260,7 +275,8 @@ abbrev pub end_front_tokens : RunEnd → List Token
 end_front_tokens end =
     key (codes "last_end") ∷ begin_object
     ∷ key (codes "run") ∷ number (decimal end.run)
-    ∷ key (end_key end.how) ∷ number (decimal (end_number end.how)) ∷ []
+    ∷ key (end_key end.how) ∷ number (decimal (end_number end.how))
+    ∷ key (codes "ordered") ∷ flag_token end.ordered ∷ []
 
 abbrev pub run_end_tokens : RunEnd → List Token
 run_end_tokens end =

@@ -119,6 +119,7 @@ end_or_null None = null
 end_or_null (Some end) =
     object_with ((codes "run", count_value end.run)
     ∷ (end_key end.how, count_value (end_number end.how))
+    ∷ (codes "ordered", flag_or_null end.ordered)
     ∷ (codes "began", reading_value end.began)
     ∷ (codes "ended", reading_value end.ended) ∷ [])
 

@@ -38,7 +38,7 @@ impl<'a> Fields<'a> {
     }
 
     // The value of the key. A key that is absent is a fault.
-    fn found(&mut self, key: &'static str) -> Option<&'a Value>
+    pub(crate) fn found(&mut self, key: &'static str) -> Option<&'a Value>
         ensures object { self.new.object ≡ self.old.object }
         ensures kept { self.new.fault ≡ None → self.old.fault ≡ None }
         ensures value { option_map (λ v. view v.now) result ≡ value_at key.now (object_of self.old) }

@@ -14,20 +14,23 @@ pub mod laws;
 mod line;
 mod names;
 mod read;
+mod refused_binds;
 mod run_notes;
 mod settings_made;
 mod status;
 mod write;
 
 pub use facts::{JobFacts, facts_of};
-pub use front::LineRoom;
+pub use front::{LineFront, LineRoom};
 pub use jobs::{add_jobs, job_count};
 pub use line::StatusText;
 pub use names::state_name;
 pub use read::{StatusFault, StatusLine, read_line};
+pub use refused_binds::{MOST_BINDS, RefusedBinds};
 pub use run_log::{RefusedStart, RunEnd};
 pub use run_notes::RunNotes;
 pub use status::{
-    DisabledBy, JobKeys, JobNote, JobStatus, JournalStatus, KeyPaths, LauncherStatus, state_of,
+    BindStatus, DisabledBy, JobKeys, JobNote, JobStatus, JournalStatus, KeyPaths, LauncherStatus,
+    state_of,
 };
 pub use write::add_launcher;

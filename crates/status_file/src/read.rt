@@ -1,13 +1,13 @@
 //! The lines of a file, read.
 
-ghost use Rattle.std.specs.Prelude.{◌≡◌, ◌∷◌, ◌++◌, [], map, Some, None, IfErr, IfOk, IfSome, OnOk, codes};
+ghost use Rattle.std.specs.Prelude.{◌≡◌, ◌∷◌, ◌++◌, [], map, Some, None, IfErr, IfOk, IfSome, OnOk, codes, option_and_then};
 ghost use Rattle.std.specs.List.{AllZip};
 ghost use Rattle.history_model.specs.declared.Entry.{Entry};
 ghost use Rattle.json_kinds.specs.Json.{json_in};
 ghost use Rattle.serde_json.specs.Find.{at};
 ghost use Rattle.serde_json.specs.View.{view};
 ghost use Rattle.status_file.specs.Reads.{IsReading, NullOr, object_of, value_at};
-ghost use Rattle.status_file.specs.Readings.{CalendarAt, ChildAt, ConditionsAt, DemandAt, DisabledAt, EndAt, EntryAt, FactsAt, HasRun, JobAt, JournalAt, KeysAt, LaterCount, LaterFlag, LaterReading, LaterText, LauncherAt, NoteAt, OrderAt, PaceAt, PartAt, PathsAt, ReadingIf, ReasonsAt, RefusedAt, WantsAt};
+ghost use Rattle.status_file.specs.Readings.{BindAt, CalendarAt, ChildAt, ConditionsAt, DemandAt, DisabledAt, EndAt, EntryAt, FactsAt, HasRun, JobAt, JournalAt, KeysAt, LaterCount, LaterFlag, LaterReading, LaterText, LauncherAt, NoteAt, OrderAt, PaceAt, PartAt, PathsAt, ReadingIf, ReasonsAt, RefusedAt, WantsAt};
 ghost use Rattle.status_file.specs.Tokens.{order_text};
 ghost use Rattle.status_file.specs.declared.read.StatusFault.TheVariants.{NotJson};
 
@@ -15,8 +15,8 @@ use crate::facts::JobFacts;
 use crate::fields::Fields;
 use crate::names::{DEMANDS, demand_name, disabled_name, order_name};
 use crate::status::{
-    DisabledBy, JobKeys, JobNote, JobStatus, JournalStatus, KeyPaths, LauncherStatus, RefusedStart,
-    RunEnd,
+    BindStatus, DisabledBy, JobKeys, JobNote, JobStatus, JournalStatus, KeyPaths, LauncherStatus,
+    RefusedStart, RunEnd,
 };
 use history_model::{Act, DemandKind, Ended, Entry, Reading, Reasons, StandingChild, Wants};
 use job_table::Moments;
@@ -82,6 +82,23 @@ impl StatusLine {
         }
     }
 
+    /// The load at this place among those of the launcher's line that were refused, since a socket could not be bound. None: there is none. Wrong, with the
+    /// key, if it does not say all.
+    pub fn refused_bind(&self, place: usize) -> Result<Option<BindStatus<'_>>, StatusFault>
+        ensures { IfOk result (λ found. IfSome found (λ bind.
+            BindAt (option_and_then (at place) (value_at (codes "refused_binds") (value_at (codes "launcher") (Some (view self.now.value))))) bind)) }
+    {
+        let mut line = Fields::of(&self.value);
+        let mut fields = line.inside("launcher");
+        let Some(list) = fields.found("refused_binds") else {
+            return Ok(None);
+        };
+        match list.get(place) {
+            Some(item) => bind_in(item),
+            None => Ok(None),
+        }
+    }
+
     /// What a line says of a job. Missing and Wrong, with the key of the first fault.
     pub fn job(&self) -> Result<JobStatus<'_>, StatusFault>
         ensures { IfOk result (λ job.
@@ -115,6 +132,21 @@ impl StatusLine {
             (Some(fault), _) => Err(fault),
             (None, None) => Err(StatusFault::Missing("calendar")),
         }
+    }
+}
+
+fn bind_in<'a>(item: &'a Value) -> Result<Option<BindStatus<'a>>, StatusFault>
+    ensures { IfOk result (λ found. IfSome found (λ bind. BindAt (Some (view item.now)) bind)) }
+{
+    let mut fields = Fields::of(item);
+    let bind = BindStatus {
+        label: fields.text("label"),
+        reason: fields.text("reason"),
+        at: reading_in(&mut fields, "at"),
+    };
+    match fields.fault {
+        Some(fault) => Err(fault),
+        None => Ok(Some(bind)),
     }
 }
 
@@ -351,6 +383,7 @@ fn end_in(fields: &mut Fields<'_>) -> Option<RunEnd>
         } else {
             Ended::Signal(short)
         },
+        ordered: later_flag(&mut end, "ordered"),
         began: reading_in(&mut end, "began"),
         ended: reading_in(&mut end, "ended"),
     };

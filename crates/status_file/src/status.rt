@@ -48,6 +48,15 @@ pub struct LauncherStatus<'a> {
     pub jobs: u64,
 }
 
+/// A load that was refused, since a socket could not be bound.
+#[derive(Clone, Copy)]
+pub struct BindStatus<'a> {
+    pub label: &'a str,
+    /// What could not be done, with the system's reason.
+    pub reason: &'a str,
+    pub at: Reading,
+}
+
 /// By what a label is disabled.
 #[derive(Clone, Copy)]
 pub enum DisabledBy {
@@ -66,7 +75,8 @@ pub struct JobNote<'a> {
     pub run: u64,
     /// How many starts were ordered, refused ones too.
     pub starts: u64,
-    /// How many starts were refused, and how many runs did not exit with code 0, together: the file's `failures`.
+    /// How many starts were refused, and how many runs failed, together: the file's `failures`. A launcher of version 0.3.0 counts each run that did not exit
+    /// with code 0.
     pub unsuccessful: u64,
     /// How many starts were refused.
     pub refusals: u64,

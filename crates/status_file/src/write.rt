@@ -4,15 +4,15 @@ ghost use Rattle.std.specs.Prelude.{◌≡◌, ◌++◌, ◌∷◌, [], decimal}
 ghost use Rattle.json.specs.Token.{number};
 ghost use Rattle.std.specs.List.{flat_map};
 ghost use Rattle.status_file.specs.Lines.{Adds, Puts};
-ghost use Rattle.status_file.specs.Tokens.{awaited_tokens, calendar_tokens, child_pid, child_tokens, conditions_tokens, count_token, counts_tokens, demand_token, disabled_token, loaded_tokens, end_front_tokens, end_key, end_number, end_tokens, entry_tokens, front_tokens, held_tokens, job_tokens, journal_tokens, keys_tokens, launcher_tokens, limits_tokens, moment_tokens, moments_tokens, name_tokens, note_tokens, order_conn, order_run, others_tokens, process_tokens, reasons_tokens, refused_tokens, run_end_tokens, start_front_tokens, start_tokens, tallies_tokens, times_tokens, token_in, wanted_tokens, wants_tokens};
+ghost use Rattle.status_file.specs.Tokens.{awaited_tokens, bind_front_tokens, bind_tokens, binds_tokens, calendar_tokens, child_pid, child_tokens, conditions_tokens, count_token, counts_tokens, demand_token, disabled_token, loaded_tokens, end_front_tokens, end_key, end_number, end_tokens, entry_tokens, front_tokens, held_tokens, job_tokens, journal_tokens, keys_tokens, launcher_tokens, limits_tokens, moment_tokens, moments_tokens, name_tokens, note_tokens, order_conn, order_run, others_tokens, process_tokens, reasons_tokens, refused_tokens, run_end_tokens, start_front_tokens, start_tokens, tallies_tokens, times_tokens, token_in, wanted_tokens, wants_tokens};
 
 use crate::facts::JobFacts;
 use crate::line::Piece::{Close, CloseList, Count, Flag, Key, Null, Open, OpenList, Text};
 use crate::line::{LineWriter, Piece, StatusText, count_piece, flag_piece, text_piece};
 use crate::names::{demand_name, disabled_name, order_name, state_name};
 use crate::status::{
-    DisabledBy, JobKeys, JobNote, JobStatus, JournalStatus, LauncherStatus, RefusedStart, RunEnd,
-    state_of,
+    BindStatus, DisabledBy, JobKeys, JobNote, JobStatus, JournalStatus, LauncherStatus,
+    RefusedStart, RunEnd, state_of,
 };
 use history_model::{
     Act, DemandKind, Ended, Entry, JobState, Reading, Reasons, StandingChild, Wants,
@@ -20,14 +20,20 @@ use history_model::{
 use job_table::Moments;
 use std::alloc::Global;
 
-/// Adds the launcher's line, which is the first of a file.
-pub fn add_launcher(text: &mut StatusText, alloc: Global, launcher: &LauncherStatus<'_>)
-    ensures { Adds (launcher_tokens launcher.now) text.old text.new }
+/// Adds the launcher's line, which is the first of a file, with the loads that were refused since a socket could not be bound.
+pub fn add_launcher(
+    text: &mut StatusText,
+    alloc: Global,
+    launcher: &LauncherStatus<'_>,
+    binds: &[BindStatus<'_>],
+)
+    ensures { Adds (launcher_tokens launcher.now binds.now) text.old text.new }
 {
     let mut line = text.begin(alloc);
     put_process(&mut line, *launcher);
     put_moment(&mut line, "at", Some(launcher.at));
     put_journal(&mut line, launcher.journal);
+    put_binds(&mut line, binds);
     put_tallies(&mut line, *launcher);
     text.end(line);
 }
@@ -73,6 +79,42 @@ fn put_journal(line: &mut LineWriter, journal: JournalStatus<'_>)
             Text(reason),
         ]),
     }
+}
+
+fn put_binds(line: &mut LineWriter, binds: &[BindStatus<'_>])
+    ensures { Puts (binds_tokens binds.now) line.old line.new }
+{
+    line.put(&[Key("refused_binds"), OpenList]);
+    put_each_bind(line, binds);
+    line.put(&[CloseList]);
+}
+
+fn put_each_bind(line: &mut LineWriter, binds: &[BindStatus<'_>])
+    ensures { Puts (flat_map bind_tokens binds.now) line.old line.new }
+{
+    for bind in binds {
+        put_bind(line, *bind);
+    }
+}
+
+fn put_bind(line: &mut LineWriter, bind: BindStatus<'_>)
+    ensures { Puts (bind_tokens bind.entry) line.old line.new }
+{
+    put_bind_front(line, bind);
+    put_moment(line, "at", Some(bind.at));
+    line.put(&[Close]);
+}
+
+fn put_bind_front(line: &mut LineWriter, bind: BindStatus<'_>)
+    ensures { Puts (bind_front_tokens bind.entry) line.old line.new }
+{
+    line.put(&[
+        Open,
+        Key("label"),
+        Text(bind.label),
+        Key("reason"),
+        Text(bind.reason),
+    ]);
 }
 
 // What the store refused last, and the counts.
@@ -253,6 +295,8 @@ fn put_end_front(line: &mut LineWriter, end: RunEnd)
         Count(end.run),
         Key(kind),
         Count(number),
+        Key("ordered"),
+        flag_piece(end.ordered),
     ]);
 }
 

@@ -1,7 +1,8 @@
 -- Worked rows of which runs failed, and of how long a failure lasts.
 use Rattle.std.proofs.Common.{◌≡◌, true, false, refl, Some}
 use Rattle.history_model.specs.declared.Ended.TheVariants.{Code, Signal}
-use Rattle.status_page.specs.Failing.{has_recovered, is_failure, is_refused_last, recovery_time}
+use Rattle.run_log.specs.Search.{is_failure}
+use Rattle.status_page.specs.Failing.{has_recovered, is_refused_last, recovery_time}
 
 -- A run that exited with code 1 failed. One that the launcher ended did not. A KILL of the kernel is a failure, and so is a crash after TERM was ordered.
 failed : is_failure false (Code 1) ≡ true

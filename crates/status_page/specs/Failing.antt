@@ -1,11 +1,11 @@
 -- Which runs failed, and which jobs are failing now.
 use Rattle.std.specs.Option.{option_map}
-use Rattle.std.specs.Prelude.{◌≡◌, ◌==◌, ◌-◌, ◌*◌, ℕ, Bool, true, false, ◌||◌, ◌&&◌, not, nat_lt, nat_le, max, Option, Some, None, is_some}
-use Rattle.history_model.specs.declared.Ended.{Ended}
-use Rattle.history_model.specs.declared.Ended.TheVariants as ends
+use Rattle.std.specs.Prelude.{◌≡◌, ◌==◌, ◌-◌, ◌*◌, ℕ, Bool, true, false, ◌||◌, ◌&&◌, not, nat_lt, nat_le, max, Option, Some, None, is_some, unwrap_or}
 use Rattle.history_model.specs.declared.reasons.Reasons.{Reasons}
 use Rattle.history_model.specs.declared.TheConstants.{SECOND}
 use Rattle.history_model.specs.Reasons.{some_want}
+use Rattle.run_log.specs.Search.{is_failure}
+use Rattle.run_log.specs.declared.facts.RunEnd.{RunEnd}
 use Rattle.status_file.specs.declared.status.JobNote.{JobNote}
 use Rattle.status_page.specs.declared.failing.Fault.{Fault}
 use Rattle.status_page.specs.declared.failing.Fault.TheVariants as faults
@@ -13,23 +13,16 @@ use Rattle.status_page.specs.declared.failing.LastEnd.{LastEnd}
 use Rattle.status_page.specs.declared.failing.PastRuns.{PastRuns}
 use Rattle.status_page.specs.declared.failing.TheConstants.{MINUTE, THROTTLES}
 
--- How the last run of a job ended, by what its launcher knows of it. The end counts as ordered if a later start followed
--- it, or if TERM or KILL was ordered.
+-- Whether the end of the last run was ordered. A launcher of version 0.3.0 does not say it: then it counts as ordered if a later start
+-- followed it, or if TERM or KILL was ordered.
+abbrev pub was_ordered : JobNote → RunEnd → Bool
+was_ordered note end = unwrap_or end.ordered (not (end.run == note.run) || is_some note.term || is_some note.kill)
+
+-- how the last run of a job ended, by what its launcher knows of it
 abbrev pub last_end_in : JobNote → Option LastEnd
-last_end_in note =
-    option_map (λ end. record { how = end.how; is_ordered = not (end.run == note.run) || is_some note.term || is_some note.kill })
-    note.last_end
+last_end_in note = option_map (λ end. record { how = end.how; is_ordered = was_ordered note end }) note.last_end
 
 -- ---- which runs failed
-
--- the launcher gave this signal: TERM (15) or KILL (9), or an unknown one (0), to a run that it ordered to end
-abbrev pub is_given : Bool → ℕ → Bool
-is_given ordered signal = ordered && (signal == 0 || (signal == 9 || signal == 15))
-
--- a run failed: it exited with a code above 0, or by a signal that the launcher did not give
-abbrev pub is_failure : Bool → Ended → Bool
-is_failure ordered (ends.Code code) = nat_lt 0 code
-is_failure ordered (ends.Signal signal) = not (is_given ordered signal)
 
 abbrev pub has_failed : Option LastEnd → Bool
 has_failed None = false

@@ -8,12 +8,14 @@ use std::collections::BTreeMap;
 pub struct RunCount {
     /// Starts that were ordered, refused ones too.
     pub starts: u64,
-    /// Runs that did not exit with code 0.
+    /// Runs that failed (`run_log::is_failure`).
     pub failures: u64,
     /// Starts that the system refused.
     pub refusals: u64,
     /// When a run last exited with code 0, in seconds of Unix time.
     pub succeeded: Option<u64>,
+    /// Whether TERM or KILL was ordered since the last start.
+    pub is_ordered_to_end: bool,
 }
 
 /// Of a label without a start.
@@ -22,6 +24,7 @@ const NOTHING: RunCount = RunCount {
     failures: 0,
     refusals: 0,
     succeeded: None,
+    is_ordered_to_end: false,
 };
 
 /// The counts of some labels from a second on.

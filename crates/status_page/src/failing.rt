@@ -3,10 +3,11 @@
 
 ghost use Rattle.std.specs.Prelude.{◌≡◌, ◌-◌, is_some, nat_le, IfSome};
 ghost use Rattle.history_model.specs.Levels.{is_crash_end};
-ghost use Rattle.status_page.specs.Failing.{does_not_run, has_failed, has_recovered, is_failing, is_failure, is_given, is_late, is_refused_last, is_start_refused, last_end_in, recovery_time, should_run, FaultHolds};
+ghost use Rattle.status_page.specs.Failing.{does_not_run, has_failed, has_recovered, is_failing, is_late, is_refused_last, is_start_refused, last_end_in, recovery_time, should_run, was_ordered, FaultHolds};
 
 use crate::clocks::is_wanted;
 use history_model::{Ended, Reading, Reasons, SECOND};
+use run_log::{RunEnd, is_failure};
 use run_times::Filling::{Number, Text, Time};
 use run_times::Page;
 use status_file::JobNote;
@@ -17,8 +18,7 @@ pub const MINUTE: u64 = 60_000;
 /// How many throttles a job has to run at least until a failure is over.
 pub const THROTTLES: u64 = 10;
 
-/// How the last run of a job ended, and whether its end had been ordered, as far as that is known. If another run came after it, its end counts as
-/// ordered.
+/// How the last run of a job ended, and whether its end had been ordered.
 #[derive(Clone, Copy)]
 pub struct LastEnd {
     pub how: Ended,
@@ -63,24 +63,6 @@ pub fn is_crash(how: Ended, is_ordered_to_end: bool) -> bool
         Ended::Signal(0) => !is_ordered_to_end,
         Ended::Signal(_) => false,
     }
-}
-
-/// Whether a run failed: it exited with a code above 0, or by a signal that the launcher did not give. The launcher gives TERM and KILL, if it ordered
-/// the run to end.
-pub fn is_failure(how: Ended, is_ordered_to_end: bool) -> bool
-    ensures { result ≡ is_failure is_ordered_to_end how }
-{
-    match how {
-        Ended::Code(code) => code > 0,
-        Ended::Signal(signal) => !is_given(is_ordered_to_end, signal),
-    }
-}
-
-// Whether the launcher gave the signal. One that is not known counts as given to a run that was ordered to end.
-fn is_given(is_ordered_to_end: bool, signal: u8) -> bool
-    ensures { result ≡ is_given is_ordered_to_end signal }
-{
-    is_ordered_to_end && (signal == 0 || signal == 9 || signal == 15)
 }
 
 /// Whether the last run failed.
@@ -189,17 +171,25 @@ pub fn is_start_refused(note: &JobNote<'_>, is_running: bool) -> bool
     is_refused_last(refused, ended, is_running)
 }
 
-/// How the last run of a job ended, by what its launcher knows of it. The end counts as ordered if a later start followed it, or if TERM or
-/// KILL was ordered. None if no run of it ended.
+/// How the last run of a job ended, by what its launcher knows of it. None if no run of it ended.
 pub fn last_end_of(note: &JobNote<'_>) -> Option<LastEnd>
     ensures { result ≡ last_end_in note.now }
 {
     let end = note.last_end?;
-    let is_present = end.run == note.run;
     Some(LastEnd {
         how: end.how,
-        is_ordered: !is_present || note.term.is_some() || note.kill.is_some(),
+        is_ordered: was_ordered(note, end),
     })
+}
+
+// Whether its end was ordered. If the file does not say it, it counts as ordered if a later start followed it, or if TERM or KILL was ordered.
+fn was_ordered(note: &JobNote<'_>, end: RunEnd) -> bool
+    ensures { result ≡ was_ordered note.now end }
+{
+    match end.ordered {
+        Some(is_ordered) => is_ordered,
+        None => end.run != note.run || note.term.is_some() || note.kill.is_some(),
+    }
 }
 
 /// A job that is reported as failing.

@@ -27,8 +27,8 @@ pub use clocks::{
 };
 pub use counts::{RunCount, RunCounts};
 pub use failing::{
-    Failing, Fault, LastEnd, PastRuns, add_failing, fault_of, is_crash, is_failure,
-    is_refused_last, is_start_refused, last_end_of,
+    Failing, Fault, LastEnd, PastRuns, add_failing, fault_of, is_crash, is_refused_last,
+    is_start_refused, last_end_of,
 };
 pub use head::{ENDING, add_head};
 pub use left_out::{add_left_out, is_told};

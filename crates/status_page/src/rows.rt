@@ -43,7 +43,7 @@ pub struct StatusRow<'a> {
     pub since: u64,
     pub last: Option<Ended>,
     pub starts: u64,
-    /// How many of its runs did not exit with code 0.
+    /// How many of its runs failed.
     pub failures: u64,
     /// How many of its starts were refused.
     pub refusals: u64,

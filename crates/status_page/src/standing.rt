@@ -1,7 +1,7 @@
 //! A status file that is read whole: where it is, its lines, and what is seen of its launcher.
 
 ghost use Rattle.std.specs.Prelude.{◌≡◌, false, IfOk, IfSome};
-ghost use Rattle.status_file.specs.Fronts.{IsLineOf};
+ghost use Rattle.status_file.specs.Fronts.{IsLineOf, IsProcessOf};
 ghost use Rattle.status_page.specs.Rows.{is_asked};
 
 use crate::boot::{Boot, LeftOut, boot_of};
@@ -14,7 +14,10 @@ use history_model::Text;
 use launcher_life::{LauncherSeen, StatusFileAsked, file_life, foretells, mark_of, may_live};
 use run_times::telling::{tell_line, tell_of};
 use run_times::{TextWriter, utc};
-use status_file::{LauncherStatus, LineRoom, StatusFault, StatusLine, read_line};
+use status_file::{
+    BindStatus, JobStatus, LauncherStatus, LineFront, LineRoom, MOST_BINDS, StatusFault,
+    StatusLine, read_line,
+};
 use std::alloc::{AllocError, Global};
 use std::env::VarError;
 use std::fs::metadata;
@@ -49,6 +52,8 @@ struct Lines {
     read: Vec<StatusLine>,
     // The labels of all its jobs, if some are asked for by their labels.
     labels: Vec<Text>,
+    // The processes of the present runs of its jobs, as the file has them.
+    pids: Vec<u32>,
     // How many there are.
     count: u64,
 }
@@ -77,12 +82,34 @@ impl StatusRead {
         self.lines.read.first()?.launcher().ok()
     }
 
+    /// The load of this label that was refused last, since a socket could not be bound. None also if one of this label was accepted since, or if the file does
+    /// not say it.
+    pub fn refused_bind(&self, label: &str) -> Option<BindStatus<'_>> {
+        for place in 0..MOST_BINDS {
+            let bind = self.bind_at(place)?;
+            if bind.label == label {
+                return Some(bind);
+            }
+        }
+        None
+    }
+
+    /// The one at this place, of at most 64.
+    pub fn bind_at(&self, place: usize) -> Option<BindStatus<'_>> {
+        self.lines.read.first()?.refused_bind(place).ok()?
+    }
+
     /// The lines of the jobs that are asked for, by rising bytes of their labels.
     pub fn jobs(&self) -> &[StatusLine] {
         match self.lines.read.as_slice() {
             [_, jobs @ ..] => jobs,
             [] => &[],
         }
+    }
+
+    /// The processes of the present runs of all its jobs, in no order, as far as the file has them next to the labels.
+    pub fn pids(&self) -> &[u32] {
+        self.lines.pids.as_slice()
     }
 
     /// The labels of all its jobs, by rising bytes, if some are asked for by their labels.
@@ -273,6 +300,7 @@ fn lines_of(alloc: Global, bytes: &[u8], asked: &[Text]) -> Result<Lines, Diagno
     let mut lines = Lines {
         read: Vec::new(alloc),
         labels: Vec::new(alloc),
+        pids: Vec::new(alloc),
         count: 0,
     };
     for line in whole.split(|byte| *byte == b'\n') {
@@ -314,10 +342,13 @@ impl Lines {
         let passed = if is_first || asked.is_empty() {
             Ok(None)
         } else {
-            other_label(alloc, line, asked, room)
+            other_front(alloc, line, asked, room)
         };
         let is_added = match passed {
-            Ok(Some(label)) => self.labels.push(label).is_ok(),
+            Ok(Some((label, pid))) => {
+                let is_labelled = self.labels.push(label).is_ok();
+                self.add_pid(pid) && is_labelled
+            }
             Ok(None) => match line_of(alloc, line, is_first) {
                 Ok(line) => self.add_read(alloc, line, !asked.is_empty()),
                 Err(fault) => return Err(Diagnostic::Line(self.count, fault)),
@@ -333,32 +364,57 @@ impl Lines {
 
     // A line that was read, with its label if labels are asked for. False: there was no memory.
     fn add_read(&mut self, alloc: Global, line: StatusLine, is_asked: bool) -> bool {
-        let is_labelled = match line.job() {
-            Ok(job) if is_asked => match Text::copy_of(alloc, job.label) {
-                Ok(label) => self.labels.push(label).is_ok(),
-                Err(_) => false,
-            },
-            _ => true,
+        let (is_labelled, pid) = match line.job() {
+            Ok(job) => {
+                let is_labelled = !is_asked || self.add_label(alloc, job.label);
+                (is_labelled, pid_of(&job))
+            }
+            Err(_) => (true, None),
         };
+        let is_noted = self.add_pid(pid);
         let is_pushed = self.read.push(line).is_ok();
-        is_labelled && is_pushed
+        is_labelled && is_noted && is_pushed
+    }
+
+    fn add_label(&mut self, alloc: Global, label: &str) -> bool {
+        match Text::copy_of(alloc, label) {
+            Ok(label) => self.labels.push(label).is_ok(),
+            Err(_) => false,
+        }
+    }
+
+    fn add_pid(&mut self, pid: Option<u32>) -> bool {
+        match pid {
+            Some(pid) => self.pids.push(pid).is_ok(),
+            None => true,
+        }
     }
 }
 
-// The label of a line that is not asked for, found without a tree.
-fn other_label(
+fn pid_of(job: &JobStatus<'_>) -> Option<u32> {
+    match job.facts.reasons.child {
+        Some(child) => Some(child.pid),
+        None => None,
+    }
+}
+
+// The label and the process of a line that is not asked for, found without a tree.
+fn other_front(
     alloc: Global,
     line: &[u8],
     asked: &[Text],
     room: &mut LineRoom,
-) -> Result<Option<Text>, AllocError>
-    ensures { IfOk result (λ found. IfSome found (λ label. IsLineOf line.now label × (is_asked asked.now label ≡ false))) }
+) -> Result<Option<(Text, Option<u32>)>, AllocError>
+    ensures label { IfOk result (λ found. IfSome found (λ front. IsLineOf line.now front.0 × (is_asked asked.now front.0 ≡ false))) }
+    ensures process { IfOk result (λ found. IfSome found (λ front. IfSome front.1 (λ pid. IsProcessOf line.now front.0 pid))) }
 {
     let Ok(text) = std::str::from_utf8(line) else {
         return Ok(None);
     };
-    match room.label_in(text)? {
-        Some(label) if !is_asked(asked, label) => Ok(Some(Text::copy_of(alloc, label)?)),
+    match room.front_in(text)? {
+        Some(LineFront { label, pid }) if !is_asked(asked, label) => {
+            Ok(Some((Text::copy_of(alloc, label)?, pid)))
+        }
         _ => Ok(None),
     }
 }

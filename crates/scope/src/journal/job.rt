@@ -10,8 +10,8 @@ use crate::known_runs::KnownRuns;
 use history_model::{Answer, DemandKind, Ended, JobItem, Reading, SECOND};
 use job_defs::Def;
 use pace::Signal;
-use run_log::{RunItem, RunLog};
-use status_page::{is_crash, is_failure};
+use run_log::{RunItem, RunLog, is_failure};
+use status_page::is_crash;
 
 /// After this many exits with code 0, each within a second of its begin, `why` asks whether the program puts itself in the background.
 const QUICK_ENDS: u64 = 3;
@@ -117,8 +117,6 @@ pub(crate) struct Record {
     pub(crate) log: RunLog,
     /// The run whose order is not answered, or that is running.
     pub(crate) current: Option<JobRun>,
-    // Whether TERM or KILL was ordered for the run that ended last.
-    was_ordered_to_end: bool,
     /// The last stop, `kickstart -k` or unload since the last start was ordered, and its number among such requests to all jobs.
     pub(crate) asked: Option<(JobRequest, Reading)>,
     pub(crate) ask: u64,
@@ -150,7 +148,6 @@ impl Record {
             serial,
             log: RunLog::new(at),
             current: None,
-            was_ordered_to_end: false,
             asked: None,
             ask: 0,
             absent: None,
@@ -243,12 +240,7 @@ impl Record {
             Some(run) => run.running_since(),
             None => None,
         };
-        KnownRuns::recorded(
-            self.log.facts(),
-            began,
-            self.was_ordered_to_end,
-            self.is_lost,
-        )
+        KnownRuns::recorded(self.log.facts(), began, self.is_lost)
     }
 
     /// Notes what came to its sockets, an answer to an order, or an exit. It returns what the log reports of that, and the run that is over
@@ -352,7 +344,6 @@ impl Record {
             _ => 0,
         };
         self.log.note(RunItem::Exited(run.run, how), at);
-        self.was_ordered_to_end = run.is_ordered_to_end;
         self.idle = at;
         self.current = None;
         Some(run)

@@ -4,8 +4,9 @@ use crate::age::AsOf;
 use crate::joined::Disabled;
 use crate::journal::labels::KnownLabel;
 use crate::known_runs::KnownRuns;
-use crate::objects::lines::{end_of, moment_of};
+use crate::objects::lines::{end_of, moment_of, text_of};
 use crate::texts::words::refusal_name;
+use crate::view::UnloadedView;
 use history_model::Reading;
 use json_lines::Value::{Absent, Flag, Moment, Number, Text};
 use json_lines::{Field, Value, put_line};
@@ -130,13 +131,14 @@ pub(crate) fn put_job(
 }
 
 /// Adds the line of a label that is not loaded, and since when, if it was.
-pub(crate) fn put_unloaded(
-    page: &mut Page<'_>,
-    label: &str,
-    gone: Option<Reading>,
-    known: KnownLabel,
-    around: ReportContext,
-) {
+pub(crate) fn put_unloaded(page: &mut Page<'_>, label: UnloadedView<'_>, around: ReportContext) {
+    let UnloadedView {
+        label,
+        gone,
+        known,
+        unbound,
+        ..
+    } = label;
     let [load, refusal] = load_of(known);
     let fields = [
         Field("state", Text("unloaded")),
@@ -145,6 +147,7 @@ pub(crate) fn put_unloaded(
         Field("disabled_since", disabled_since(known)),
         load,
         refusal,
+        Field("load_reason", text_of(unbound)),
         Field("as_of", Moment(around.as_of)),
         Field("launcher", around.launcher),
     ];

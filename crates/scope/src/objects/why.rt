@@ -54,7 +54,7 @@ fn put_row<'a>(page: &mut Page<'_>, of: &LauncherView<'a>, row: Row<'a>, is_fail
         }
         Ok(Some(LabelView::Unloaded(label))) => {
             if !is_failing {
-                put_unloaded(page, label.label, label.gone, label.known, of.around);
+                put_unloaded(page, label, of.around);
             }
             false
         }

@@ -36,23 +36,23 @@ pub(crate) fn add_disabled(page: &mut Page<'_>, label: &str, disabled: Option<Di
     page.add(form, &holes);
 }
 
-/// Adds by what the label is disabled, and why its last load was refused, if that still matters.
+/// Adds by what the label is disabled, and why its last load was refused, if that is known. `unbound`: why a socket could not be bound then.
 pub(crate) fn add_label(
     page: &mut Page<'_>,
     label: &str,
     known: KnownLabel,
-    is_refusal_told: bool,
+    unbound: Option<&str>,
     disabled: Option<Disabled>,
 ) {
     add_disabled(page, label, disabled);
-    let (Some((refusal, at)), true) = (known.refused, is_refusal_told) else {
+    let Some((refusal, at)) = known.refused else {
         return;
     };
     let [words, reason, key] = refusal_words(refusal);
-    let form = if key.is_empty() {
-        "  Its load at $ was refused: $.\n"
-    } else {
-        "  Its load at $ was refused: $$ $.\n"
+    let (form, reason) = match unbound {
+        Some(unbound) => ("  Its load at $ was refused: $: $.\n", unbound),
+        None if key.is_empty() => ("  Its load at $ was refused: $.\n", reason),
+        None => ("  Its load at $ was refused: $$ $.\n", reason),
     };
     page.add(form, &[Time(at.wall), Text(words), Text(reason), Text(key)]);
     match (refusal, disabled) {

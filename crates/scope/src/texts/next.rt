@@ -3,11 +3,9 @@
 use crate::asked::NextAsked;
 use crate::joined::sources_of_next;
 use crate::texts::heads::add_launcher;
-use crate::texts::starts::{ComingLines, Start, Telling, put_starts};
+use crate::texts::starts::{ComingLines, Start, Telling, minute_after, put_starts};
 use crate::view::rows::{Row, loaded_of, loaded_rows};
-use crate::view::{JobView, LauncherView, Schedule};
-use calendar_due::Zone;
-use definition_files::calendar_after;
+use crate::view::{JobView, LauncherView};
 use run_times::{Page, coming_second};
 use status_page::{Next, add_left_out, can_start_again, start_told};
 use std::alloc::{AllocError, Global};
@@ -146,26 +144,6 @@ fn add_starts<'a>(
     }
 }
 
-// The next minute of its calendar after a second.
-fn minute_after(
-    alloc: Global,
-    schedule: Schedule<'_>,
-    zone: &Zone,
-    now: u64,
-) -> Result<Option<u64>, AllocError> {
-    match schedule {
-        Schedule::Definition(def) => Ok(calendar_after(def.calendar(), zone, now)),
-        Schedule::Line(line) => match line.calendar(alloc) {
-            Ok(entries) => {
-                let minute = calendar_after(entries.as_slice(), zone, now);
-                drop(entries);
-                Ok(minute)
-            }
-            Err(_) => Err(AllocError),
-        },
-    }
-}
-
 fn push<'a>(
     job: &JobView<'a>,
     is_all: bool,
@@ -184,9 +162,6 @@ fn push<'a>(
         } else {
             None
         },
-        def: match (is_all, job.schedule) {
-            (true, Schedule::Definition(def)) => Some(def),
-            _ => None,
-        },
+        schedule: if is_all { Some(job.schedule) } else { None },
     })?)
 }

@@ -4,14 +4,15 @@ ghost use Rattle.std.specs.Prelude.{◌≡◌, ◌==◌, ◌||◌};
 
 use crate::objects::job::ReportContext;
 use crate::objects::lines::number_of;
+use crate::view::Schedule;
 use calendar_due::Zone;
 use definition_files::calendar_after;
 use history_model::MAX_WALL;
-use job_defs::Def;
 use json_lines::Value::{Moment as Second, Number as Count};
 use json_lines::{Field, put_line};
 use run_times::Filling::{Moment, Number, Text};
 use run_times::Page;
+use std::alloc::{AllocError, Global};
 
 /// The starts, a line each, and how many jobs are loaded and how many of them the clocks never start.
 #[derive(Drop)]
@@ -28,8 +29,8 @@ pub(crate) struct Start<'a> {
     pub(crate) at: u64,
     /// How many seconds its interval has, which is over then. None: an entry of its calendar matches, or interval and calendar together start it.
     pub(crate) every: Option<u32>,
-    /// Its definition, if its starts after this one are asked for.
-    pub(crate) def: Option<&'a Def>,
+    /// Its calendar, if its starts after this one are asked for.
+    pub(crate) schedule: Option<Schedule<'a>>,
 }
 
 /// How starts are listed.
@@ -69,7 +70,13 @@ pub(crate) fn put_starts(
         } else {
             add_start(page, start, of.now);
         }
-        start.at = after(start, zone).unwrap_or(u64::MAX);
+        match after(page.alloc, start, zone) {
+            Ok(at) => start.at = at.unwrap_or(u64::MAX),
+            Err(_) => {
+                page.writer.refuse();
+                return;
+            }
+        }
     }
 }
 
@@ -116,11 +123,33 @@ fn add_start(page: &mut Page<'_>, start: &Start<'_>, now: u64) {
 }
 
 // When the same clock starts the job after this start, if the interval begins then.
-fn after(start: &Start<'_>, zone: &Zone) -> Option<u64> {
-    let def = start.def?;
+fn after(alloc: Global, start: &Start<'_>, zone: &Zone) -> Result<Option<u64>, AllocError> {
+    let Some(schedule) = start.schedule else {
+        return Ok(None);
+    };
     let Some(every) = start.every else {
-        return calendar_after(def.calendar(), zone, start.at);
+        return minute_after(alloc, schedule, zone, start.at);
     };
     let at = start.at.saturating_add(u64::from(every));
-    if at <= MAX_WALL { Some(at) } else { None }
+    Ok(if at <= MAX_WALL { Some(at) } else { None })
+}
+
+/// The next minute of its calendar after a second.
+pub(crate) fn minute_after(
+    alloc: Global,
+    schedule: Schedule<'_>,
+    zone: &Zone,
+    now: u64,
+) -> Result<Option<u64>, AllocError> {
+    match schedule {
+        Schedule::Definition(def) => Ok(calendar_after(def.calendar(), zone, now)),
+        Schedule::Line(line) => match line.calendar(alloc) {
+            Ok(entries) => {
+                let minute = calendar_after(entries.as_slice(), zone, now);
+                drop(entries);
+                Ok(minute)
+            }
+            Err(_) => Err(AllocError),
+        },
+    }
 }

@@ -86,14 +86,7 @@ fn add_job(page: &mut Page<'_>, of: &LauncherView<'_>, job: &JobView<'_>) {
     add_missed(page, job.missed);
     add_background(page, job);
     add_inert(page, job);
-    let past = &job.past;
-    add_label(
-        page,
-        job.label,
-        past.known,
-        past.is_refusal_told,
-        job.disabled,
-    );
+    add_label(page, job.label, job.past.known, None, job.disabled);
     if foretells {
         add_coming(page, job, of.clock, is_idle);
     }
@@ -113,7 +106,13 @@ fn add_unloaded(page: &mut Page<'_>, of: &LauncherView<'_>, label: &UnloadedView
         None => page.add("\n$ is not loaded.\n", &[name]),
     }
     let known = label.known;
-    add_label(page, label.label, known, true, setting_told(known.disabled));
+    add_label(
+        page,
+        label.label,
+        known,
+        label.unbound,
+        setting_told(known.disabled),
+    );
     if label.is_in_file {
         add_left(page, label.label, of.processes);
     }

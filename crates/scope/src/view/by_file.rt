@@ -109,7 +109,6 @@ fn past_beside<'a>(journal: Option<&'a OpenJournal>, label: &str) -> JobPast<'a>
         Some(journal) => past_of(journal, label, journal.past.jobs.get(label)),
         None => JobPast {
             known: NOTHING,
-            is_refusal_told: false,
             is_in_background: false,
             ignored: &[],
         },

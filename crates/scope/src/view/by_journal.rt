@@ -2,10 +2,11 @@
 
 ghost use Rattle.std.specs.Prelude.{◌≡◌};
 ghost use Rattle.calendar_due.specs.ZoneRules.{minute_at};
-ghost use Rattle.scope.specs.Told.{IsCalendarNext, asked_in, facts_then, is_refusal_told};
+ghost use Rattle.scope.specs.Told.{IsCalendarNext, asked_in, facts_then, is_refusal_told, known_told};
 
 use crate::joined::{LabelNow, disabled_joined, label_past, runs_joined};
 use crate::journal::job::{KeptJob, Record};
+use crate::journal::labels::KnownLabel;
 use crate::journal::reader::OpenJournal;
 use crate::known_runs::KnownRuns;
 use crate::texts::causes::throttle_of;
@@ -16,8 +17,8 @@ use crate::texts::told::ToldJob;
 use crate::view::{JobPast, JobView, LabelView, LauncherView, Schedule, UnloadedView};
 use history_model::{Reading, Refusal};
 use job_defs::Def;
-use status_file::{JobFacts, JobKeys};
-use status_page::{ThrottleEnd, passed_minute, start_when, within_limits};
+use status_file::{BindStatus, JobFacts, JobKeys};
+use status_page::{StatusRead, ThrottleEnd, passed_minute, start_when, within_limits};
 
 /// What is known of a label of the journal, of which the status file says this.
 pub(crate) fn label_by_journal<'a>(
@@ -27,27 +28,59 @@ pub(crate) fn label_by_journal<'a>(
     file: Option<LabelNow<'a>>,
 ) -> LabelView<'a> {
     let Some(job) = journal.past.jobs.get(label) else {
-        return unloaded(journal, label, None, file.is_some());
+        return unloaded(of, journal, label, None, file.is_some());
     };
     match (&job.def, journal.facts(label)) {
         (Some(def), Some(facts)) => {
             LabelView::Loaded(job_by_journal(of, journal, label, job, def, facts, file))
         }
-        _ => unloaded(journal, label, Some(job.record.gone), file.is_some()),
+        _ => unloaded(of, journal, label, Some(job.record.gone), file.is_some()),
     }
 }
 
 fn unloaded<'a>(
+    of: &LauncherView<'a>,
     journal: &'a OpenJournal,
     label: &'a str,
     gone: Option<Reading>,
     is_in_file: bool,
 ) -> LabelView<'a> {
+    let known = journal.past.labels.of(label);
     LabelView::Unloaded(UnloadedView {
         label,
         gone,
-        known: journal.past.labels.of(label),
+        known,
+        unbound: unbound_by(of.standing(), label, known),
         is_in_file,
+    })
+}
+
+// Why a socket could not be bound, if the last load of the label was refused for that, and if the status file tells of the same load.
+fn unbound_by<'a>(
+    standing: Option<&'a StatusRead>,
+    label: &str,
+    known: KnownLabel,
+) -> Option<&'a str> {
+    let (refusal, at) = known.refused?;
+    let bind = standing?.refused_bind(label)?;
+    match refusal {
+        Refusal::SocketRefused if bind.at.up == at.up => Some(bind.reason),
+        _ => None,
+    }
+}
+
+/// The view of a label of which the status file alone has that its sockets could not be bound.
+pub(crate) fn unbound<'a>(bind: BindStatus<'a>) -> LabelView<'a> {
+    LabelView::Unloaded(UnloadedView {
+        label: bind.label,
+        gone: None,
+        known: KnownLabel {
+            disabled: None,
+            refused: Some((Refusal::SocketRefused, bind.at)),
+            is_same: false,
+        },
+        unbound: Some(bind.reason),
+        is_in_file: false,
     })
 }
 
@@ -136,7 +169,7 @@ pub(crate) fn throttle_at(
     Some(throttle_of(runs, throttle, up, last))
 }
 
-// How many of its starts since its load were refused or did not exit with code 0, as the status file counts them.
+// How many of its starts since its load were refused, or failed, as the status file counts them.
 fn failures_of(record: &Record) -> u64 {
     let facts = record.log.facts();
     facts.refusals.saturating_add(facts.failures)
@@ -164,23 +197,33 @@ pub(crate) fn past_of<'a>(
     let Some(job) = job else {
         return JobPast {
             known,
-            is_refusal_told: true,
             is_in_background: false,
             ignored: &[],
         };
     };
-    let is_told = match known.refused {
-        Some((refusal, at)) => is_refusal_told(refusal, known.is_same, at.up, job.record.newest()),
-        None => false,
-    };
     JobPast {
-        known,
-        is_refusal_told: is_told,
+        known: known_told(known, job.record.newest()),
         is_in_background: job.record.is_in_background(),
         ignored: match &job.def {
             Some(def) => def.not_acted_on(),
             None => &[],
         },
+    }
+}
+
+// What is reported of the label of a loaded job to which something happened last at this `up`: its last refused load only if that still matters.
+fn known_told(known: KnownLabel, newest: u64) -> KnownLabel
+    ensures { result ≡ known_told known newest }
+{
+    match known.refused {
+        Some((refusal, at)) if !is_refusal_told(refusal, known.is_same, at.up, newest) => {
+            KnownLabel {
+                disabled: known.disabled,
+                refused: None,
+                is_same: known.is_same,
+            }
+        }
+        _ => known,
     }
 }
 

@@ -1,20 +1,22 @@
 //! Which labels of a launcher a report has, and in which order.
 
-use crate::joined::LabelNow;
+use crate::joined::{LabelNow, line_with};
 use crate::journal::reader::OpenJournal;
 use crate::view::by_file::job_by_file;
-use crate::view::by_journal::label_by_journal;
+use crate::view::by_journal::{label_by_journal, unbound};
 use crate::view::{JobView, LabelView, LauncherView, Present};
 use history_model::Text;
-use status_file::StatusLine;
+use status_file::{BindStatus, MOST_BINDS, StatusLine};
 use status_page::{StatusRead, is_asked, reading_of};
 use std::alloc::{AllocError, Global};
 
-/// One of them: a job of the status file; or a label of the journal, with the line of its job in the status file, if there is one.
+/// One of them: a job of the status file; a label of the journal, with the line of its job in the status file, if there is one; or a label of which the
+/// status file says that its sockets could not be bound.
 #[derive(Clone, Copy)]
 pub(crate) enum Row<'a> {
     Line(&'a StatusLine),
     Label(&'a str, Option<&'a StatusLine>),
+    Unbound(BindStatus<'a>),
 }
 
 /// The labels of which something is known, or those that are named. By a status file they are its jobs, and then what the journal alone has. By a journal
@@ -40,12 +42,33 @@ pub(crate) fn rows_of<'a>(
                     false,
                     &mut rows,
                 ),
-                None => Ok(()),
+                None => add_unbound(standing, labels, &mut rows),
             };
             lines.and(others)
         }
     };
     given(rows, added)
+}
+
+// The labels whose sockets could not be bound, and that have no job.
+fn add_unbound<'a>(
+    standing: &'a StatusRead,
+    labels: &[Text],
+    rows: &mut Vec<Row<'a>>,
+) -> Result<(), AllocError> {
+    for place in 0..MOST_BINDS {
+        if let Some(bind) = standing.bind_at(place) {
+            if is_asked(labels, bind.label) && !is_loaded(standing, bind.label) {
+                rows.push(Row::Unbound(bind))?;
+            }
+        }
+    }
+    Ok(())
+}
+
+// Whether the file has a job of this label, which was asked for.
+fn is_loaded(standing: &StatusRead, label: &str) -> bool {
+    line_with(standing.jobs(), label).is_some()
 }
 
 /// The loaded jobs, or those that are named, by rising bytes of their labels. Those follow that the journal alone has: they were loaded since the status
@@ -271,6 +294,7 @@ pub(crate) fn view_of<'a>(
             let file = now_in(standing, line);
             Ok(Some(label_by_journal(of, journal, label, file)))
         }
+        (Row::Unbound(bind), _, _) => Ok(Some(unbound(bind))),
         (Row::Line(line), _, Some(standing)) => match job_of(alloc, of, standing, line)? {
             Some(job) => Ok(Some(LabelView::Loaded(job))),
             None => Ok(None),
