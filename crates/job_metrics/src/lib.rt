@@ -139,7 +139,8 @@ fn family_help(family: Family) -> &'static str
             "Calls of the launcher for its jobs that failed since it began, as starts and path checks.",
         Family::Running => "Whether a run of the job is running.",
         Family::Starts => "Starts that were ordered, including refused ones.",
-        Family::Failures => "Runs that failed: they exited with a code above 0, or by a signal that the launcher did not give.",
+        Family::Failures =>
+            "Runs that failed: they exited with a code above 0, or by a signal that the launcher did not give.",
         Family::Refusals => "Starts that the system refused.",
         Family::LastEnd => "When the last run of the job exited.",
         Family::NextStart => "When the job is scheduled to start next.",
