@@ -10,8 +10,8 @@ ghost use Rattle.history_model.specs.News.{is_some_entry};
 ghost use Rattle.loaded_jobs.specs.Leaving.{AllStayBut, StayBut, IsWithout, one_more_gone, is_of_other};
 
 use crate::all_job_slots::{has_calendars, release, tidy};
+use crate::held_slot::HeldSlot;
 use crate::index::{close_up, place_all};
-use crate::job_slot::JobSlot;
 use crate::jobs::Jobs;
 use crate::trigger::Listed;
 use crate::triggers::forget;
@@ -99,11 +99,11 @@ impl Jobs {
         if place >= self.job_slots.len() {
             return;
         }
-        if !self.job_slots[place].has_gone {
+        if !self.job_slots[place].has_gone() {
             return;
         }
         let job_slot = self.job_slots.remove(place);
-        let _held = self.numbers.try_remove(job_slot.number as usize);
+        let _held = self.numbers.try_remove(job_slot.number() as usize);
         close_up(&mut self.index.places, &self.job_slots, place);
         forget_one(&mut self.triggers, &job_slot);
         self.has_calendars = has_some_calendar(self.has_calendars, &job_slot, &self.job_slots);
@@ -124,14 +124,14 @@ fn is_untouched(def: &Def) -> bool
 }
 
 /// Drops the triggers of the job that left. If it has none, it looks at no trigger.
-fn forget_one(listed: &mut Vec<Listed>, left: &JobSlot)
+fn forget_one(listed: &mut Vec<Listed>, left: &HeldSlot)
     ensures items { IsWithout left.now listed.old.items listed.new.items }
     ensures capacity { vec_capacity listed.new ≡ vec_capacity listed.old }
 {
-    if is_untouched(&left.def) {
+    if is_untouched(&left.lent().def) {
         return;
     }
-    drop_number(listed, left.number);
+    drop_number(listed, left.number());
 }
 
 /// Drops the triggers with this number.
@@ -143,11 +143,11 @@ fn drop_number(listed: &mut Vec<Listed>, number: JobNo)
 }
 
 /// Whether some job has calendar entries without the one that left. If that had none, it looks at no other.
-fn has_some_calendar(before: bool, left: &JobSlot, job_slots: &[JobSlot]) -> bool
+fn has_some_calendar(before: bool, left: &HeldSlot, job_slots: &[HeldSlot]) -> bool
     ensures { result ≡ cond (is_some_entry left.now.def.calendar)
         (list_any (λ e. is_some_entry e.def.calendar) job_slots.now) before }
 {
-    if left.def.calendar().is_empty() {
+    if left.lent().def.calendar().is_empty() {
         return before;
     }
     has_calendars(job_slots)

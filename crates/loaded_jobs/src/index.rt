@@ -9,13 +9,13 @@ ghost use Rattle.loaded_jobs.specs.JobSlots.{name};
 ghost use Rattle.loaded_jobs.specs.Index.{ArePlaced, IsIndexOf, IsNamed, lowered, place_in, raised};
 ghost use Rattle.loaded_jobs.specs.declared.job_slot.JobSlot.{JobSlot};
 
-use crate::job_slot::JobSlot;
+use crate::held_slot::HeldSlot;
 use crate::jobs::Index;
 use history_model::{JobNo, MAX_JOBS};
 use std::alloc::{AllocError, Global};
 
 /// Gives each slot's number its place. It takes no memory.
-pub fn place_all(places: &mut [u16], job_slots: &[JobSlot])
+pub fn place_all(places: &mut [u16], job_slots: &[HeldSlot])
     requires once { IsOnce (map name job_slots.now) }
     requires few { length job_slots.now ≤ MAX_JOBS }
     requires fits { (number : ℕ) →
@@ -28,7 +28,7 @@ pub fn place_all(places: &mut [u16], job_slots: &[JobSlot])
 }
 
 /// Gives each slot's number its place, from a place on: those before it have theirs. It takes no memory.
-pub fn place_from(places: &mut [u16], job_slots: &[JobSlot], from: usize)
+pub fn place_from(places: &mut [u16], job_slots: &[HeldSlot], from: usize)
     requires once { IsOnce (map name job_slots.now) }
     requires few { length job_slots.now ≤ MAX_JOBS }
     requires fits { (number : ℕ) →
@@ -43,13 +43,13 @@ pub fn place_from(places: &mut [u16], job_slots: &[JobSlot], from: usize)
     let mut place = from;
     while place < job_slots.len() {
         let job_slot = &job_slots[place];
-        places[job_slot.number as usize] = place as u16;
+        places[job_slot.number() as usize] = place as u16;
         place += 1;
     }
 }
 
 /// Moves the place of each slot after the one that left one to the front. It looks at no slot, and takes no memory.
-pub fn close_up(places: &mut [u16], job_slots: &[JobSlot], place: usize)
+pub fn close_up(places: &mut [u16], job_slots: &[HeldSlot], place: usize)
     requires few { length job_slots.now ≤ MAX_JOBS }
     requires inside { place ≤ length job_slots.now }
     requires fits { (k : ℕ) (e : JobSlot) → slice_get job_slots.now k ≡ Some e →
@@ -80,7 +80,7 @@ fn lower_above(places: &mut [u16], place: u16)
 
 /// Moves the place of each slot after this one, which is new, one to the back, and gives the new one its place. It looks at no
 /// other slot, and takes no memory.
-pub fn make_way(places: &mut [u16], job_slots: &[JobSlot], place: usize)
+pub fn make_way(places: &mut [u16], job_slots: &[HeldSlot], place: usize)
     requires once { IsOnce (map name job_slots.now) }
     requires few { length job_slots.now ≤ MAX_JOBS }
     requires inside { place < length job_slots.now }
@@ -96,7 +96,7 @@ pub fn make_way(places: &mut [u16], job_slots: &[JobSlot], place: usize)
 {
     raise_from(places, place as u16);
     let job_slot = &job_slots[place];
-    places[job_slot.number as usize] = place as u16;
+    places[job_slot.number() as usize] = place as u16;
 }
 
 /// Adds one to each place from this one on.
@@ -122,7 +122,7 @@ pub fn grow(
     index: &mut Index,
     alloc: Global,
     number: JobNo,
-    job_slots: &[JobSlot],
+    job_slots: &[HeldSlot],
 ) -> Result<(), AllocError>
     requires once { IsOnce (map name job_slots.now) }
     requires few { length job_slots.now ≤ MAX_JOBS }

@@ -24,14 +24,14 @@ ghost use Rattle.loaded_jobs.specs.AffectedJobs.{item_for, reaches, nothing_for,
 ghost use Rattle.std.specs.Option.{ForSome};
 
 use crate::gone_jobs::Gone;
-use crate::job_slot::{AffectedJobs, JobSlot};
+use crate::held_slot::HeldSlot;
+use crate::job_slot::AffectedJobs;
 use crate::marks::mark_touched;
 use crate::settings::Settings;
 use crate::trigger::Listed;
 use crate::visits::{visit_at, visit_ready};
 use calendar_due::Zone;
 use history_model::{JobItem, Order, Reading, Refusal};
-use job_core::JobEvent;
 use place_set::PlaceSet;
 use slab::Slab;
 use timer_heap::TimerHeap;
@@ -42,7 +42,7 @@ pub struct Jobs {
     pub(crate) zone: Zone,
     pub(crate) settings: Settings,
     pub(crate) is_shutting_down: bool,
-    pub(crate) job_slots: Vec<JobSlot>,
+    pub(crate) job_slots: Vec<HeldSlot>,
     pub(crate) numbers: Slab<()>,
     pub(crate) orders: Vec<Order>,
     pub(crate) visited: u32,
@@ -156,7 +156,7 @@ impl Jobs {
         ensures room { HasSameRoom (seen_table self.old) (seen_table self.new) }
     {
         let job_slot = &mut self.job_slots[place];
-        job_slot.core.event(JobEvent::Item(item), self.reading)
+        job_slot.receive_item(item, self.reading)
     }
 
     /// Delivers to the jobs that the touch reaches what it is for them, and asks them alone. The clock reading stays.

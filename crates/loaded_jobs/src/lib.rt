@@ -5,6 +5,7 @@ mod all_job_slots;
 mod byte_order;
 mod events;
 mod gone_jobs;
+mod held_slot;
 mod index;
 mod job_slot;
 mod jobs;

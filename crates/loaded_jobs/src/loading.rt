@@ -27,6 +27,7 @@ ghost use Rattle.loaded_jobs.specs.Room.{HasSameRoom};
 ghost use Rattle.loaded_jobs.specs.Begun.{IsBegun};
 ghost use Rattle.loaded_jobs.specs.JobSlots.{name, place_for, job_slots_with};
 
+use crate::held_slot::HeldSlot;
 use crate::index::{grow, make_way};
 use crate::job_slot::{JobSlot, ORDERS};
 use crate::jobs::Jobs;
@@ -43,7 +44,7 @@ use std::alloc::{AllocError, Global};
 /// A job that is about to be loaded, and its label's new setting.
 #[derive(Drop)]
 pub struct Ready {
-    pub job_slot: JobSlot,
+    pub job_slot: HeldSlot,
     pub setting: Option<Setting>,
     /// What touches the job.
     pub triggers: Vec<Trigger>,
@@ -56,14 +57,14 @@ impl Ready {
     pub fn def(&self) -> &Def
         ensures { result.now ≡ described_in self.now }
     {
-        &self.job_slot.def
+        &self.job_slot.lent().def
     }
 
     /// The number that the job is to have.
     pub fn job(&self) -> JobNo
         ensures { result ≡ number_in self.now }
     {
-        self.job_slot.number
+        self.job_slot.number()
     }
 }
 
@@ -138,7 +139,7 @@ impl Jobs {
         let Some(place) = place_of(&self.job_slots, label) else {
             return None;
         };
-        if self.job_slots[place].core.is_removing() {
+        if self.job_slots[place].lent().core.is_removing() {
             return Some(Refusal::Removing);
         }
         Some(Refusal::AlreadyLoaded)
@@ -213,7 +214,7 @@ impl Jobs {
     }
 
     /// The slot of a job that is loaded at the last clock reading, under the next number.
-    fn job_slot_of(&self, alloc: Global, def: Def) -> Result<JobSlot, Refusal>
+    fn job_slot_of(&self, alloc: Global, def: Def) -> Result<HeldSlot, Refusal>
         requires sound { IsSound self.now }
         ensures number { IfOk result (λ job_slot. job_slot.number ≡ self.now.numbers.vacant_key) }
         ensures same { IfOk result (λ job_slot. job_slot.def ≡ def) }
@@ -229,12 +230,16 @@ impl Jobs {
         let Ok(core) = JobCore::new(alloc, &def, self.reading) else {
             return Err(Refusal::NoMemory);
         };
-        Ok(JobSlot {
+        let job_slot = JobSlot {
             number,
             def,
             core,
             has_gone: false,
-        })
+        };
+        match HeldSlot::new(alloc, job_slot) {
+            Ok(job_slot) => Ok(job_slot),
+            Err(_) => Err(Refusal::NoMemory),
+        }
     }
 
     /// Loads the job that was made ready, at its place among the others, and asks it alone.
@@ -249,7 +254,7 @@ impl Jobs {
             setting,
             triggers,
         } = ready;
-        let place = place_before(&self.job_slots, job_slot.def.label());
+        let place = place_before(&self.job_slots, job_slot.lent().def.label());
         set_if(&mut self.settings, setting);
         self.enter(job_slot, triggers, place);
         make_way(&mut self.index.places, &self.job_slots, place);
@@ -257,7 +262,7 @@ impl Jobs {
     }
 
     /// Puts the slot before the first with a greater label, which is this place, and gives its number out.
-    fn enter(&mut self, job_slot: JobSlot, triggers: Vec<Trigger>, place: usize)
+    fn enter(&mut self, job_slot: HeldSlot, triggers: Vec<Trigger>, place: usize)
         requires places { vec_len self.old.job_slots < vec_capacity self.old.job_slots }
         requires numbers { HasRoomFor self.old.numbers 1 }
         requires place { place ≡ place_for job_slot.def.label self.old.job_slots.items }
@@ -283,11 +288,11 @@ impl Jobs {
             ≡ vec_len self.old.triggers + vec_len triggers }
         ensures listed { AreOrdered self.new.triggers.items }
     {
-        has_period(&job_slot.def); // for the proof
+        has_period(&job_slot.lent().def); // for the proof
         let _number = self.numbers.insert_reserved(());
-        let fires = !job_slot.def.calendar().is_empty();
+        let fires = !job_slot.lent().def.calendar().is_empty();
         self.has_calendars = self.has_calendars || fires;
-        enlist(&mut self.triggers, triggers, job_slot.number);
+        enlist(&mut self.triggers, triggers, job_slot.number());
         match self.job_slots.insert(place, job_slot) {
             Ok(()) => {}
             Err(_) => unreachable!(),
@@ -297,7 +302,7 @@ impl Jobs {
 
 /// Takes the memory that one more job with this number of triggers needs in the lists of the table: all but the index.
 fn reserve_beside(
-    job_slots: &mut Vec<JobSlot>,
+    job_slots: &mut Vec<HeldSlot>,
     orders: &mut Vec<Order>,
     numbers: &mut Slab<()>,
     settings: &mut Settings,

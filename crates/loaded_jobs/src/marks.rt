@@ -13,7 +13,8 @@ ghost use Rattle.loaded_jobs.specs.Triggers.{rank_of, AreOrdered, AreListed};
 ghost use Rattle.loaded_jobs.specs.Marking.{HavePlaces, IsMarked, IsReachedAt, IsMinuteAt, HaveMarks, Marks, stands_at};
 ghost use Rattle.loaded_jobs.specs.AffectedJobs.{is_touched};
 
-use crate::job_slot::{AffectedJobs, JobSlot};
+use crate::held_slot::HeldSlot;
+use crate::job_slot::AffectedJobs;
 use crate::trigger::{Listed, Query};
 use crate::triggers::run_of;
 use history_model::CivilMinute;
@@ -105,7 +106,7 @@ fn mark_of(listed: &[Listed], query: Query<'_>, places: &[u16], ready: &mut Plac
 
 /// Marks the places of the jobs that hear something of the touch.
 pub fn mark_touched(
-    job_slots: &[JobSlot],
+    job_slots: &[HeldSlot],
     affected: AffectedJobs<'_>,
     listed: &[Listed],
     places: &[u16],

@@ -13,7 +13,7 @@ ghost use Rattle.loaded_jobs.specs.JobSlots.{name, rows};
 ghost use Rattle.loaded_jobs.specs.Nearest.{IsNearestOf, IsNextChild, listed_paths, with_child};
 ghost use Rattle.loaded_jobs.specs.Tables.{labels_in};
 
-use crate::job_slot::JobSlot;
+use crate::held_slot::HeldSlot;
 use crate::jobs::Jobs;
 use crate::places::{place_before, place_here};
 use crate::triggers::path_after;
@@ -30,7 +30,7 @@ impl Jobs {
     {
         let label = label_after(&self.job_slots, text)?;
         let place = place_here(&self.job_slots, label)?;
-        let job_slot = &self.job_slots[place];
+        let job_slot = self.job_slots[place].lent();
         Some((label, job_slot.number, job_slot.core.shown().runs))
     }
 
@@ -45,7 +45,7 @@ impl Jobs {
 }
 
 /// The label of the next job with a child: the first label after the text whose job has one.
-fn label_after<'x>(job_slots: &'x [JobSlot], text: &str) -> Option<&'x str>
+fn label_after<'x>(job_slots: &'x [HeldSlot], text: &str) -> Option<&'x str>
     requires { AreInOrder (labels_in (map name job_slots.now)) }
     ensures { (at : Reading) (jobs : List Job) → KeepsJobs at (rows job_slots.now) jobs →
         IsNearestOf text.now (with_child jobs) (option_map (λ label. label.now) result) }
@@ -54,7 +54,7 @@ fn label_after<'x>(job_slots: &'x [JobSlot], text: &str) -> Option<&'x str>
     while place < job_slots.len() {
         let job_slot = &job_slots[place];
         if has_child(job_slot) {
-            return Some(job_slot.def.label());
+            return Some(job_slot.lent().def.label());
         }
         place += 1;
     }
@@ -62,10 +62,10 @@ fn label_after<'x>(job_slots: &'x [JobSlot], text: &str) -> Option<&'x str>
 }
 
 /// Whether the job is not gone and has a child.
-fn has_child(job_slot: &JobSlot) -> bool
+fn has_child(job_slot: &HeldSlot) -> bool
     ensures going { job_slot.now.has_gone ≡ true → result ≡ false }
     ensures child { (past : History) → job_slot.now.has_gone ≡ false →
         Keeps job_slot.now.core.facts past → result ≡ is_some (child past) }
 {
-    !job_slot.has_gone && job_slot.core.shown().pid.is_some()
+    !job_slot.has_gone() && job_slot.lent().core.shown().pid.is_some()
 }

@@ -12,6 +12,7 @@ ghost use Rattle.loaded_jobs.specs.StandsFor.{KeepsState};
 ghost use Rattle.loaded_jobs.specs.Here.{IsHere};
 
 use crate::byte_order::is_before;
+use crate::held_slot::HeldSlot;
 use crate::job_slot::JobSlot;
 use crate::jobs::Jobs;
 use history_model::JobNo;
@@ -27,7 +28,7 @@ impl Jobs {
     {
         match place_here(&self.job_slots, label) {
             None => None,
-            Some(place) => Some(&self.job_slots[place]),
+            Some(place) => Some(self.job_slots[place].lent()),
         }
     }
 
@@ -37,7 +38,7 @@ impl Jobs {
         ensures { result.now ≡ label_of (map name self.now.job_slots.items) job }
     {
         match place_of_number(&self.job_slots, &self.index.places, job) {
-            Some(place) => self.job_slots[place].def.label(),
+            Some(place) => self.job_slots[place].lent().def.label(),
             None => "",
         }
     }
@@ -50,14 +51,14 @@ impl Jobs {
         ensures { definition_of_number (map name self.now.job_slots.items) job ≡ Some result.now }
     {
         match place_of_number(&self.job_slots, &self.index.places, job) {
-            Some(place) => &self.job_slots[place].def,
+            Some(place) => &self.job_slots[place].lent().def,
             None => unreachable!(),
         }
     }
 }
 
 /// The place of the job with this number: the one that the index has for it, if the job there has the number.
-pub fn place_of_number(job_slots: &[JobSlot], places: &[u16], number: JobNo) -> Option<usize>
+pub fn place_of_number(job_slots: &[HeldSlot], places: &[u16], number: JobNo) -> Option<usize>
     requires { ArePlaced places.now job_slots.now }
     ensures { result ≡ position (has_number number) job_slots.now }
 {
@@ -68,14 +69,14 @@ pub fn place_of_number(job_slots: &[JobSlot], places: &[u16], number: JobNo) -> 
     if place >= job_slots.len() {
         return None;
     }
-    if job_slots[place].number != number {
+    if job_slots[place].number() != number {
         return None;
     }
     Some(place)
 }
 
 /// The place of the job with this label.
-pub fn place_of(job_slots: &[JobSlot], label: &str) -> Option<usize>
+pub fn place_of(job_slots: &[HeldSlot], label: &str) -> Option<usize>
     requires { AreInOrder (labels_in (map name job_slots.now)) }
     ensures { result ≡ position (has_label label.now) job_slots.now }
 {
@@ -90,33 +91,33 @@ pub fn place_of(job_slots: &[JobSlot], label: &str) -> Option<usize>
 }
 
 /// Whether the job's label is before this one.
-fn is_below(job_slot: &JobSlot, label: &str) -> bool
+fn is_below(job_slot: &HeldSlot, label: &str) -> bool
     ensures { result ≡ is_before job_slot.now.def.label label.now }
 {
-    is_before(job_slot.def.label(), label)
+    is_before(job_slot.lent().def.label(), label)
 }
 
 /// Whether this is the job's label.
-fn has_label(job_slot: &JobSlot, label: &str) -> bool
+fn has_label(job_slot: &HeldSlot, label: &str) -> bool
     ensures { result ≡ has_label label.now job_slot.now }
 {
-    label == job_slot.def.label()
+    label == job_slot.lent().def.label()
 }
 
 /// The place of the job with this label that is not gone.
-pub fn place_here(job_slots: &[JobSlot], label: &str) -> Option<usize>
+pub fn place_here(job_slots: &[HeldSlot], label: &str) -> Option<usize>
     requires { AreInOrder (labels_in (map name job_slots.now)) }
     ensures { result ≡ position (is_loaded_under label.now) job_slots.now }
 {
     let place = place_of(job_slots, label)?;
-    if job_slots[place].has_gone {
+    if job_slots[place].has_gone() {
         return None;
     }
     Some(place)
 }
 
 /// The place before the first job with a greater label, or the last.
-pub fn place_before(job_slots: &[JobSlot], label: &str) -> usize
+pub fn place_before(job_slots: &[HeldSlot], label: &str) -> usize
     requires { AreInOrder (labels_in (map name job_slots.now)) }
     ensures { result ≡ place_for label.now job_slots.now }
 {
@@ -124,8 +125,8 @@ pub fn place_before(job_slots: &[JobSlot], label: &str) -> usize
 }
 
 /// Whether the job's label is this one or before it.
-fn is_no_later(job_slot: &JobSlot, label: &str) -> bool
+fn is_no_later(job_slot: &HeldSlot, label: &str) -> bool
     ensures { result ≡ not (is_above label.now job_slot.now) }
 {
-    !is_before(label, job_slot.def.label())
+    !is_before(label, job_slot.lent().def.label())
 }

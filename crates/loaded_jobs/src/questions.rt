@@ -20,7 +20,7 @@ ghost use Rattle.loaded_jobs.specs.JobSlots.{rows};
 
 use crate::all_job_slots::{all_gone, is_some_with_calendar};
 use crate::gone_jobs::Gone;
-use crate::job_slot::JobSlot;
+use crate::held_slot::HeldSlot;
 use crate::jobs::Jobs;
 use crate::settings::is_disabled;
 use crate::texts::{job, line};
@@ -122,7 +122,7 @@ impl Jobs {
 }
 
 /// A line of heads, then a line for each job that is not gone.
-fn list(alloc: Global, job_slots: &[JobSlot]) -> Result<String, AllocError>
+fn list(alloc: Global, job_slots: &[HeldSlot]) -> Result<String, AllocError>
     ensures { IfOk result (λ text. (at : Reading) (jobs : List Job) →
         KeepsJobs at (rows job_slots.now) jobs →
         string_bytes text ≡ codes "PID\tStatus\tLabel\n" ++ flat_map shown_text jobs) }
@@ -136,7 +136,7 @@ fn list(alloc: Global, job_slots: &[JobSlot]) -> Result<String, AllocError>
 }
 
 /// Adds the line of a job, unless it was removed.
-fn add_line(alloc: Global, text: &mut String, job_slot: &JobSlot) -> Result<(), AllocError>
+fn add_line(alloc: Global, text: &mut String, job_slot: &HeldSlot) -> Result<(), AllocError>
     ensures going { job_slot.now.has_gone ≡ true →
         OnOk result (string_bytes text.new ≡ string_bytes text.old) }
     ensures shown { (past : History) → job_slot.now.has_gone ≡ false →
@@ -144,9 +144,10 @@ fn add_line(alloc: Global, text: &mut String, job_slot: &JobSlot) -> Result<(), 
         OnOk result (string_bytes text.new
         ≡ string_bytes text.old ++ line_text (shown_of past) job_slot.now.def.label) }
 {
-    if job_slot.has_gone {
+    if job_slot.has_gone() {
         return Ok(());
     }
+    let job_slot = job_slot.lent();
     let shown = line(alloc, job_slot.core.shown(), job_slot.def.label())?;
     text.push_str(shown.as_str())
 }

@@ -9,7 +9,7 @@ ghost use Rattle.loaded_jobs.specs.Index.{ArePlaced};
 ghost use Rattle.loaded_jobs.specs.Nearest.{IsNearestOf, paths_in};
 ghost use Rattle.loaded_jobs.specs.Triggers.{rank_of, has_rank, is_below, is_behind, under, AreOrdered, AreListed, stays_under};
 
-use crate::job_slot::JobSlot;
+use crate::held_slot::HeldSlot;
 use crate::trigger::{Listed, Query, Trigger, is_earlier};
 use history_model::JobNo;
 
@@ -91,7 +91,7 @@ pub fn enlist(listed: &mut Vec<Listed>, triggers: Vec<Trigger>, number: JobNo)
 }
 
 /// Drops the triggers of the jobs that were removed.
-pub fn forget(listed: &mut Vec<Listed>, places: &[u16], job_slots: &[JobSlot])
+pub fn forget(listed: &mut Vec<Listed>, places: &[u16], job_slots: &[HeldSlot])
     ensures items { listed.new.items
         ≡ filter (stays_under places.now job_slots.now) listed.old.items }
     ensures capacity { vec_capacity listed.new ≡ vec_capacity listed.old }
@@ -100,7 +100,7 @@ pub fn forget(listed: &mut Vec<Listed>, places: &[u16], job_slots: &[JobSlot])
 }
 
 /// Whether the job of this trigger is not gone.
-fn stays(one: &Listed, places: &[u16], job_slots: &[JobSlot]) -> bool
+fn stays(one: &Listed, places: &[u16], job_slots: &[HeldSlot]) -> bool
     ensures { result ≡ stays_under places.now job_slots.now one.now }
 {
     let Some(place) = places.get(one.number as usize) else {
@@ -108,7 +108,7 @@ fn stays(one: &Listed, places: &[u16], job_slots: &[JobSlot]) -> bool
     };
     match job_slots.get(*place as usize) {
         None => false,
-        Some(job_slot) => !job_slot.has_gone,
+        Some(job_slot) => !job_slot.has_gone(),
     }
 }
 
@@ -116,7 +116,7 @@ fn stays(one: &Listed, places: &[u16], job_slots: &[JobSlot]) -> bool
 pub fn path_after<'x>(
     listed: &'x [Listed],
     places: &[u16],
-    job_slots: &[JobSlot],
+    job_slots: &[HeldSlot],
     text: &str,
 ) -> Option<&'x str>
     requires listed { AreListed listed.now (map name job_slots.now) }

@@ -11,7 +11,8 @@ ghost use Rattle.loaded_jobs.specs.Visits.{CanVisit, VisitsTouched, IsUnmarked};
 ghost use Rattle.loaded_jobs.specs.AffectedJobs.{item_for, nothing_for};
 
 use crate::gone_jobs::Gone;
-use crate::job_slot::{AffectedJobs, JobSlot};
+use crate::held_slot::HeldSlot;
+use crate::job_slot::AffectedJobs;
 use history_model::{Order, Reading};
 use place_set::PlaceSet;
 use timer_heap::TimerHeap;
@@ -19,7 +20,7 @@ use timer_heap::TimerHeap;
 /// Delivers the touch to the jobs at the places with a mark and asks them, in rising order of places, and takes the marks away.
 /// It counts the jobs that it visits, and says which it may have removed.
 pub fn visit_ready(
-    job_slots: &mut [JobSlot],
+    job_slots: &mut [HeldSlot],
     ready: &mut PlaceSet,
     timers: &mut TimerHeap,
     affected: AffectedJobs<'_>,
@@ -42,7 +43,7 @@ pub fn visit_ready(
         let job_slot = &mut job_slots[place];
         job_slot.visit(affected, before, now, orders);
         retime(timers, job_slot, now);
-        if !job_slot.has_gone {
+        if !job_slot.has_gone() {
             visited += 1;
         } else {
             gone = gone.and(place);
@@ -54,7 +55,7 @@ pub fn visit_ready(
 
 /// Asks the job at this place, which received already what happened to it, and no other. It counts it, unless it was removed.
 pub fn visit_at(
-    job_slots: &mut [JobSlot],
+    job_slots: &mut [HeldSlot],
     timers: &mut TimerHeap,
     place: usize,
     now: Reading,
@@ -71,21 +72,21 @@ pub fn visit_at(
     let job_slot = &mut job_slots[place];
     job_slot.ask(now, orders);
     retime(timers, job_slot, now);
-    if !job_slot.has_gone {
+    if !job_slot.has_gone() {
         return (1, Gone::Nobody);
     }
     (0, Gone::One(place))
 }
 
 /// Gives the job's number its next wake-up time; none, if the job was removed or has none. A time that stays costs nothing.
-fn retime(timers: &mut TimerHeap, job_slot: &JobSlot, now: Reading)
+fn retime(timers: &mut TimerHeap, job_slot: &HeldSlot, now: Reading)
     requires in_range { now.up ≤ MAX_UP }
     requires room { job_slot.now.number < room timers.old }
     ensures { Updates timers.old timers.new job_slot.now.number (moment_for job_slot.now now.up) }
 {
-    if job_slot.has_gone {
-        timers.renew(job_slot.number, None);
+    if job_slot.has_gone() {
+        timers.renew(job_slot.number(), None);
         return;
     }
-    timers.renew(job_slot.number, job_slot.core.next_moment(now));
+    timers.renew(job_slot.number(), job_slot.lent().core.next_moment(now));
 }

@@ -138,7 +138,8 @@ impl Tree {
         }
     }
 
-    /// Puts a timer on the leaf of a job, and plays the matches above it.
+    /// Puts a timer on the leaf of a job, and plays the matches above it, up to the first that the same timer wins as before: what is
+    /// above that one stays.
     fn put(&mut self, job: usize, timer: Option<Timer>)
         requires sound { IsTree self.old }
         requires place { job < self.old.leaves }
@@ -150,7 +151,11 @@ impl Tree {
         self.nodes[place] = timer;
         while place > 1 {
             place /= 2;
-            self.nodes[place] = sooner(self.nodes[2 * place], self.nodes[2 * place + 1]);
+            let winner = sooner(self.nodes[2 * place], self.nodes[2 * place + 1]);
+            if is_same_timer(winner, self.nodes[place]) {
+                return;
+            }
+            self.nodes[place] = winner;
         }
     }
 }
@@ -179,6 +184,17 @@ fn is_same(one: Option<u64>, other: Option<u64>) -> bool
     match (one, other) {
         (None, None) => true,
         (Some(one), Some(other)) => one == other,
+        _ => false,
+    }
+}
+
+/// Whether the two are the same timer, or both none.
+fn is_same_timer(one: Option<Timer>, other: Option<Timer>) -> bool
+    ensures { result ≡ true → one ≡ other }
+{
+    match (one, other) {
+        (None, None) => true,
+        (Some(one), Some(other)) => one.moment == other.moment && one.job == other.job,
         _ => false,
     }
 }

@@ -28,15 +28,15 @@ stands es moved once p k e new at here own given = go (k == p) refl where
       place-other moved new.number p e.number (apart es k p e new once at here differ) ∙ given differ
 
 -- the number of the new slot has a place
-pub bounds-places-job_slot : goal.bounds-places-job_slot
-bounds-places-job_slot c =
+pub bounds-places-number : goal.bounds-places-number
+bounds-places-number c =
     let es = c.args.job_slots.now in
     let e : JobSlot = c.index-job_slots-place.result in
     let named = named-at (map name es) es es c.args.place e c.requires.inside refl c.index-job_slots-place.is (all-named es) in
-    subst (λ n. e.number < n) (sym c.raise_from.ensures.length) (c.requires.fits e.number named)
+    rw c.number.ensures (subst (λ n. e.number < n) (sym c.raise_from.ensures.length) (c.requires.fits e.number named))
 
 pub returns-clause-placed : goal.returns-clause-placed
-returns-clause-placed c = λ k e at.
+returns-clause-placed c = rw c.number.ensures (λ k e at.
     let es = c.args.job_slots.now in
     let p = c.args.place in
     let old = c.args.places.now in
@@ -51,4 +51,4 @@ returns-clause-placed c = λ k e at.
       subst (λ n. e.number < n) (sym (length-set moved new.number p ∙ long)) fits,
       stands es moved c.requires.once p k e new at here own (λ differ. c.raise_from.ensures.raised e.number fits
           ∙ raised-around p k (place_in old e.number) differ (omega (arith, inside, few)) (c.requires.before k e at) (c.requires.behind k e at)),
-    )
+    ))

@@ -22,20 +22,20 @@ loop-place-preserved c =
     let fits : e.number < length c.loop-place.places = subst (λ n. e.number < n) (sym inv.long) (c.requires.fits e.number named) in
     record {
       below = omega (arith, within);
-      long = length-set c.loop-place.places e.number i ∙ inv.long;
-      placed = one-more es c.requires.once i e within is {P = λ k x. place_in (slice_set c.loop-place.places e.number i) x.number ≡ k}
+      long = length-set c.loop-place.places c.number.result i ∙ inv.long;
+      placed = rw c.number.ensures (one-more es c.requires.once i e within is {P = λ k x. place_in (slice_set c.loop-place.places e.number i) x.number ≡ k}
           (λ k x at low apart. place-other c.loop-place.places e.number i x.number apart ∙ inv.placed k x at low)
-          (place-same c.loop-place.places e.number i fits);
+          (place-same c.loop-place.places e.number i fits));
     }
 
 -- the number of the slot at hand has a place
-pub bounds-places-job_slot : goal.bounds-places-job_slot
-bounds-places-job_slot c =
+pub bounds-places-number : goal.bounds-places-number
+bounds-places-number c =
     let es = c.args.job_slots.now in
     let i = c.loop-place.place in
     let e : JobSlot = c.index-job_slots-place.result in
     let named = named-at (map name es) es es i e (omega arith) refl c.index-job_slots-place.is (all-named es) in
-    subst (λ n. e.number < n) (sym c.loop-place.invariant.long) (c.requires.fits e.number named)
+    rw c.number.ensures (subst (λ n. e.number < n) (sym c.loop-place.invariant.long) (c.requires.fits e.number named))
 
 pub returns-clause-placed : goal.returns-clause-placed
 returns-clause-placed c = λ k e at. (

@@ -1,5 +1,5 @@
 -- The first after the text with a child is the nearest one.
-use Rattle.std.proofs.Common.{◌≡◌, ◌<◌, ◌≤◌, Bool, true, false, length, refl, sym, subst, ◌∙◌, arith}
+use Rattle.std.proofs.Common.{◌≡◌, ◌<◌, ◌≤◌, Bool, true, false, length, refl, sym, ap, subst, ◌∙◌, arith}
 use Rattle.std.proofs.lemmas.Option.{slice_get_within}
 use Rattle.history_model.specs.Labels.{is_before}
 use Rattle.loaded_jobs.specs.Nearest.{IsNearest, with_child}
@@ -31,7 +31,7 @@ returns-then-has_child c = λ at jobs keeps.
     let there = get-at es k e within c.index-job_slots-place.is in
     let has = c.if-has_child.true in
     let stay = stays e.has_gone c.has_child.result c.has_child.ensures.going has in
-    subst (IsNearest c.args.text.now (with_child jobs)) (sym c.label.ensures)
+    subst (IsNearest c.args.text.now (with_child jobs)) (sym (c.label.ensures ∙ ap (λ x. x.def.label) c.lent.ensures))
     (nearest-child at c.args.text.now es c.requires jobs k e keeps there (inv.ahead k e there (omega arith)) stay
     (λ past kept. sym (c.has_child.ensures.child past stay kept) ∙ has) inv.passed)
 

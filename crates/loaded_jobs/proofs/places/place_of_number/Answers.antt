@@ -12,14 +12,14 @@ returns-then-number-places c = let past = c.if-number-places.true in no-place c.
 pub returns-then-place-job_slots : goal.returns-then-place-job_slots
 returns-then-place-job_slots c = let past = c.if-place-job_slots.true in no-job_slot c.args.job_slots.now c.args.places.now c.requires c.args.number (grind (arith, past))
 
-pub returns-then-job_slots-place : goal.returns-then-job_slots-place
-returns-then-job_slots-place c =
+pub returns-then-number : goal.returns-then-number
+returns-then-number c =
     let es = c.args.job_slots.now in
     let e = c.index-job_slots-place.result in
     let inside = c.if-place-job_slots.false in
     let within : place_in c.args.places.now c.args.number < length es = grind (arith, inside) in
-    let differ = c.if-job_slots-place.true in
-    other-job_slot es c.args.places.now c.requires c.args.number e (get-at es (place_in c.args.places.now c.args.number) e within c.index-job_slots-place.is) (grind (arith, nat_tests, differ))
+    let differ = c.if-number.true in
+    other-job_slot es c.args.places.now c.requires c.args.number e (get-at es (place_in c.args.places.now c.args.number) e within c.index-job_slots-place.is) (let own = c.number.ensures in grind (arith, nat_tests, differ, own))
 
 pub returns : goal.returns
 returns c =
@@ -27,5 +27,5 @@ returns c =
     let e = c.index-job_slots-place.result in
     let inside = c.if-place-job_slots.false in
     let within : place_in c.args.places.now c.args.number < length es = grind (arith, inside) in
-    let same = c.if-job_slots-place.false in
-    this-job_slot es c.args.places.now c.requires c.args.number e (get-at es (place_in c.args.places.now c.args.number) e within c.index-job_slots-place.is) (grind (arith, nat_tests, same))
+    let same = c.if-number.false in
+    this-job_slot es c.args.places.now c.requires c.args.number e (get-at es (place_in c.args.places.now c.args.number) e within c.index-job_slots-place.is) (let own = c.number.ensures in grind (arith, nat_tests, same, own))

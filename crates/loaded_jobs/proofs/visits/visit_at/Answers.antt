@@ -1,5 +1,5 @@
 -- The job is asked, and has its next moment then.
-use Rattle.std.proofs.Common.{None, cond, get_or, sym, ap}
+use Rattle.std.proofs.Common.{None, cond, get_or, sym, ap, ◌∙◌}
 use Rattle.loaded_jobs.specs.Visiting.{IsVisit}
 use Rattle.loaded_jobs.specs.declared.job_slot.JobSlot.{JobSlot}
 use Rattle.loaded_jobs.specs.declared.gone_jobs.Gone.TheVariants.{Nobody, One}
@@ -14,8 +14,8 @@ retime-requires-clause-room c =
     c.requires.can.numbers c.ask.new.self.number
     (known-number c.args.place c.args.now es e c.ask.new.self c.args.timers.now c.requires.can c.requires.inside (ap (get_or es c.args.place) c.index-job_slots-place.is) c.ask.ensures.name)
 
-pub returns-then-not-job_slot-clause-visits : goal.returns-then-not-job_slot-clause-visits
-returns-then-not-job_slot-clause-visits c =
+pub returns-then-not-has_gone-clause-visits : goal.returns-then-not-has_gone-clause-visits
+returns-then-not-has_gone-clause-visits c =
     let es = c.args.job_slots.now in
     let place = c.args.place in
     let new = c.ask.new.self in
@@ -27,7 +27,7 @@ returns-then-not-job_slot-clause-visits c =
       name = c.ask.ensures.name;
     } in
     visited-at place c.args.now es e new c.args.timers.now c.requires.can c.requires.inside (ap (get_or es place) c.index-job_slots-place.is) c.ask.ensures.name c.args.orders.now.items c.ask.new.orders.items c.retime.new.timers 1 Nobody
-    visit c.ask.ensures.decided c.ask.ensures.known c.retime.ensures (ap (λ b. cond b 0 1) (sym c.if-not-job_slot.true)) (stayed-more Nobody place es new c.requires.can.stay c.if-not-job_slot.true)
+    visit c.ask.ensures.decided c.ask.ensures.known c.retime.ensures (ap (λ b. cond b 0 1) (sym (sym c.has_gone.ensures ∙ c.if-not-has_gone.true))) (stayed-more Nobody place es new c.requires.can.stay (sym c.has_gone.ensures ∙ c.if-not-has_gone.true))
 
 pub returns-clause-visits : goal.returns-clause-visits
 returns-clause-visits c =
@@ -42,4 +42,4 @@ returns-clause-visits c =
       name = c.ask.ensures.name;
     } in
     visited-at place c.args.now es e new c.args.timers.now c.requires.can c.requires.inside (ap (get_or es place) c.index-job_slots-place.is) c.ask.ensures.name c.args.orders.now.items c.ask.new.orders.items c.retime.new.timers 0 (One place)
-    visit c.ask.ensures.decided c.ask.ensures.known c.retime.ensures (ap (λ b. cond b 0 1) (sym c.if-not-job_slot.false)) (went-more Nobody place es new c.requires.can.stay)
+    visit c.ask.ensures.decided c.ask.ensures.known c.retime.ensures (ap (λ b. cond b 0 1) (sym (sym c.has_gone.ensures ∙ c.if-not-has_gone.false))) (went-more Nobody place es new c.requires.can.stay)

@@ -16,7 +16,7 @@ use Rattle.loaded_jobs.specs.Tables.{IsOnce, definition_of_number}
 use Rattle.loaded_jobs.specs.Index.{moment_for}
 use Rattle.loaded_jobs.proofs.VisitingLemmas.{IsWalked, skip-to, visit-one, walk-over}
 use Rattle.loaded_jobs.proofs.visits.visit_ready.Goals as goal
-use Rattle.loaded_jobs.proofs.visits.visit_ready.Goals.{then-not-job_slot, else-not-job_slot}
+use Rattle.loaded_jobs.proofs.visits.visit_ready.Goals.{then-not-has_gone, else-not-has_gone}
 
 -- the marks that are left are those of the beginning
 going-marks : (now first : Places) (front : ℕ) → ((place : ℕ) → place < front → has_place now place ≡ false) → ((place : ℕ) → front ≤ place → has_place now place ≡ has_place first place) →
@@ -101,9 +101,9 @@ loop-number-preserved c =
     subst (λ k. IsWalked c.args.before c.args.now (item_for c.args.affected) (is_spared ready0) es0 c.args.orders.now.items es k c.loop-number.orders.items c.loop-number.visited) (omega (arith, after))
     (skip-to c.args.before c.args.now (item_for c.args.affected) (is_spared ready0) c.requires.can.brings es0 c.args.orders.now.items es (number - front) front c.loop-number.orders.items c.loop-number.visited
     c.requires.can.stay (omega (arith, within, after)) between inv.walked) in
-    let counts : c.if-not-job_slot.visited ≡ cond new.has_gone c.loop-number.visited (suc c.loop-number.visited) = elim c.if-not-job_slot.branch [
-      | then-not-job_slot w ↦ w.visited-is ∙ add-one c.loop-number.visited ∙ ap (λ b. cond b c.loop-number.visited (suc c.loop-number.visited)) (sym w.if-not-job_slot.true)
-      | else-not-job_slot w ↦ w.visited-is ∙ ap (λ b. cond b c.loop-number.visited (suc c.loop-number.visited)) (sym w.if-not-job_slot.false)
+    let counts : c.if-not-has_gone.visited ≡ cond new.has_gone c.loop-number.visited (suc c.loop-number.visited) = elim c.if-not-has_gone.branch [
+      | then-not-has_gone w ↦ w.visited-is ∙ add-one c.loop-number.visited ∙ ap (λ b. cond b c.loop-number.visited (suc c.loop-number.visited)) (sym (sym c.has_gone.ensures ∙ w.if-not-has_gone.true))
+      | else-not-has_gone w ↦ w.visited-is ∙ ap (λ b. cond b c.loop-number.visited (suc c.loop-number.visited)) (sym (sym c.has_gone.ensures ∙ w.if-not-has_gone.false))
     ] in
     record {
       front = omega (arith, within);
@@ -112,7 +112,7 @@ loop-number-preserved c =
       names = set-map name es number e new inside is c.visit.ensures.name ∙ inv.names;
       fits = omega arith;
       capacity = c.visit.ensures.capacity ∙ inv.capacity;
-      few = elim c.if-not-job_slot.branch [ then-not-job_slot w ↦ omega arith | else-not-job_slot w ↦ omega arith ];
+      few = elim c.if-not-has_gone.branch [ then-not-has_gone w ↦ omega arith | else-not-has_gone w ↦ omega arith ];
       known = λ names all before. c.visit.ensures.known names (named-at names es0 es number e inside passed.untouched is all) (inv.known names all before);
       timed = retimed es number e new c.loop-number.timers c.retime.new.timers c.args.now.up front (is_spared ready0) (subst IsOnce (sym inv.names) c.requires.can.once) inside is c.visit.ensures.name c.retime.ensures
           (λ k low high. between k low (omega (arith, high, after))) inv.timed;
@@ -120,12 +120,12 @@ loop-number-preserved c =
           (ap (λ n. is_some (definition_of_number (map name es0) n.number)) c.visit.ensures.name ∙ named-at (map name es0) es0 es number e inside passed.untouched is (all-named es0)) inv.alone;
       marks = popped.room ∙ inv.marks;
       space = c.retime.ensures.room ∙ inv.space;
-      stays = elim c.if-not-job_slot.branch [
-        | then-not-job_slot w ↦ subst (λ g. StayBut g (slice_set es number new)) (sym w.gone-is) (stayed-more c.loop-number.gone number es new inv.stays w.if-not-job_slot.true)
-        | else-not-job_slot w ↦ subst (λ g. StayBut g (slice_set es number new)) (sym (w.gone-is ∙ w.and-gone.ensures)) (went-more c.loop-number.gone number es new inv.stays)
+      stays = elim c.if-not-has_gone.branch [
+        | then-not-has_gone w ↦ subst (λ g. StayBut g (slice_set es number new)) (sym w.gone-is) (stayed-more c.loop-number.gone number es new inv.stays (sym c.has_gone.ensures ∙ w.if-not-has_gone.true))
+        | else-not-has_gone w ↦ subst (λ g. StayBut g (slice_set es number new)) (sym (w.gone-is ∙ w.and-gone.ensures)) (went-more c.loop-number.gone number es new inv.stays)
       ];
-      walked = subst (λ k. IsWalked c.args.before c.args.now (item_for c.args.affected) (is_spared ready0) es0 c.args.orders.now.items (slice_set es number new) k c.visit.new.orders.items c.if-not-job_slot.visited) (sym (add-one number))
-          (visit-one c.args.before c.args.now (item_for c.args.affected) (is_spared ready0) c.requires.can.brings es0 c.args.orders.now.items es number e new c.loop-number.orders.items c.visit.new.orders.items c.loop-number.visited c.if-not-job_slot.visited
+      walked = subst (λ k. IsWalked c.args.before c.args.now (item_for c.args.affected) (is_spared ready0) es0 c.args.orders.now.items (slice_set es number new) k c.visit.new.orders.items c.if-not-has_gone.visited) (sym (add-one number))
+          (visit-one c.args.before c.args.now (item_for c.args.affected) (is_spared ready0) c.requires.can.brings es0 c.args.orders.now.items es number e new c.loop-number.orders.items c.visit.new.orders.items c.loop-number.visited c.if-not-has_gone.visited
           c.requires.can.stay within inside is (ap not here.1) c.visit.ensures.visit c.visit.ensures.decided counts passed);
     }
 

@@ -14,7 +14,7 @@ use Rattle.loaded_jobs.proofs.LabelledLemmas.{number-named}
 use Rattle.loaded_jobs.proofs.NearestLemmas.{here-labelled}
 use Rattle.loaded_jobs.proofs.ChildLemmas.{child-there, run-present}
 use Rattle.history_model.specs.MachineLaws.{AreInOrder}
-use Rattle.loaded_jobs.specs.Tables.{labels_in}
+use Rattle.loaded_jobs.specs.Tables.{label_of, labels_in}
 use Rattle.loaded_jobs.proofs.jobs.Jobs.child_after.Goals as goal
 
 pub returns-in_err-label : goal.returns-in_err-label
@@ -42,14 +42,15 @@ returns c = λ s keeps.
     let es = c.args.self.now.job_slots.items in
     let label = c.in_ok-label.label.now in
     let place = c.in_ok-place.place in
-    let e = c.index-job_slot.result.now in
+    let e = c.index.result.now in
+    let lent = c.lent-job_slot.ensures in
     let jobs = subst (λ all. KeepsJobs s.reading (rows all) s.jobs) (sym c.deref.ensures.value) keeps.jobs in
     let near : IsNearest query (with_child s.jobs) label = c.in_ok-label.ensures s.reading s.jobs jobs in
     let at = first-where (is_loaded_under label) es place (c.in_ok-place.ensures ∙ ap (position (is_loaded_under label)) c.deref-2.ensures.value) in
     let there = someone-here s.reading label es place e s.jobs keeps.jobs at in
-    let kept = subst (λ x. Keeps x.core.facts there.past) (sym c.index-job_slot.ensures) there.keeps in
-    let named = number-named es place e (within-where (is_loaded_under label) es place at) c.index-job_slot.ensures c.requires.once in
-    let same = here-labelled label es place e at c.index-job_slot.ensures in
+    let kept = subst (λ x. Keeps x.core.facts there.past) (sym (lent ∙ c.index.ensures)) there.keeps in
+    let named = ap (λ x. label_of (map name es) x.number) lent ∙ number-named es place e (within-where (is_loaded_under label) es place at) c.index.ensures c.requires.once in
+    let same = here-labelled label es place e at c.index.ensures in
     let run = run-present there.past (past_in _) kept.lawful there.is (child-there s.reading label es s.jobs c.requires.once keeps.jobs near.among) in
     (near, named ∙ sym same, run ∙ ap Some (sym (ap (λ row. row.runs) (c.shown.ensures there.past kept))))
 

@@ -17,7 +17,7 @@ pub returns : goal.returns
 returns c =
     let es = c.args.self.now.job_slots.items in
     definition-at c.args.job es c.in-Some.place c.index.result.now (first-where (has_number c.args.job) es c.in-Some.place (c.in-Some.ensures ∙ ap (position (has_number c.args.job)) c.deref.ensures.value))
-    ∙ ap Some (sym (ap (λ e. e.def) c.index.ensures))
+    ∙ ap Some (sym (ap (λ e. e.def) (c.lent.ensures ∙ c.index.ensures)))
 
 pub place_of_number-requires : goal.place_of_number-requires
 place_of_number-requires c =

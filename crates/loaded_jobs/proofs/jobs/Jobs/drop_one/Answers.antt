@@ -1,7 +1,8 @@
 -- What is left is what stays, and the places before are as they were.
 use Rattle.std.proofs.Common.{◌≡◌, ◌<◌, ◌+◌, ℕ, suc, true, is_some, cond, List, Some, map, length, drop, get_or, ap, sym, subst, ◌∙◌, arith}
-use Rattle.std.specs.Prelude.{slice_get}
+use Rattle.std.specs.Prelude.{slice_get, None}
 use Rattle.std.specs.Vec.{with_items}
+use Rattle.slab.specs.Slab.{Updates}
 use Rattle.std.specs.List.{list_any, filter, remove}
 use Rattle.loaded_jobs.specs.Tables.{definition_of_number}
 use Rattle.loaded_jobs.specs.JobSlots.{name, job_slot_stays}
@@ -24,13 +25,13 @@ returns-then-place-len-clause-job_slots c =
     let long = c.args.self.now.job_slots.ok.0 in
     sym (filter-all es (all-past c.args.place es c.requires.others (grind (arith, past, long))))
 
-pub returns-then-not-index-clause-job_slots : goal.returns-then-not-index-clause-job_slots
-returns-then-not-index-clause-job_slots c =
+pub returns-then-not-has_gone-clause-job_slots : goal.returns-then-not-has_gone-clause-job_slots
+returns-then-not-has_gone-clause-job_slots c =
     let es = c.args.self.now.job_slots.items in
     let inside = c.if-place-len.false in
     let long = c.args.self.now.job_slots.ok.0 in
     let within : c.args.place < length es = grind (arith, inside, long) in
-    sym (filter-all es (all-here c.args.place es c.index.result.now c.requires.others (get-at es c.args.place c.index.result.now within c.index.ensures) c.if-not-index.true))
+    sym (filter-all es (all-here c.args.place es c.index.result.now c.requires.others (get-at es c.args.place c.index.result.now within c.index.ensures) (sym c.has_gone.ensures ∙ c.if-not-has_gone.true)))
 
 -- the slot that is removed is the one that was looked at
 same-at : (es : List JobSlot) (k : ℕ) (seen gone : JobSlot) → k < length es → seen ≡ get_or es k seen → gone ≡ get_or es k gone → seen ≡ gone
@@ -53,7 +54,7 @@ close_up-requires-clause-fits c = λ k e there.
     let inside = c.if-place-len.false in
     let long = c.args.self.now.job_slots.ok.0 in
     let within : c.args.place < length es = grind (arith, inside, long) in
-    let is = left es c.remove-job_slot.new.self.items c.args.place c.index.result.now c.remove-job_slot.result within c.index.ensures c.remove-job_slot.ensures.value c.if-not-index.false c.requires.others c.remove-job_slot.ensures.items in
+    let is = left es c.remove-job_slot.new.self.items c.args.place c.index.result.now c.remove-job_slot.result within c.index.ensures c.remove-job_slot.ensures.value (sym c.has_gone.ensures ∙ c.if-not-has_gone.false) c.requires.others c.remove-job_slot.ensures.items in
     subst (λ ps. e.number < length ps) (sym c.deref_mut.ensures.value)
     (subst (λ xs. (number : ℕ) → is_some (definition_of_number (map name xs) number) ≡ true → number < length old.index.places.items) (sym (c.deref.ensures.value ∙ is))
     (tidy-named old.index old.reading.up es c.requires.indexed).fits e.number (is-named-at c.deref.result.now k e there))
@@ -77,7 +78,7 @@ returns-clause-job_slots c =
     let inside = c.if-place-len.false in
     let long = c.args.self.now.job_slots.ok.0 in
     let within : c.args.place < length es = grind (arith, inside, long) in
-    left es c.remove-job_slot.new.self.items c.args.place c.index.result.now c.remove-job_slot.result within c.index.ensures c.remove-job_slot.ensures.value c.if-not-index.false c.requires.others c.remove-job_slot.ensures.items
+    left es c.remove-job_slot.new.self.items c.args.place c.index.result.now c.remove-job_slot.result within c.index.ensures c.remove-job_slot.ensures.value (sym c.has_gone.ensures ∙ c.if-not-has_gone.false) c.requires.others c.remove-job_slot.ensures.items
 
 pub returns-clause-sound : goal.returns-clause-sound
 returns-clause-sound c =
@@ -94,7 +95,7 @@ returns-clause-sound c =
     c.requires.sound c.requires.indexed
     (tidied-one old c.args.place gone c.try_remove-held.new.self c.forget_one.new.listed c.remove-job_slot.new.self (with_items old.index.places after) c.has_some_calendar-self.result
     c.requires.sound c.requires.empty c.requires.others (at-place es c.args.place gone within c.remove-job_slot.ensures.value)
-    (went es c.args.place c.index.result.now gone within c.index.ensures c.remove-job_slot.ensures.value c.if-not-index.false) c.remove-job_slot.ensures.items (omega (arith, less)) c.try_remove-held.ensures.updates c.forget_one.ensures.items
+    (went es c.args.place c.index.result.now gone within c.index.ensures c.remove-job_slot.ensures.value (sym c.has_gone.ensures ∙ c.if-not-has_gone.false)) c.remove-job_slot.ensures.items (omega (arith, less)) (subst (λ n. Updates old.numbers c.try_remove-held.new.self n None) c.number.ensures c.try_remove-held.ensures.updates) c.forget_one.ensures.items
     (subst (λ ps. ArePlaced ps c.remove-job_slot.new.self.items) (sym whole) (subst (ArePlaced after) c.deref.ensures.value c.close_up.ensures.placed))
     (c.has_some_calendar-self.ensures ∙ ap (λ xs. cond (is_some_entry gone.def.calendar) (list_any (λ e. is_some_entry e.def.calendar) xs) old.has_calendars) c.deref-2.ensures.value))
 
@@ -113,6 +114,6 @@ returns-clause-indexed c =
     c.requires.indexed
     (tidied-one old c.args.place gone c.try_remove-held.new.self c.forget_one.new.listed c.remove-job_slot.new.self (with_items old.index.places after) c.has_some_calendar-self.result
     c.requires.sound c.requires.empty c.requires.others (at-place es c.args.place gone within c.remove-job_slot.ensures.value)
-    (went es c.args.place c.index.result.now gone within c.index.ensures c.remove-job_slot.ensures.value c.if-not-index.false) c.remove-job_slot.ensures.items (omega (arith, less)) c.try_remove-held.ensures.updates c.forget_one.ensures.items
+    (went es c.args.place c.index.result.now gone within c.index.ensures c.remove-job_slot.ensures.value (sym c.has_gone.ensures ∙ c.if-not-has_gone.false)) c.remove-job_slot.ensures.items (omega (arith, less)) (subst (λ n. Updates old.numbers c.try_remove-held.new.self n None) c.number.ensures c.try_remove-held.ensures.updates) c.forget_one.ensures.items
     (subst (λ ps. ArePlaced ps c.remove-job_slot.new.self.items) (sym whole) (subst (ArePlaced after) c.deref.ensures.value c.close_up.ensures.placed))
     (c.has_some_calendar-self.ensures ∙ ap (λ xs. cond (is_some_entry gone.def.calendar) (list_any (λ e. is_some_entry e.def.calendar) xs) old.has_calendars) c.deref-2.ensures.value))

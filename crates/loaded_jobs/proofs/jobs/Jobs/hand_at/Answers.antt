@@ -1,5 +1,5 @@
 -- The event goes to the one job at the place.
-use Rattle.std.proofs.Common.{◌≡◌, true, ap, subst, sym, ◌∙◌, refl}
+use Rattle.std.proofs.Common.{◌≡◌, true, ap, subst, sym, ◌∙◌}
 use Rattle.std.specs.List.{list_all}
 use Rattle.history_model.specs.JobItems.{item_of}
 use Rattle.history_model.specs.MachineLaws.{AreInOrder}
@@ -20,27 +20,27 @@ use Rattle.loaded_jobs.proofs.TouchedLemmas.{changed-at, handed-at}
 use Rattle.loaded_jobs.proofs.jobs.Jobs.hand_at.Goals as goal
 
 abbrev after : goal.After-self-1 → JobSlot
-after c = let e = c.index_mut-job_slot.result.now in record { number = e.number; def = e.def; core = c.event.new.self; has_gone = e.has_gone }
+after c = c.receive_item.new.self
 
 job_slot-handed : (c : goal.After-self-1) → IsHanded c.args.self.now.job_slots.items c.args.place c.index_mut-job_slot.result.now (after c)
-job_slot-handed c = handed c.args.self.now.job_slots.items c.args.place c.index_mut-job_slot.result.now (after c) c.requires.stay c.requires.inside c.index_mut-job_slot.ensures.value refl refl
+job_slot-handed c = handed c.args.self.now.job_slots.items c.args.place c.index_mut-job_slot.result.now (after c) c.requires.stay c.requires.inside c.index_mut-job_slot.ensures.value c.receive_item.ensures.name c.receive_item.ensures.stays
 
 pub returns-clause-answer : goal.returns-clause-answer
 returns-clause-answer c = λ label jobs at keeps.
-    ap refused_with (answers c.args.self.now.reading label (item_of c.args.item) c.args.self.now.job_slots.items c.args.place c.index_mut-job_slot.result.now jobs c.event.result
-    c.requires.stay at c.index_mut-job_slot.ensures.value c.event.ensures.refused keeps)
+    ap refused_with (answers c.args.self.now.reading label (item_of c.args.item) c.args.self.now.job_slots.items c.args.place c.index_mut-job_slot.result.now jobs c.receive_item.result
+    c.requires.stay at c.index_mut-job_slot.ensures.value c.receive_item.ensures.refused keeps)
     ∙ refusal-reply _
 
 pub returns-clause-place : goal.returns-clause-place
-returns-clause-place c = λ label at. handed-at label c.args.self.now.job_slots.items c.args.place c.index_mut-job_slot.result.now (after c) at c.index_mut-job_slot.ensures.value refl
+returns-clause-place c = λ label at. handed-at label c.args.self.now.job_slots.items c.args.place c.index_mut-job_slot.result.now (after c) at c.index_mut-job_slot.ensures.value c.receive_item.ensures.name
 
 pub returns-clause-others : goal.returns-clause-others
 returns-clause-others c = changed-at c.args.self.now.job_slots.items c.args.place (after c) c.requires.inside
 
 pub returns-clause-kept : goal.returns-clause-kept
 returns-clause-kept c = λ label jobs at keeps.
-    received-kept c.args.self.now.reading label (item_of c.args.item) c.args.self.now.job_slots.items c.args.place c.index_mut-job_slot.result.now (after c) jobs c.event.result
-    c.requires.stay at c.index_mut-job_slot.ensures.value refl refl (silent c.args.item) c.event.ensures.kept keeps
+    received-kept c.args.self.now.reading label (item_of c.args.item) c.args.self.now.job_slots.items c.args.place c.index_mut-job_slot.result.now (after c) jobs c.receive_item.result
+    c.requires.stay at c.index_mut-job_slot.ensures.value c.receive_item.ensures.name c.receive_item.ensures.stays (silent c.args.item) c.receive_item.ensures.kept keeps
 
 pub returns-clause-stay : goal.returns-clause-stay
 returns-clause-stay c = (job_slot-handed c).stay
@@ -51,7 +51,7 @@ returns-clause-names c = (job_slot-handed c).names
 pub returns-clause-counts : goal.returns-clause-counts
 returns-clause-counts c =
     counts-set c.args.self.now.job_slots.items c.args.place c.index_mut-job_slot.result.now (after c) c.requires.stay (job_slot-handed c).stay c.requires.inside
-    c.index_mut-job_slot.ensures.value refl c.event.ensures.decided
+    c.index_mut-job_slot.ensures.value c.receive_item.ensures.name c.receive_item.ensures.decided
 
 pub returns-clause-sound : goal.returns-clause-sound
 returns-clause-sound c =

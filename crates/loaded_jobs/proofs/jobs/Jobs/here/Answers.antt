@@ -27,5 +27,5 @@ returns-in-Some c = λ s keeps.
     let label = c.args.label.now in
     let e = c.index.result.now in
     let at = c.in-Some.ensures ∙ ap (position (is_loaded_under label)) c.deref.ensures.value in
-    subst (λ x. IsFound s.reading label x s.jobs) (sym c.index.ensures)
+    subst (λ x. IsFound s.reading label x s.jobs) (sym (c.lent.ensures ∙ c.index.ensures))
     (someone-here s.reading label es c.in-Some.place e s.jobs keeps.jobs (first-where (is_loaded_under label) es c.in-Some.place at))

@@ -15,7 +15,7 @@ returns-in-None c =
 pub returns-in-Some : goal.returns-in-Some
 returns-in-Some c =
     let es = c.args.self.now.job_slots.items in
-    c.label.ensures ∙ ap (λ e. e.def.label) c.index.ensures
+    c.label.ensures ∙ ap (λ e. e.def.label) (c.lent.ensures ∙ c.index.ensures)
     ∙ sym (label-at c.args.job es c.in-Some.place c.index.result.now (first-where (has_number c.args.job) es c.in-Some.place (c.in-Some.ensures ∙ ap (position (has_number c.args.job)) c.deref.ensures.value)))
 
 pub place_of_number-requires : goal.place_of_number-requires

@@ -43,7 +43,7 @@ pub place_before-place-requires : goal.place_before-place-requires
 place_before-place-requires c = subst (λ es. AreInOrder (labels_in (map name es))) (sym c.deref.ensures.value) c.requires.sound.sound.order
 
 pub enter-requires-clause-place : goal.enter-requires-clause-place
-enter-requires-clause-place c = at-place c.args.self.now.job_slots.items _ c.args.ready.job_slot.def.label _ _ c.place_before-place.ensures c.label.ensures c.deref.ensures.value
+enter-requires-clause-place c = at-place c.args.self.now.job_slots.items _ c.args.ready.job_slot.def.label _ _ c.place_before-place.ensures (c.label.ensures ∙ ap (λ e. e.def.label) c.lent.ensures) c.deref.ensures.value
 
 pub make_way-requires-clause-once : goal.make_way-requires-clause-once
 make_way-requires-clause-once c =
@@ -65,7 +65,7 @@ make_way-requires-clause-inside c =
     let k = place_for new.def.label es in
     let low : k ≤ length es = place-low (is_above new.def.label) es (position (is_above new.def.label) es) refl in
     let more : length c.deref-2.result.now ≡ suc (length es) = ap length (c.deref-2.ensures.value ∙ c.enter.ensures.job_slots) ∙ more-job_slots new es k in
-    let at : c.place_before-place.result ≡ k = (at-place c.args.self.now.job_slots.items _ c.args.ready.job_slot.def.label _ _ c.place_before-place.ensures c.label.ensures c.deref.ensures.value) in
+    let at : c.place_before-place.result ≡ k = (at-place c.args.self.now.job_slots.items _ c.args.ready.job_slot.def.label _ _ c.place_before-place.ensures (c.label.ensures ∙ ap (λ e. e.def.label) c.lent.ensures) c.deref.ensures.value) in
     omega (arith, low, more, at)
 
 pub make_way-requires-clause-before : goal.make_way-requires-clause-before
@@ -74,7 +74,7 @@ make_way-requires-clause-before c = λ k e there low.
     let new = c.args.ready.job_slot in
     let p = place_for new.def.label es in
     let long : p ≤ length es = place-low (is_above new.def.label) es (position (is_above new.def.label) es) refl in
-    let at : c.place_before-place.result ≡ p = (at-place c.args.self.now.job_slots.items _ c.args.ready.job_slot.def.label _ _ c.place_before-place.ensures c.label.ensures c.deref.ensures.value) in
+    let at : c.place_before-place.result ≡ p = (at-place c.args.self.now.job_slots.items _ c.args.ready.job_slot.def.label _ _ c.place_before-place.ensures (c.label.ensures ∙ ap (λ e. e.def.label) c.lent.ensures) c.deref.ensures.value) in
     let was = stood-before new es p k e (ap (λ xs. slice_get xs k) (sym (c.deref-2.ensures.value ∙ c.enter.ensures.job_slots)) ∙ there) long (subst (λ n. k < n) at low) in
     ap (λ ps. place_in ps e.number) (c.deref_mut.ensures.value ∙ ap (λ i. i.places.items) c.enter.ensures.index) ∙ (c.requires.sound.indexed.placed k e was).1
 
@@ -84,7 +84,7 @@ make_way-requires-clause-behind c = λ k e there high.
     let new = c.args.ready.job_slot in
     let p = place_for new.def.label es in
     let long : p ≤ length es = place-low (is_above new.def.label) es (position (is_above new.def.label) es) refl in
-    let at : c.place_before-place.result ≡ p = (at-place c.args.self.now.job_slots.items _ c.args.ready.job_slot.def.label _ _ c.place_before-place.ensures c.label.ensures c.deref.ensures.value) in
+    let at : c.place_before-place.result ≡ p = (at-place c.args.self.now.job_slots.items _ c.args.ready.job_slot.def.label _ _ c.place_before-place.ensures (c.label.ensures ∙ ap (λ e. e.def.label) c.lent.ensures) c.deref.ensures.value) in
     let was = stood-behind new es p k e (ap (λ xs. slice_get xs k) (sym (c.deref-2.ensures.value ∙ c.enter.ensures.job_slots)) ∙ there) long (subst (λ n. n < k) at high) in
     let over = was.2 in
     let next : was.0 + 1 ≡ k = omega (arith, over) in
@@ -121,7 +121,7 @@ ask_at-requires-clause-can c =
           let new = c.args.ready.job_slot in
           let t = c.enter.new.self in
           timed-entered old (record t { index = record t.index { places = with_items t.index.places c.make_way.new.places } }) new (place_for new.def.label es) c.place_before-place.result c.enter.ensures.job_slots
-          (at-place c.args.self.now.job_slots.items _ c.args.ready.job_slot.def.label _ _ c.place_before-place.ensures c.label.ensures c.deref.ensures.value) (place-low (is_above new.def.label) es (position (is_above new.def.label) es) refl) c.requires.sound.indexed
+          (at-place c.args.self.now.job_slots.items _ c.args.ready.job_slot.def.label _ _ c.place_before-place.ensures (c.label.ensures ∙ ap (λ e. e.def.label) c.lent.ensures) c.deref.ensures.value) (place-low (is_above new.def.label) es (position (is_above new.def.label) es) refl) c.requires.sound.indexed
           (ap (λ i. i.timers) c.enter.ensures.index) c.enter.ensures.alike.reading
           );
     }
@@ -133,7 +133,7 @@ ask_at-requires-clause-inside c =
     let k = place_for new.def.label es in
     let low : k ≤ length es = place-low (is_above new.def.label) es (position (is_above new.def.label) es) refl in
     let more : length c.enter.new.self.job_slots.items ≡ suc (length es) = ap length c.enter.ensures.job_slots ∙ more-job_slots new es k in
-    let at : c.place_before-place.result ≡ k = (at-place c.args.self.now.job_slots.items _ c.args.ready.job_slot.def.label _ _ c.place_before-place.ensures c.label.ensures c.deref.ensures.value) in
+    let at : c.place_before-place.result ≡ k = (at-place c.args.self.now.job_slots.items _ c.args.ready.job_slot.def.label _ _ c.place_before-place.ensures (c.label.ensures ∙ ap (λ e. e.def.label) c.lent.ensures) c.deref.ensures.value) in
     omega (arith, low, more, at)
 
 pub returns-clause-goes : goal.returns-clause-goes
@@ -160,7 +160,7 @@ returns-clause-goes c = record {
       subst (λ at. KeepsJobs at (rows t.job_slots.items) (with_job job s.jobs)) (sym alike.reading)
       (subst (λ all. KeepsJobs old.reading (rows all) (with_job job s.jobs)) (sym c.enter.ensures.job_slots) jobs) in
       let rests : RestBut (is_at c.place_before-place.result) 0 (rows t.job_slots.items) (with_job job s.jobs) =
-      subst (λ place. RestBut (is_at place) 0 (rows t.job_slots.items) (with_job job s.jobs)) (sym (at-place c.args.self.now.job_slots.items _ c.args.ready.job_slot.def.label _ _ c.place_before-place.ensures c.label.ensures c.deref.ensures.value))
+      subst (λ place. RestBut (is_at place) 0 (rows t.job_slots.items) (with_job job s.jobs)) (sym (at-place c.args.self.now.job_slots.items _ c.args.ready.job_slot.def.label _ _ c.place_before-place.ensures (c.label.ensures ∙ ap (λ e. e.def.label) c.lent.ensures) c.deref.ensures.value))
       (rest-entered old.reading new job this (rows t.job_slots.items) es s.jobs (position (is_above label) es) (subst (λ rs. KeepsJobs old.reading rs s.jobs) (rows-all es stay) before) refl keeps.rests) in
       let after : IsHead t (taken s e) = record {
         reading = alike.reading ∙ keeps.reading;
@@ -185,7 +185,7 @@ returns-clause-goes c = record {
       let k = place_for new.def.label es in
       let t = c.enter.new.self in
       c.ask_at.ensures.spared label
-      (new-apart new es t.job_slots.items k c.place_before-place.result label c.enter.ensures.job_slots (at-place c.args.self.now.job_slots.items _ c.args.ready.job_slot.def.label _ _ c.place_before-place.ensures c.label.ensures c.deref.ensures.value)
+      (new-apart new es t.job_slots.items k c.place_before-place.result label c.enter.ensures.job_slots (at-place c.args.self.now.job_slots.items _ c.args.ready.job_slot.def.label _ _ c.place_before-place.ensures (c.label.ensures ∙ ap (λ e. e.def.label) c.lent.ensures) c.deref.ensures.value)
       (place-low (is_above new.def.label) es (position (is_above new.def.label) es) refl) apart)
       ∙ ap (λ all. count_in (counts (rows all)) label) c.enter.ensures.job_slots
       ∙ counts-placed new es k label (stay-names es c.requires.ready.tidy) c.requires.ready.stays c.requires.ready.absent c.requires.ready.fresh;

@@ -25,7 +25,7 @@ returns-then-is_removing-clause-answer c = λ s keeps.
     let e = c.index.result.now in
     let at = c.in-Some.ensures ∙ ap (position (has_label c.args.label.now)) c.deref.ensures.value in
     let there = is-found s.reading c.args.label.now c.args.self.now.job_slots.items c.in-Some.place e s.jobs c.requires.stay keeps.jobs at in
-    let removing = c.is_removing.ensures there.past (subst (λ x. Keeps x.core.facts there.past) (sym c.index.ensures) there.keeps) in
+    let removing = c.is_removing.ensures there.past (subst (λ x. Keeps x.core.facts there.past) (sym (c.lent.ensures ∙ c.index.ensures)) there.keeps) in
     ap (λ b. Some (if b then Removing else AlreadyLoaded)) (sym c.if-is_removing.true ∙ removing) ∙ ap refusal_there (sym there.is)
 
 pub returns-clause-answer : goal.returns-clause-answer
@@ -33,7 +33,7 @@ returns-clause-answer c = λ s keeps.
     let e = c.index.result.now in
     let at = c.in-Some.ensures ∙ ap (position (has_label c.args.label.now)) c.deref.ensures.value in
     let there = is-found s.reading c.args.label.now c.args.self.now.job_slots.items c.in-Some.place e s.jobs c.requires.stay keeps.jobs at in
-    let removing = c.is_removing.ensures there.past (subst (λ x. Keeps x.core.facts there.past) (sym c.index.ensures) there.keeps) in
+    let removing = c.is_removing.ensures there.past (subst (λ x. Keeps x.core.facts there.past) (sym (c.lent.ensures ∙ c.index.ensures)) there.keeps) in
     ap (λ b. Some (if b then Removing else AlreadyLoaded)) (sym c.if-is_removing.false ∙ removing) ∙ ap refusal_there (sym there.is)
 
 pub place_of-requires : goal.place_of-requires
