@@ -63,12 +63,6 @@ impl Held {
         self.number_of(part).is_some()
     }
 
-    /// Whether the helper opened some part.
-    pub(crate) fn has_some(&self) -> bool {
-        let has_streams = self.input.is_some() || self.output.is_some() || self.errors.is_some();
-        has_streams || self.folder.is_some()
-    }
-
     /// The path by which the part is opened, if it is held and can be reached.
     pub(crate) fn path_of(&self, alloc: Global, part: Part) -> Result<Option<String>, AllocError> {
         match (self.id, self.number_of(part)) {

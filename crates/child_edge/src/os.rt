@@ -60,10 +60,6 @@ pub struct OsEdge<R: Processes> {
     is_first_question: bool,
     // The last start lacked a descriptor.
     is_short: bool,
-    // A start was expected since the last one: what it needs may have been asked about.
-    is_expecting: bool,
-    // The helper for starts may hold what it opened for them.
-    may_hold: bool,
     sockets: Sockets,
     connections: Connections,
     notices: Notices,
@@ -90,8 +86,6 @@ impl<R: Drop + Processes> Drop for OsEdge<R> {
             reserve: _,
             is_first_question: _,
             is_short: _,
-            is_expecting: _,
-            may_hold: _,
             sockets: _,
             connections: _,
             notices: _,
@@ -133,8 +127,6 @@ impl<R: Clock + Drop + Processes> OsEdge<R> {
             reserve: Reserve::new(alloc),
             is_first_question: false,
             is_short: false,
-            is_expecting: false,
-            may_hold: false,
             sockets: Sockets::new(alloc),
             connections: Connections::new(alloc, spool, made),
             notices: Notices::new(alloc),
@@ -495,20 +487,8 @@ impl<R: Clock + Files<File = File> + Processes> OsEdge<R> {
         };
         let answer = self.launch_over(start, held);
         self.tell_shut(held);
-        self.forget(held, up);
+        self.openings.forget(&mut self.hung, up);
         answer
-    }
-
-    // Has the helper forget what it holds for the start. If it opened nothing since it last forgot all, it has nothing to
-    // forget, and is not woken for that. What it was asked ahead it opens for the next start, and holds on.
-    fn forget(&mut self, held: Held, up: u64)
-        ensures { self.new ≡ self.old }
-    {
-        let has_opened = !held.is_asked || held.has_some() || self.is_expecting;
-        if has_opened || self.may_hold {
-            self.openings.forget(&mut self.hung, up);
-            self.may_hold = self.is_expecting;
-        }
     }
 
     fn launch_over(&mut self, start: Start<'_>, held: Held) -> Result<u32, Failure>
@@ -568,7 +548,6 @@ impl<R: AllocGlobal + Clock + Files<File = File> + Net + Processes> ChildEdge fo
                 conn,
             };
             expect(self.alloc, &mut self.openings, start);
-            self.is_expecting = true;
         }
     }
 
@@ -585,7 +564,6 @@ impl<R: AllocGlobal + Clock + Files<File = File> + Net + Processes> ChildEdge fo
             conn,
         };
         let answer = self.launch_at_last(start);
-        self.is_expecting = false;
         self.reserve.take(&self.rt);
         self.notices.started(start, answer);
         match answer {

@@ -43,11 +43,10 @@ const LATE_IN: u64 = 1_000;
 /// After how many milliseconds a helper is started again.
 const PEACE: u64 = 10_000;
 
-/// How many reads an answer may take, and how many bytes each takes at most: more than a helper has to report. The room is
-/// filled with zeros before each read, and most answers are one byte.
-const READS: usize = 512;
+/// How many reads an answer may take, and how many bytes each takes at most: more than a helper has to report.
+const READS: usize = 64;
 
-const ROOM: usize = 512;
+const ROOM: usize = 4_096;
 
 /// How many reports that say nothing new a helper may give between two passes that ask about all children. One that gives
 /// more is given up: it would keep the loop awake.

@@ -70,11 +70,6 @@ impl JobSockets {
         }
     }
 
-    /// Whether the token is that of a client, and no client is heard any more: each one's request came whole, or it has left.
-    pub(crate) fn is_past(&self, token: Token) -> bool {
-        self.callers.is_empty() && COMING.0 < token.0 && token.0 <= CALLERS + COMING.0
-    }
-
     /// Takes the clients that wait at the sockets, if some may have come. The room for clients is what the sockets that
     /// jobs have now leave. That is how many are heard at a time, and a third of them, at most 64, of one job. Where no
     /// time is left, the clients of the other jobs are left for the next pass of the loop.

@@ -11,10 +11,9 @@ use crate::fault::ServeFault;
 use crate::job_sockets::JobSockets;
 use crate::live::Live;
 use crate::loop_host::LoopHost;
-use crate::round_poll::RoundPoll;
 use crate::round_time::RoundTime;
 use crate::telling::tell;
-use crate::waiting::{LONGEST, QUICK, next_pause, quick_rounds, round_wait};
+use crate::waiting::{LONGEST, next_pause, quick_rounds, round_wait};
 use child_edge::System;
 use control_socket::{ControlSocket, Limit};
 use history_model::SECOND;
@@ -124,65 +123,13 @@ fn wait<R: System, H: LoopHost>(rt: &R, live: &mut Live<H>) -> Result<(), ServeF
         thread::sleep(rt, Duration::from_micros(QUICK_WAIT));
         wait = 0;
     }
-    let was_whole = live.quick == QUICK;
-    listen(
-        &mut live.poll,
-        &mut live.rooms.events,
+    live.poll.wait(&mut live.rooms.events, wait)?;
+    wake(
+        &live.rooms.events,
         &mut live.rooms.sockets,
         &mut live.control,
-        was_whole,
-        wait,
-    )
-}
-
-// Waits for readiness, this number of milliseconds at most. If a client's request came whole in the last pass, its
-// registration wakes the poll once for nothing: the client is no longer heard. After such a wake it waits all the same.
-fn listen(
-    poll: &mut RoundPoll,
-    events: &mut Events,
-    sockets: &mut JobSockets,
-    control: &mut ControlSocket,
-    was_whole: bool,
-    wait: u64,
-) -> Result<(), ServeFault>
-    requires { wait ≤ 100 }
-    ensures { desk_in sockets.new ≡ desk_in sockets.old }
-{
-    if was_whole && wait > 0 {
-        let is_awake = listen_once(poll, events, sockets, control, 0)?;
-        if is_awake {
-            return Ok(());
-        }
-    }
-    let _is_awake = listen_once(poll, events, sockets, control, wait)?;
+    );
     Ok(())
-}
-
-// It says whether the poll was woken for more than clients that are no longer heard.
-fn listen_once(
-    poll: &mut RoundPoll,
-    events: &mut Events,
-    sockets: &mut JobSockets,
-    control: &mut ControlSocket,
-    wait: u64,
-) -> Result<bool, ServeFault>
-    requires { wait ≤ 100 }
-    ensures { desk_in sockets.new ≡ desk_in sockets.old }
-{
-    poll.wait(events, wait)?;
-    let is_awake = are_heard(events, sockets);
-    wake(events, sockets, control);
-    Ok(is_awake)
-}
-
-// Whether an event is of more than a client that is no longer heard.
-fn are_heard(events: &Events, sockets: &JobSockets) -> bool {
-    for event in events.iter() {
-        if !sockets.is_past(event.token()) {
-            return true;
-        }
-    }
-    false
 }
 
 // Reports to the sockets of jobs, and to the control socket, what woke the poll.

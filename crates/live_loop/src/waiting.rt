@@ -23,7 +23,7 @@ pub fn next_pause(is_active: bool, pause: u64) -> u64
 }
 
 /// How many passes are quick after one in which a client's request came whole.
-pub(crate) const QUICK: u32 = 4;
+const QUICK: u32 = 4;
 
 /// How many of the next passes are quick, after one pass more; `quick` is how many were after those before it. Four are
 /// quick after a pass in which a client's request came whole. The reason: most runs that answer one exit soon, and
