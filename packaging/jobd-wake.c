@@ -70,7 +70,7 @@ static int reap(int wait, int *has_input) {
 static int take(const char *line) {
     unsigned job;
     int pid, ignored = 0;
-    if (sscanf(line, "%u %d", &job, &pid) == 2) {
+    if (*line != 0 && sscanf(line, "%u %d", &job, &pid) == 2) {
         watch(job, pid);
         return 1;
     }
