@@ -280,12 +280,12 @@ def at_rest(pid, bound=10):
     return count
 
 
-def settles(pid, wanted, bound):
-    """Waits until the process has at most so many descriptors, and answers how many it has. It gives up if none goes for as long as `bound`: clients that
-    left before they were served are served first, one after another."""
-    least = descriptors(pid)
-    while least > wanted and comes(lambda: descriptors(pid) < least, bound):
-        least = min(least, descriptors(pid))
+def settles(pid, wanted, bound, begun=None):
+    """Waits until the process has at most so many descriptors, and answers how many it has. It gives up if none goes for as long as `bound`, and no run began
+    meanwhile, if `begun` counts them: clients that left before they were served are served first, one after another, and the system may hold thousands."""
+    least, runs = descriptors(pid), begun() if begun else 0
+    while least > wanted and comes(lambda: descriptors(pid) < least or (begun and begun() > runs), bound):
+        least, runs = min(least, descriptors(pid)), begun() if begun else 0
     return at_rest(pid)
 
 

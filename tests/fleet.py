@@ -93,10 +93,10 @@ def try_alerts(head, one, two):
     alerts.become(("JobFailing", "one", "bad"))
     jobctl(one, "unload", "/tmp/bad.json")
     alerts.become()
-    # A launcher that hangs: it answers nothing, and its job by the clock is overdue after a minute.
+    # A launcher that hangs: it answers nothing, and after three minutes it is silent. Of its jobs nothing is foretold, so none is overdue.
     pid = one.shell("pgrep -x jobd")
     one.shell(f"kill -STOP {pid}")
-    alerts.become(("JobdHung", "one", ""), ("JobOverdue", "one", "beat"))
+    alerts.become(("JobdHung", "one", ""), ("JobdSilent", "one", ""), seconds=400)
     one.shell(f"kill -CONT {pid}")
     alerts.become()
     # A launcher that is gone with its keeper; and a machine.

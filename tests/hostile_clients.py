@@ -41,6 +41,7 @@ most, and no child that ended is left. The status is 1 if something failed.
 import json
 import os
 import random
+import re
 import select
 import shutil
 import sys
@@ -172,6 +173,11 @@ def leaves_early(stage, launcher):
 
 # ---- trials of crowds, with figures
 
+def runs(launcher):
+    """How many runs the jobs with sockets had, as far as they are loaded."""
+    return sum(int(found) for label in ("cat", "other", "greedy") for found in re.findall(r"runs = (\d+)", launcher.print(label)))
+
+
 class Watched:
     """What honest clients see beside crowds, each of which is what a process does, with its words."""
 
@@ -192,7 +198,7 @@ class Watched:
             it.end()
         for crowd in self.crowds:
             crowd.end()
-        after = settles(self.launcher.pid, self.before, 10 * slack)
+        after = settles(self.launcher.pid, self.before, 10 * slack, lambda: runs(self.launcher))
         figures = [f"{name} {seen.told()}" for name, seen in self.honest.items()]
         figures.append(f"descriptors {self.before} before, {self.most.most} at most, {after} after")
         faults = [f"{name}: {len(seen.faults)} faults, the first: {seen.faults[0]}" for name, seen in self.honest.items() if seen.faults]

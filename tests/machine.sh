@@ -61,13 +61,14 @@ machine_child() {
     return 1
 }
 
-# machine_boot FOLDER: a real systemd there. Sets machine_keeper, a process that ends all of it, and machine_first, systemd's process id here.
+# machine_boot FOLDER: a real systemd there, of niceness 0 whatever the caller has. Sets machine_keeper, a process that ends all of it, and machine_first, systemd's process id here.
 machine_boot() {
     local top=/sys/fs/cgroup
     [ -e $top/cgroup.procs ] || top=$top/unified
     machine_group=$top/jobd-machine-$$
     mkdir -p "$machine_group"
     tree=$1 group=$machine_group setsid bash -c '
+        renice -n 0 -p $BASHPID >/dev/null  # Units add to the niceness of systemd.
         echo $BASHPID >"$group/cgroup.procs"
         exec unshare --pid --fork --kill-child --mount --uts --ipc --cgroup --net sh -c "$0
             exec /usr/bin/env -i container=lxc PATH=/usr/sbin:/usr/bin:/sbin:/bin /lib/systemd/systemd --log-target=journal --show-status=0"

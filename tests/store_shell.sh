@@ -17,7 +17,7 @@ if [ ! -x "$programs/jobd" ] || [ ! -x "$programs/jobctl" ]; then
 fi
 
 docs=$(cd "$(dirname "$0")/../docs" && pwd)
-page=$docs/OPERATING.md
+page=$docs/DAMAGED-STORE.md
 folder=$(mktemp -d)
 launcher=
 trap '[ -z "$launcher" ] || kill "$launcher"; rm -rf "$folder"' EXIT
@@ -79,7 +79,7 @@ want "a setting is written" "a${tab}enabled
 b${tab}enabled" "$(listed first.db | cut -f 1,2)"
 want "the shell reads what was moved" "$(listed first.db)" "$(rows first.db)"
 
-# a store with a damaged page: the block of OPERATING, as it stands there, saves the settings of all others
+# a store with a damaged page: the block of DAMAGED-STORE, as it is there, saves the settings of all others
 block=$(sed -n '/^    sqlite3 damaged\/overrides.db/,/^$/s/^    //p' "$page")
 [ "$(printf '%s\n' "$block" | wc -l)" = 3 ] || want "the block of the page" "three lines" "$block"
 words=

@@ -101,6 +101,8 @@ def main():
     words.add_argument("count", type=int, nargs="?", default=200)
     words.add_argument("--seed", type=int, default=5)
     given = words.parse_args()
+    # What runs here gets it from this script; systemd has none.
+    os.setpriority(os.PRIO_PROCESS, 0, 0)
     chance = random.Random(given.seed)
     tree, pid = given.tree, given.pid
     units = [(name, files, limits) for name, files, limits in WORKED]
