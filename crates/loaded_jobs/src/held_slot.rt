@@ -26,7 +26,7 @@ use job_core::JobEvent;
 use std::alloc::{AllocError, Global};
 use std::marker::Model;
 
-/// A job slot behind a pointer: one word, so that a list of them moves by `memmove` where a job comes or leaves.
+/// A job slot in a block of its own. A list of such slots moves by `memmove` where a job comes or leaves, since each is one machine word.
 #[derive(Drop)]
 pub struct HeldSlot {
     pub slot: Box<JobSlot>,
@@ -41,7 +41,7 @@ impl Model for HeldSlot {
 }
 
 impl HeldSlot {
-    /// Puts the slot behind a pointer.
+    /// Puts the slot into a block.
     pub fn new(alloc: Global, slot: JobSlot) -> Result<HeldSlot, AllocError>
         ensures { IfOk result (λ held. held ≡ slot) }
     {

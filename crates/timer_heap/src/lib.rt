@@ -1,7 +1,7 @@
 //! The next wake-up time of each job by its number, and the least of them all, so that a clock reading need not ask each job.
 //! What it keeps is a tree of matches. Each job's timer is a leaf, each node above two others has the sooner of their timers, and
-//! so the root has the soonest of all. A change of one job plays the matches between its leaf and the root again, up to the first
-//! that the same timer wins as before: at most one match for each doubling of the room. Times are milliseconds of `up`. Only `new`
+//! so the root has the soonest of all. A change of one job plays the matches between its leaf and the root again, at most one for
+//! each doubling of the room. It ends at the first match that the same timer wins as before. Times are milliseconds of `up`. Only `new`
 //! and `reserve` take memory.
 #![tactic(auto)]
 

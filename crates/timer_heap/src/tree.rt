@@ -138,8 +138,8 @@ impl Tree {
         }
     }
 
-    /// Puts a timer on the leaf of a job, and plays the matches above it, up to the first that the same timer wins as before: what is
-    /// above that one stays.
+    /// Puts a timer on the leaf of a job, and plays the matches above it. It ends at the first match that the same timer wins as
+    /// before: what is above that one stays.
     fn put(&mut self, job: usize, timer: Option<Timer>)
         requires sound { IsTree self.old }
         requires place { job < self.old.leaves }

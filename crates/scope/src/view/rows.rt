@@ -10,12 +10,14 @@ use status_file::{BindStatus, MOST_BINDS, StatusLine};
 use status_page::{StatusRead, is_asked, reading_of};
 use std::alloc::{AllocError, Global};
 
-/// One of them: a job of the status file; a label of the journal, with the line of its job in the status file, if there is one; or a label of which the
-/// status file says that its sockets could not be bound.
+/// One of them.
 #[derive(Clone, Copy)]
 pub(crate) enum Row<'a> {
+    /// A job of the status file.
     Line(&'a StatusLine),
+    /// A label of the journal, with the line of its job in the status file, if there is one.
     Label(&'a str, Option<&'a StatusLine>),
+    /// A label of which the status file says that its sockets could not be bound.
     Unbound(BindStatus<'a>),
 }
 
