@@ -26,7 +26,7 @@ use job_core::JobEvent;
 use std::alloc::{AllocError, Global};
 use std::marker::Model;
 
-/// A job slot in a block of its own. A list of such slots moves by `memmove` where a job comes or leaves, since each is one machine word.
+/// A job slot in a block of its own. A list of such slots moves by `memmove` where a job comes or leaves, since each is one pointer.
 #[derive(Drop)]
 pub struct HeldSlot {
     pub slot: Box<JobSlot>,
