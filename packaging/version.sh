@@ -1,8 +1,8 @@
 #!/bin/sh
 # Prints the version of what is built here, for the names of the archive and the package. A release is the one commit that writes its
 # heading `## VERSION, DATE` into CHANGELOG.md. Any other build bears the date and the number of its commit too, so that no two programs
-# have one name: before the release 0.3.0~git20261128.74a18ee1, which every package tool takes for older than 0.3.0; after it
-# 0.3.0+git20261128.74a18ee1, which is newer. With changes that are not committed, `.changed` stands behind it.
+# have one name: before the release 0.4.0~git20261201.74a18ee1, which every package tool takes for older than 0.4.0; after it
+# 0.4.0+git20261201.74a18ee1, which is newer. With changes that are not committed, `.changed` stands behind it.
 set -eu
 
 cd "${0%/*}/.."

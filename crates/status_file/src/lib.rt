@@ -4,7 +4,7 @@
 #![tactic(auto)]
 
 /// The version of the programs, as the file VERSION of the repository has it.
-pub const VERSION: &str = "0.3.0";
+pub const VERSION: &str = "0.4.0";
 
 mod facts;
 mod fields;
