@@ -49,11 +49,12 @@ pub(crate) fn add_label(
         return;
     };
     let [words, reason, key] = refusal_words(refusal);
-    let (form, reason) = match unbound {
-        Some(unbound) => ("  Its load at $ was refused: $: $.\n", unbound),
-        None if key.is_empty() => ("  Its load at $ was refused: $.\n", reason),
-        None => ("  Its load at $ was refused: $$ $.\n", reason),
+    let form = match unbound {
+        Some(_) => "  Its load at $ was refused: $: $.\n",
+        None if key.is_empty() => "  Its load at $ was refused: $.\n",
+        None => "  Its load at $ was refused: $$ $.\n",
     };
+    let reason = unbound.unwrap_or(reason);
     page.add(form, &[Time(at.wall), Text(words), Text(reason), Text(key)]);
     match (refusal, disabled) {
         (Refusal::Disabled, None) => page.add(
