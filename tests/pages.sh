@@ -125,8 +125,10 @@ for path in ("crates/command_words/src/version.rt", "docs/OPERATING.md", "tests/
         faults.append(f"{path}: it does not name the version {version} alone")
 if re.findall(r'VERSION: &str = "([0-9.]+)"', read("crates/status_file/src/lib.rt")) != [version]:
     faults.append(f"crates/status_file/src/lib.rt: it does not name the version {version}")
-newest = re.search(r"^## (\S+), \d{4}-\d\d-\d\d$", read("CHANGELOG.md"), re.M)
-if newest is None or newest.group(1) != version:
+first, newest = (re.search(form, read("CHANGELOG.md"), re.M)[1] for form in (r"^## (\S+)", r"^## (\S+), \d{4}-\d\d-\d\d$"))
+# Before a release VERSION is the one that comes.
+comes = first == "Unreleased" and [int(it) for it in newest.split(".")] < [int(it) for it in version.split(".")]
+if newest != version and not comes:
     faults.append(f"CHANGELOG.md: the newest version is not {version}")
 
 # ---- the keys of a definition
