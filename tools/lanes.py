@@ -1,7 +1,8 @@
 """Which crate of a build is proved when, and by how many jobs: those first behind which the longest chain of others waits.
 
 A check by more than one job takes a fifth to two thirds more of the processors, most in large crates over many others. So a crate gets further
-jobs only if processors would be idle beside it: behind the table the chain of crates is all that is left, and waits for nothing else.
+jobs only if processors would be idle without them: now, since fewer crates wait than processors are free, or at the end, since its chain is a larger
+part of what is left than one processor.
 How long a crate takes is what `make times` measured last (bench/crate_seconds.csv); it only has to be right beside the others.
 """
 import csv
@@ -32,9 +33,12 @@ class Lanes:
         for name in sorted(below, key=lambda it: -len(below[it])):
             self.behind[name] = seconds[name] + max((self.behind[it] for it in below if name in below[it]), default=0)
 
-    def jobs(self, free, others):
-        """As many jobs as a task gets, if `free` lanes are free and so many others could begin beside it."""
-        return max(1, min(free // (others + 1), MOST_JOBS))
+    def jobs(self, name, free, ready, left):
+        """As many jobs as a task gets, if `free` lanes are free, `ready` could begin beside it, and `left` have not begun, this one among them."""
+        # rt looks for the tests of each crate beside its proof, which takes no time if it has none
+        of_free = free // (sum(self.seconds[it] >= 1 for it in ready) + 1)
+        of_all = int(self.lanes * self.behind[name] / max(sum(self.seconds[it] for it in left), 1))
+        return max(1, min(max(of_free, of_all), MOST_JOBS))
 
     def run(self, call):
         """Calls `call(name, jobs, given)` for each task once those that it waits for have ended, and answers what each gave: `given`, which has
@@ -58,8 +62,7 @@ class Lanes:
             name = ready.pop(0)
             if free < 1:
                 break
-            # rt looks for the tests of each crate beside its proof, which takes no time if it has none
-            jobs = self.jobs(free, sum(self.seconds[it] >= 1 for it in ready))
+            jobs = self.jobs(name, free, ready, left)
             room = self.room - sum(memory for _, _, memory in at_work)
             while jobs > 1 and self.memory[name] * (1 + MORE_MEMORY * (jobs - 1)) > room:
                 jobs -= 1
