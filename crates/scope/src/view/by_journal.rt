@@ -170,8 +170,8 @@ pub(crate) fn throttle_at(
 }
 
 // How many of its starts since its load were refused, or failed, as the status file counts them.
-fn failures_of(record: &Record) -> u64 {
-    let facts = record.log.facts();
+fn failures_of(of: &Record) -> u64 {
+    let facts = of.log.facts();
     facts.refusals.saturating_add(facts.failures)
 }
 
