@@ -34,8 +34,8 @@ sys.dont_write_bytecode = True
 HERE = os.path.dirname(os.path.abspath(__file__))
 sys.path.insert(0, os.path.join(HERE, "scenes"))
 from harness import (  # noqa: E402
-    Fault, Stage, adopt_orphans, call, check, chosen, comes, connect, end_children, first_free, program_words, shell_job, socket_job,
-    text_at, wait_for,
+    Fault, Stage, adopt_orphans, call, check, chosen, comes, connect, end_children, first_free, program_words, shell_job, sized,
+    socket_job, text_at, wait_for,
 )
 
 NOBODY = 65534
@@ -167,14 +167,9 @@ def no_processes(stage):
 
 # ---- memory
 
-def sized(pid, name):
-    with open(f"/proc/{pid}/status", encoding="ascii") as file:
-        return next(1024 * int(line.split()[1]) for line in file if line.startswith(name))
-
-
 def little_memory(stage):
     launcher = stage.serve(journal="journal")
-    if sized(launcher.pid, "VmSize") > 1 << 40:
+    if launcher.has_sanitizer():
         launcher.shut_down()
         raise Skipped("the program was built with a sanitizer")
     launcher.load(socket_job(stage, "cat", ["/bin/cat"]))

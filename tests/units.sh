@@ -413,7 +413,9 @@ until_true looks
 # shellcheck disable=SC2086
 [ "$(machine_in stat -c '%a %U %G' $shared | sort -u)" = '640 root adm' ] || fail "modes: $(machine_in stat -c '%a %U %G %n' $shared)"
 [ "$(machine_in stat -c '%a %U %G' /run/jobd)" = '711 root root' ] || fail "the folder of the users' launchers: $(machine_in stat -c '%a %U %G' /run/jobd)"
-as oncall jobscope status | grep '^kept .*running' >/dev/null || fail "oncall: jobscope status: $(as oncall jobscope status 2>&1)"
+# (in the first second the file has the jobs of the first load's pass)
+sees() { as oncall jobscope status | grep '^kept .*running'; }
+until_true sees
 as oncall jobscope metrics | grep -x 'jobd_definitions_not_loaded 1' >/dev/null || fail "oncall: jobscope metrics: $(as oncall jobscope metrics 2>&1 | grep -v '^#')"
 typed oncall 'jobscope why kept' | tr -d '\r' >"$scratch/why"
 grep -q '^kept is running' "$scratch/why" && grep -q '^jobscope: /run/jobd/status.jsonl: read, since no journal is named' "$scratch/why" || fail "oncall: jobscope why: $(cat "$scratch/why")"

@@ -154,12 +154,27 @@ os.execv(words[0], words)
 """
 
 
+def sized(pid, name):
+    """A size of the process, in bytes, by its name in /proc; 0 once it has exited."""
+    with open(f"/proc/{pid}/status", encoding="ascii") as file:
+        return next((1024 * int(line.split()[1]) for line in file if line.startswith(name)), 0)
+
+
 class Launcher:
     """A started `jobd serve`."""
 
     def __init__(self, process, said, path):
         self.process, self.said_at, self.path = process, said, path
-        self.pid, self.out = process.pid, b""
+        self.pid, self.out, self.stack = process.pid, b"", None
+
+    def has_sanitizer(self):
+        """Whether the program was built with a sanitizer, which takes memory and stack by its own rules."""
+        return sized(self.pid, "VmSize") > 1 << 40
+
+    def keeps_its_stack(self):
+        """It took all the stack that it needs before it was ready. One that has to grow may not be able to, which would kill it."""
+        now = sized(self.pid, "VmStk")
+        check(self.has_sanitizer() or now == self.stack, f"the stack grew from {self.stack} to {now} bytes")
 
     def said(self):
         """What it has logged, but for the line that it has no jobd-wake, where there is none, or no descriptor for it."""
@@ -180,7 +195,10 @@ class Launcher:
                     break
                 self.out += piece
             in_time(not deadline.is_over(), f"neither a ready line nor an end in {BOUND:.0f} s; it said {self.said()!r}")
-        return self.out == b"jobd: ready\n"
+        if self.out != b"jobd: ready\n":
+            return False
+        self.stack = sized(self.pid, "VmStk")
+        return True
 
     def ends(self, bound=None):
         """The status, or a Late if it does not end."""

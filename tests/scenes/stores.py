@@ -138,6 +138,7 @@ def a_disk_that_fails_and_mends(stage):
             check(len(told) == turn and "disk I/O error" in told[-1], f"the disk failed {turn} times: said {launcher.said()!r}")
             resource.prlimit(launcher.pid, resource.RLIMIT_FSIZE, limits)
             check(code("disable", f"five{turn}") == 0, f"a disk that was mended takes no setting: {launcher.said()!r}")
+        launcher.keeps_its_stack()
         if end == "shutdown":
             launcher.shut_down()
         else:

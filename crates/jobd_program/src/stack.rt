@@ -4,8 +4,9 @@
 // The bytes of a page.
 const PAGE: usize = 4096;
 
-/// How many pages are taken: one and a half times what the event loop needs, with all that it calls.
-pub(crate) const PAGES: usize = 64;
+/// How many pages are taken: a quarter more than the event loop needs, with all that it calls. A setting needs most, after the disk of
+/// the store failed.
+pub(crate) const PAGES: usize = 112;
 
 /// Takes this many pages below the caller's, and one more. It returns 0. Each page is written before those below it are taken and read
 /// after that. The return value depends on it, so that no compiler leaves a page out.
